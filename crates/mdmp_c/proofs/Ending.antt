@@ -100,7 +100,7 @@ module _ {T : Type 0} (row : Item → Option T) (F : List ℕ) (choice : Choice)
     is = record { told_is = refl; rows_are = refl };
   }
 
-  module _ (valid : Type 0) (MayTell : PlainFault → Type 0) (budget : Option ℕ) where
+  module _ (valid : Type 0) (MayTell : PlainFault → Type 0) (MayEnd : ListFault → Type 0) where
     rows_given : (items : List Item) (status count : ℕ) (told fault : PlainFault) (before after : List T) → PutsRows row items count before after
         → ((n : ℕ) → count ≡ told_count n → status ≡ (if nat_lt (length before) n then 4 else status_of told)) → fault ≡ told
         → GivesList told (filter_map row items) status count fault before after
@@ -112,8 +112,8 @@ module _ {T : Type 0} (row : Item → Option T) (F : List ℕ) (choice : Choice)
     }
 
     -- the rows of a file that was opened were put into the array
-    pub Ends-collected : (status count : ℕ) (fault : Option ListFault) (told : PlainFault) (before after : List T) → valid → ((budget ≡ None → ⊥) → (offset size : ℕ) → MayTell (budget_fault offset size)) → opening_fault F choice ≡ None
-        → Collects row budget run count fault before after
+    pub Ends-collected : (status count : ℕ) (fault : Option ListFault) (told : PlainFault) (before after : List T) → valid → ((f : ListFault) → MayEnd f → MayTell (budget_fault f.offset f.size)) → opening_fault F choice ≡ None
+        → Collects row MayEnd run count fault before after
         → ((n : ℕ) → count ≡ told_count n → status ≡ (if nat_lt (length before) n then 4 else status_of (list_told fault)))
         → told ≡ list_told fault → Ends (IsTable row F choice limit) valid MayTell bad_limits status count told before after
     Ends-collected status count fault told before after ok can opened (collects_all same h) ends tells =
@@ -122,7 +122,7 @@ module _ {T : Type 0} (row : Item → Option T) (F : List ℕ) (choice : Choice)
         (rows_given run.items status count (list_told fault) told before after h ends tells)
     Ends-collected status count fault told before after ok can opened (collects_some given cut h) ends tells =
         stops (list_told fault) (filter_map row given) ok
-        (subst MayTell (sym (ap list_told cut.told_is ∙ plain_budget cut.told cut.kind)) (can cut.can_stop cut.told.offset cut.told.size))
+        (subst MayTell (sym (ap list_told cut.told_is ∙ plain_budget cut.told cut.kind)) (can cut.told cut.reached))
         record {
           whole = list_told run.fault;
           rest = filter_map row cut.rest;

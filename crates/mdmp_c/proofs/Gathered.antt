@@ -3,13 +3,20 @@ use Rattle.std.proofs.Common.{◌≡◌, ◌∙◌, ◌⊎◌, ◌≤◌, ◌<�
 use Rattle.std.specs.Prelude.{filter_map, min, slice_get}
 use Rattle.std.proofs.Math.Seq.{take-nil}
 use Rattle.std.proofs.lemmas.List.Elements.{filter_map-append}
+use Rattle.std.proofs.lemmas.List.Sums.{sum_by-cons}
 use Rattle.mdmp_c.specs.Giving.{put_front, told_count}
 use Rattle.mdmp_lister.specs.declared.fault.FaultKind.TheVariants as kinds
 use Rattle.mdmp_lister.specs.declared.fault.ListFault.{ListFault}
 use Rattle.mdmp_lister.specs.Fault.{IsOfStore, IsUnobtained}
 use Rattle.mdmp_lister.specs.declared.item.Item.{Item}
 use Rattle.mdmp_lister.specs.Format.Listing.{Run, only_fault}
+use Rattle.mdmp_lister.specs.Format.Item.{plain}
+use Rattle.mdmp_lister.specs.Format.Numbers.{names_of}
 use Rattle.mdmp_lister.specs.Lister.{tail}
+use Rattle.mdmp_lister.specs.Sink.{names_of_all}
+use Rattle.mdmp_lister.proofs.Handing.{rose_exactly}
+use Rattle.mdmp_lister.proofs.Naming.{names_of-plain}
+use Rattle.mdmp_source.specs.Count.{raised}
 use Rattle.mdmp_c.specs.Table.{Collects, collects_all, collects_some}
 use Rattle.mdmp_c.proofs.Stopping.{of_budget}
 
@@ -53,6 +60,14 @@ next_then : (given : List Item) (run left : Run) (x : Item) → run.items ≡ gi
     → run.items ≡ (given ++ x ∷ []) ++ drop 1 left.items
 next_then given run left x items first =
     items ∙ ap (λ (xs : List Item). given ++ xs) (first_then x left.items first) ∙ sym (append_assoc given (x ∷ []) (drop 1 left.items))
+
+-- the names of an item that was given are left no more
+pub names_left : (left : Run) (x : Item) (old new total : ℕ) → slice_get left.items 0 ≡ Some (plain x) → old + names_of_all left.items ≡ total → new + 1 < 2 ^ 128 → new ≡ raised old (names_of x)
+    → new + names_of_all (tail left).items ≡ total
+names_left left x old new total first so_far small rose =
+    let all : names_of_all left.items ≡ names_of_all (plain x ∷ drop 1 left.items) = ap names_of_all (first_then (plain x) left.items first) in
+    let one = sum_by-cons names_of (plain x) (drop 1 left.items) in
+    omega (arith, so_far, all, one, rose_exactly old new (names_of x) small rose, names_of-plain x)
 
 module _ {T : Type 0} (row : Item → Option T) where
   row_taken : (given : List Item) (item : Item) (x : T) → row item ≡ Some x → filter_map row (given ++ item ∷ []) ≡ filter_map row given ++ x ∷ []
@@ -100,9 +115,9 @@ module _ {T : Type 0} (row : Item → Option T) where
   }
 
   -- nothing is left, but this fault or none
-  pub Collects-end : (budget : Option ℕ) (run left : Run) (count : ℕ) (fault : Option ListFault) (before now : List T) → HasCollected row run left count before now
-      → left ≡ record { items = []; fault = fault } → Collects row budget run count fault before now
-  Collects-end budget run left count fault before now h end =
+  pub Collects-end : (MayEnd : ListFault → Type 0) (run left : Run) (count : ℕ) (fault : Option ListFault) (before now : List T) → HasCollected row run left count before now
+      → left ≡ record { items = []; fault = fault } → Collects row MayEnd run count fault before now
+  Collects-end MayEnd run left count fault before now h end =
       let all : run.items ≡ h.given = h.items ∙ ap (λ (r : Run). h.given ++ r.items) end ∙ append-nil h.given in
       collects_all (sym (h.fault ∙ ap (λ (r : Run). r.fault) end))
       record {
@@ -111,13 +126,13 @@ module _ {T : Type 0} (row : Item → Option T) where
       }
 
   -- or it is told that the budget was reached
-  pub Collects-fault : (budget : Option ℕ) (run left : Run) (count : ℕ) (fault : ListFault) (before now : List T) → HasCollected row run left count before now
-      → (IsOfStore fault.kind → ⊥) → ((IsUnobtained fault.kind → ⊥) → left ≡ only_fault fault) → (fault.kind ≡ kinds.Budget → budget ≡ None → ⊥)
-      → Collects row budget run count (Some fault) before now
-  Collects-fault budget run left count fault before now h good gives can = by (of_budget fault.kind good) where
-    by : (fault.kind ≡ kinds.Budget) ⊎ (IsUnobtained fault.kind → ⊥) → Collects row budget run count (Some fault) before now
-    by (inr of_file) = Collects-end budget run left count (Some fault) before now h (gives of_file)
+  pub Collects-fault : (MayEnd : ListFault → Type 0) (run left : Run) (count : ℕ) (fault : ListFault) (before now : List T) → HasCollected row run left count before now
+      → (IsOfStore fault.kind → ⊥) → ((IsUnobtained fault.kind → ⊥) → left ≡ only_fault fault) → (fault.kind ≡ kinds.Budget → MayEnd fault)
+      → Collects row MayEnd run count (Some fault) before now
+  Collects-fault MayEnd run left count fault before now h good gives can = by (of_budget fault.kind good) where
+    by : (fault.kind ≡ kinds.Budget) ⊎ (IsUnobtained fault.kind → ⊥) → Collects row MayEnd run count (Some fault) before now
+    by (inr of_file) = Collects-end MayEnd run left count (Some fault) before now h (gives of_file)
     by (inl is) =
         collects_some h.given
-        record { can_stop = can is; rest = left.items; first = h.items; told = fault; told_is = refl; kind = is }
+        record { rest = left.items; first = h.items; told = fault; told_is = refl; kind = is; reached = can is }
         record { count_is = h.count_is; out = h.out }

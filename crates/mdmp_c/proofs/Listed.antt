@@ -13,7 +13,7 @@ use Rattle.mdmp_c.specs.Texts.{IsList}
 use Rattle.mdmp_c.specs.ToolFault.{list_answer}
 use Rattle.mdmp_c.proofs.Ending.{WouldTell}
 use Rattle.mdmp_c.proofs.Parted.{drop-append}
-use Rattle.mdmp_c.proofs.Told.{Ends-given}
+use Rattle.mdmp_c.proofs.Told.{Ends-given, IsTextLimit}
 use Rattle.mdmp_lister.specs.declared.choice.Choice.TheVariants.{All}
 use Rattle.mdmp_lister.specs.declared.fault.OpenFault.{OpenFault}
 use Rattle.mdmp_lister.specs.Format.Refusal.{opening_fault}
@@ -69,10 +69,10 @@ module _ (form : LineForm) (pdb : Bool) (F : List ℕ) (limit : ℕ) where
   ended run left before skip room p s n kept fault given end =
       rw (given.whole ∙ ap (λ (r : Run). given.text ++ run_text form pdb F limit r) end ∙ append-nil given.text) given.part
 
-  pub PutsRun-end : (budget aside : Option ℕ) (run left : Run) (before : List ℕ) (skip room p s n : ℕ) (kept : List ℕ) (now after : OutState) → HasGiven run before skip room left p s n kept
+  pub PutsRun-end : (MayEnd : ToolFault → Type 0) (run left : Run) (before : List ℕ) (skip room p s n : ℕ) (kept : List ℕ) (now after : OutState) → HasGiven run before skip room left p s n kept
       → ListsNext form pdb F limit left now (Ok false) after
-      → PutsRun (λ text. IsPartOf skip room text p s n kept) budget aside (before ++ run_text form pdb F limit run) run (Ok tt)
-  PutsRun-end budget aside run left before skip room p s n kept now after given next =
+      → PutsRun (λ text. IsPartOf skip room text p s n kept) MayEnd (before ++ run_text form pdb F limit run) run (Ok tt)
+  PutsRun-end MayEnd run left before skip room p s n kept now after given next =
       (given.fault ∙ ap (λ (r : Run). r.fault) next.0, ended run left before skip room p s n kept None given next.0)
 
   -- no bytes were given
@@ -92,46 +92,46 @@ module _ (form : LineForm) (pdb : Bool) (F : List ℕ) (limit : ℕ) where
       ∙ sym (append_assoc text line (rest ++ after))
 
   -- or the list ended at a fault, or at a limit, behind the lines that were made before
-  pub PutsRun-fault : (budget aside : Option ℕ) (run left : Run) (before line : List ℕ) (skip room p s n p' s' n' : ℕ) (kept kept' : List ℕ) (now after : OutState) (f : ToolFault)
+  pub PutsRun-fault : (MayEnd : ToolFault → Type 0) (run left : Run) (before line : List ℕ) (skip room p s n p' s' n' : ℕ) (kept kept' : List ℕ) (now after : OutState) (f : ToolFault)
       → (given : HasGiven run before skip room left p s n kept) → ListsNext form pdb F limit left now (Err f) after → now.taken ≡ Some [] → after.taken ≡ Some line
       → IsPartOf skip room (given.text ++ line) p' s' n' kept' → IsNoSourceFault {T = Bool} (Err f)
-      → ((offset size : ℕ) → f ≡ Budget offset size → budget ≡ None → ⊥) → ((offset size : ℕ) → f ≡ AsideLimit offset size → aside ≡ None → ⊥)
-      → PutsRun (λ text. IsPartOf skip room text p' s' n' kept') budget aside (before ++ run_text form pdb F limit run) run (Err f)
-  PutsRun-fault budget aside run left before line skip room p s n p' s' n' kept kept' now after (BadList fault) given next none is more read can past =
+      → (IsTextLimit f → MayEnd f)
+      → PutsRun (λ text. IsPartOf skip room text p' s' n' kept') MayEnd (before ++ run_text form pdb F limit run) run (Err f)
+  PutsRun-fault MayEnd run left before line skip room p s n p' s' n' kept kept' now after (BadList fault) given next none is more read can =
       let empty : line ≡ [] = let all : Some line ≡ Some [] = sym is ∙ ap (λ (o : OutState). o.taken) next.1 ∙ none in cc in
       let same = given_nothing run left before line skip room p s n kept empty given p' s' n' kept' more in
       (given.fault ∙ ap (λ (r : Run). r.fault) next.0, ended run left before skip room p' s' n' kept' (Some fault) same next.0)
-  PutsRun-fault budget aside run left before line skip room p s n p' s' n' kept kept' now after (Source fault) given next none is more read can past = absurd read
-  PutsRun-fault budget aside run left before line skip room p s n p' s' n' kept kept' now after (Budget offset size) given next none is more read can past =
+  PutsRun-fault MayEnd run left before line skip room p s n p' s' n' kept kept' now after (Source fault) given next none is more read can = absurd read
+  PutsRun-fault MayEnd run left before line skip room p s n p' s' n' kept kept' now after (Budget offset size) given next none is more read can =
       let empty : line ≡ [] = let all : Some line ≡ Some [] = sym is ∙ ap (λ (o : OutState). o.taken) next ∙ none in cc in
       let same = given_nothing run left before line skip room p s n kept empty given p' s' n' kept' more in
-      record { can_stop = can offset size refl; given = same.text; rest = run_text form pdb F limit left; begins = same.whole; put = same.part }
-  PutsRun-fault budget aside run left before line skip room p s n p' s' n' kept kept' now after (AsideLimit offset size) given next none is more read can past =
+      record { limit = can tt; given = same.text; rest = run_text form pdb F limit left; begins = same.whole; put = same.part }
+  PutsRun-fault MayEnd run left before line skip room p s n p' s' n' kept kept' now after (AsideLimit offset size) given next none is more read can =
       let all : after.taken ≡ Some next.took.sent = next.took.took [] none in
       let first : next.took.sent ≡ line = cc in
       let lines = next.took.whole ∙ ap (λ xs. xs ++ next.took.rest) first in
       record {
-        can_stop = past offset size refl;
+        limit = can tt;
         given = given.text ++ line;
         rest = next.took.rest ++ run_text form pdb F limit (tail left);
         begins = begins_so run left before given.text line next.took.rest given.whole lines;
         put = more;
       }
-  PutsRun-fault budget aside run left before line skip room p s n p' s' n' kept kept' now after Out given next none is more read can past = tt
-  PutsRun-fault budget aside run left before line skip room p s n p' s' n' kept kept' now after _ given next none is more read can past = absurd next
+  PutsRun-fault MayEnd run left before line skip room p s n p' s' n' kept kept' now after Out given next none is more read can = tt
+  PutsRun-fault MayEnd run left before line skip room p s n p' s' n' kept kept' now after _ given next none is more read can = absurd next
 
   -- what was made before the fault was put behind the rest, unless memory ran out
-  pub PutsRun-ended : (budget aside : Option ℕ) (run left : Run) (before line : List ℕ) (skip room p s n p' s' n' : ℕ) (kept kept' : List ℕ) (now after : OutState) (f : ToolFault) (result : Result (Unit {0}) ToolFault)
+  pub PutsRun-ended : (MayEnd : ToolFault → Type 0) (run left : Run) (before line : List ℕ) (skip room p s n p' s' n' : ℕ) (kept kept' : List ℕ) (now after : OutState) (f : ToolFault) (result : Result (Unit {0}) ToolFault)
       → HasGiven run before skip room left p s n kept → ListsNext form pdb F limit left now (Err f) after → now.taken ≡ Some [] → after.taken ≡ Some line
       → ((text : List ℕ) → IsPartOf skip room text p s n kept → EndsAt (λ part. IsPartOf skip room part p' s' n' kept') (text ++ line) f result) → IsNoSourceFault {T = Bool} (Err f)
-      → ((offset size : ℕ) → f ≡ Budget offset size → budget ≡ None → ⊥) → ((offset size : ℕ) → f ≡ AsideLimit offset size → aside ≡ None → ⊥)
-      → PutsRun (λ text. IsPartOf skip room text p' s' n' kept') budget aside (before ++ run_text form pdb F limit run) run result
-  PutsRun-ended budget aside run left before line skip room p s n p' s' n' kept kept' now after f result given next none is ends read can past = by (ends given.text given.part) where
+      → (IsTextLimit f → MayEnd f)
+      → PutsRun (λ text. IsPartOf skip room text p' s' n' kept') MayEnd (before ++ run_text form pdb F limit run) run result
+  PutsRun-ended MayEnd run left before line skip room p s n p' s' n' kept kept' now after f result given next none is ends read can = by (ends given.text given.part) where
     by : EndsAt (λ part. IsPartOf skip room part p' s' n' kept') (given.text ++ line) f result
-        → PutsRun (λ text. IsPartOf skip room text p' s' n' kept') budget aside (before ++ run_text form pdb F limit run) run result
+        → PutsRun (λ text. IsPartOf skip room text p' s' n' kept') MayEnd (before ++ run_text form pdb F limit run) run result
     by (ends_early early) = rw early tt
     by (ends_at at part) =
-        let told = PutsRun-fault budget aside run left before line skip room p s n p' s' n' kept kept' now after f given next none is part read can past in
+        let told = PutsRun-fault MayEnd run left before line skip room p s n p' s' n' kept kept' now after f given next none is part read can in
         rw at told
 
 -- the lines that an emptied line took
@@ -157,7 +157,7 @@ module _ (form : LineForm) (pdb : Bool) (F : List ℕ) (limit skip : ℕ) where
     is = record { told_is = refl; part_is = refl };
   }
 
-  module _ (valid : Type 0) (MayTell : PlainFault → Type 0) (budget aside : Option ℕ) where
+  module _ (valid : Type 0) (MayTell : PlainFault → Type 0) (MayEnd : ToolFault → Type 0) where
     answered : (told : PlainFault) (status count : ℕ) (fault : PlainFault) (before after : List ℕ) (p s n : ℕ) (kept : List ℕ) → valid → opening_fault F All ≡ None
         → told ≡ list_told run.fault → IsPartOf skip (length before) whole p s n kept
         → ((part : List ℕ) → n ≡ told_count (length part) → kept ≡ take (length before) part → GivesOrWants told part status count fault before after)
@@ -167,11 +167,11 @@ module _ (form : LineForm) (pdb : Bool) (F : List ℕ) (limit skip : ℕ) where
         (inr (inl (record { told_is = rw opened is; part_is = rw opened refl }))) (gives (drop skip whole) part.size_is part.kept_is)
 
     -- a limit was reached behind the first of the text
-    stopped : (told : PlainFault) (most : Option ℕ) (status count : ℕ) (fault : PlainFault) (before after : List ℕ) (p s n : ℕ) (kept : List ℕ) → valid → opening_fault F All ≡ None
-        → PutsFirst (λ text. IsPartOf skip (length before) text p s n kept) most whole → MayTell told
+    stopped : (told : PlainFault) (reached : Type 0) (status count : ℕ) (fault : PlainFault) (before after : List ℕ) (p s n : ℕ) (kept : List ℕ) → valid → opening_fault F All ≡ None
+        → PutsFirst (λ text. IsPartOf skip (length before) text p s n kept) reached whole → MayTell told
         → ((part : List ℕ) → n ≡ told_count (length part) → kept ≡ take (length before) part → GivesOrWants told part status count fault before after)
         → Ends (IsListPart form pdb skip F limit) valid MayTell bad_limits status count fault before after
-    stopped told most status count fault before after p s n kept ok opened puts may gives =
+    stopped told reached status count fault before after p s n kept ok opened puts may gives =
         Ends-given (IsListPart form pdb skip F limit) valid MayTell bad_limits told (drop skip puts.given) status count fault before after ok
         (inr (inr (
           may,
@@ -188,22 +188,22 @@ module _ (form : LineForm) (pdb : Bool) (F : List ℕ) (limit skip : ℕ) where
 
     -- the part of the text of a file that was opened, up to what ended its listing
     pub Ends-part : (answer : Result (Unit {0}) ToolFault) (status count : ℕ) (fault : PlainFault) (before after : List ℕ) (p s n : ℕ) (kept : List ℕ) → valid
-        → ((budget ≡ None → ⊥) → (offset size : ℕ) → MayTell (budget_fault offset size)) → ((aside ≡ None → ⊥) → (offset size : ℕ) → MayTell (aside_fault offset size))
-        → opening_fault F All ≡ None → PutsRun (λ text. IsPartOf skip (length before) text p s n kept) budget aside whole run answer
+        → ((f : ToolFault) → MayEnd f → MayTell (list_answer (Err f)))
+        → opening_fault F All ≡ None → PutsRun (λ text. IsPartOf skip (length before) text p s n kept) MayEnd whole run answer
         → ((part : List ℕ) → n ≡ told_count (length part) → kept ≡ take (length before) part → GivesOrWants (list_answer answer) part status count fault before after)
         → (list_answer answer ≡ no_memory → Fails no_memory status count fault before after)
         → Ends (IsListPart form pdb skip F limit) valid MayTell bad_limits status count fault before after
-    Ends-part (Ok x) status count fault before after p s n kept ok can past opened puts gives none =
+    Ends-part (Ok x) status count fault before after p s n kept ok can opened puts gives none =
         answered (list_answer (Ok x)) status count fault before after p s n kept ok opened (ap list_told (sym puts.0)) puts.1 gives
-    Ends-part (Err (BadList f)) status count fault before after p s n kept ok can past opened puts gives none =
+    Ends-part (Err (BadList f)) status count fault before after p s n kept ok can opened puts gives none =
         answered (list_answer (Err (BadList f))) status count fault before after p s n kept ok opened (ap list_told (sym puts.0)) puts.1 gives
-    Ends-part (Err (Budget offset size)) status count fault before after p s n kept ok can past opened puts gives none =
-        stopped (budget_fault offset size) budget status count fault before after p s n kept ok opened puts (can puts.can_stop offset size) gives
-    Ends-part (Err (AsideLimit offset size)) status count fault before after p s n kept ok can past opened puts gives none =
-        stopped (aside_fault offset size) aside status count fault before after p s n kept ok opened puts (past puts.can_stop offset size) gives
-    Ends-part (Err Out) status count fault before after p s n kept ok can past opened puts gives none = wants ok (none refl)
-    Ends-part (Err Memory) status count fault before after p s n kept ok can past opened puts gives none = wants ok (none refl)
-    Ends-part (Err _) status count fault before after p s n kept ok can past opened puts gives none = absurd puts
+    Ends-part (Err (Budget offset size)) status count fault before after p s n kept ok can opened puts gives none =
+        stopped (budget_fault offset size) (MayEnd (Budget offset size)) status count fault before after p s n kept ok opened puts (can (Budget offset size) puts.limit) gives
+    Ends-part (Err (AsideLimit offset size)) status count fault before after p s n kept ok can opened puts gives none =
+        stopped (aside_fault offset size) (MayEnd (AsideLimit offset size)) status count fault before after p s n kept ok opened puts (can (AsideLimit offset size) puts.limit) gives
+    Ends-part (Err Out) status count fault before after p s n kept ok can opened puts gives none = wants ok (none refl)
+    Ends-part (Err Memory) status count fault before after p s n kept ok can opened puts gives none = wants ok (none refl)
+    Ends-part (Err _) status count fault before after p s n kept ok can opened puts gives none = absurd puts
 
 module _ (form : LineForm) (pdb : Bool) (F : List ℕ) (limit : ℕ) where
   -- what follows no bytes of a text is all of it

@@ -12,7 +12,7 @@ use Rattle.mdmp_lister.specs.Format.Listing.{listing, memory_lists}
 use Rattle.mdmp_lister.specs.Format.Refusal.{opening_fault}
 use Rattle.mdmp_c.specs.declared.fault.PlainFault.{PlainFault}
 use Rattle.mdmp_c.specs.declared.limits.PlainLimits.{PlainLimits}
-use Rattle.mdmp_c.specs.Limits.{AreLimits, ReachesLimit}
+use Rattle.mdmp_c.specs.Limits.{AreLimits, EndsListing}
 use Rattle.mdmp_c.specs.Fault.{budget_fault, open_fault, plain_by_kind, plain_list_fault, no_fault, status_of, wide_fault}
 use Rattle.mdmp_c.specs.Memory.{ReadsMemory, faulty, memory_told, stops, wants}
 use Rattle.mdmp_c.proofs.Ending.{plain_budget}
@@ -47,7 +47,7 @@ some_fault told status none = let wrong : status_of no_fault ≡ 1 = subst (λ (
 -- the memory lists of a file that can be opened end with a fault: it is the file's, or the budget was reached
 pub ReadsMemory-fault : (F : List ℕ) (limits : PlainLimits) (name : ℕ) (choice : Choice) (f : ListFault) (address status : ℕ) (fault : PlainFault) (out : List ℕ) (known : List Bool)
     → AreLimits limits → length out ≡ length known → choice ≡ memory_lists → name ≡ limits.name → opening_fault F choice ≡ None → (IsOfStore f.kind → ⊥)
-    → ((IsUnobtained f.kind → ⊥) → (listing F choice name).fault ≡ Some f) → (f.kind ≡ kinds.Budget → ReachesLimit limits (budget_fault f.offset f.size))
+    → ((IsUnobtained f.kind → ⊥) → (listing F choice name).fault ≡ Some f) → (f.kind ≡ kinds.Budget → EndsListing limits F memory_lists (budget_fault f.offset f.size))
     → status ≡ status_of (plain_list_fault f) → fault ≡ plain_list_fault f → ReadsMemory F limits address status fault out out known known
 ReadsMemory-fault F limits name choice f address status fault out known valid same is named opened good lists can ends tells = by (of_budget f.kind good) where
   by : (f.kind ≡ kinds.Budget) ⊎ (IsUnobtained f.kind → ⊥) → ReadsMemory F limits address status fault out out known known
@@ -71,7 +71,7 @@ module _ (F : List ℕ) (limits : PlainLimits) (choice : Choice) (address : ℕ)
       faulty valid same (some_fault _ (ap status_of all ∙ one))
       record { status_is = ends ∙ one; fault_is = tells ∙ sym all; out = refl; known = refl }
 
-  pub ReadsMemory-refused : (fault : OpenFault) (status : ℕ) (told : PlainFault) → (IsLimitTold fault → ReachesLimit limits (open_fault fault))
+  pub ReadsMemory-refused : (fault : OpenFault) (status : ℕ) (told : PlainFault) → (IsLimitTold fault → EndsListing limits F memory_lists (open_fault fault))
       → IsRefusalOf F choice fault → (IsUnread fault → ⊥) → status ≡ status_of (open_fault fault) → told ≡ open_fault fault
       → ReadsMemory F limits address status told out out known known
   ReadsMemory-refused (opening.Source fault) status told can of read ends tells = absurd (read tt)

@@ -1,27 +1,44 @@
--- Where the budget is told, there is one.
-use Rattle.std.proofs.Common.{◌≡◌, ◌+◌, ◌∙◌, ◌⊎◌, ℕ, Bool, Option, None, Err, false, true, ap, inl, inr, refl, subst}
-use Rattle.std.specs.Prelude.{IsTrue, Result, max}
+-- Where a limit is told, it was reached.
+use Rattle.std.proofs.Common.{◌≡◌, ◌≤◌, ◌<◌, ◌+◌, ◌-◌, ◌*◌, ◌^◌, ◌∙◌, ◌⊎◌, ℕ, Bool, List, Option, None, Some, Err, false, true, ap, arith, inl, inr, length, refl, subst}
+use Rattle.std.specs.Prelude.{◌==◌, IfSome, IsTrue, Result, max, nat_le, nat_lt, if◌then◌else◌}
+use Rattle.std.specs.Option.{option_map}
+use Rattle.std.proofs.lemmas.Bool.Decides.{nat_tests}
+use Rattle.std.proofs.Math.Nat.{mul-le-mul_right}
+use Rattle.mdmp_source.specs.Count.{raised}
+use Rattle.mdmp_source.specs.Range.{IsInside}
 use Rattle.mdmp_source.specs.Source.{SourceState}
+use Rattle.mdmp_source.specs.Store.{IsSizeOf}
+use Rattle.mdmp_lister.specs.declared.choice.Choice.{Choice}
+use Rattle.mdmp_lister.specs.declared.choice.Choice.TheVariants.{All}
+use Rattle.mdmp_lister.specs.declared.counts.Counts.{Counts}
 use Rattle.mdmp_lister.specs.declared.fault.FaultKind.{FaultKind}
 use Rattle.mdmp_lister.specs.declared.fault.FaultKind.TheVariants as kinds
 use Rattle.mdmp_lister.specs.declared.fault.ListFault.{ListFault}
 use Rattle.mdmp_lister.specs.declared.fault.OpenFault.{OpenFault}
 use Rattle.mdmp_lister.specs.declared.fault.OpenFault.TheVariants as opening
 use Rattle.mdmp_lister.specs.declared.limits.Limits.{Limits}
+use Rattle.mdmp_lister.specs.Counts.{AreHeld, AreOfFile, AreSpent, numbers_of}
 use Rattle.mdmp_lister.specs.Fault.{IsOfStore, IsUnobtained}
-use Rattle.mdmp_lister.specs.Lister.{IsRefusedIn, ListerState}
-use Rattle.mdmp_lister.specs.Memory.{TellsMemory, is_within}
-use Rattle.mdmp_lister.specs.Meter.{IsUnmade, IsRefusedFetch}
+use Rattle.mdmp_lister.specs.Format.Bounds.{fetch_bound}
+use Rattle.mdmp_lister.specs.Format.Listing.{entry_count, listing}
+use Rattle.mdmp_lister.specs.Format.Numbers.{listed_bytes}
+use Rattle.mdmp_lister.specs.Lister.{IsRefusedIn, IsSameLister, ListerState, Rooms}
+use Rattle.mdmp_lister.specs.Memory.{IsRefusalWithin, TellsMemory, is_within, leaving, opening_fault_within}
+use Rattle.mdmp_lister.specs.Meter.{IsRefusedFetch, IsUnmade, KeepsTo, is_passed}
 use Rattle.mdmp_lister.specs.Opening.{KeepsToBudget}
-use Rattle.mdmp_tool.specs.Causes.{HasAsideCause, HasBudgetCause, MayReachAside, MayReachBudget, MayReachMemory}
+use Rattle.mdmp_lister.specs.Sink.{names_of_all}
+use Rattle.mdmp_tool.specs.Causes.{HasBudgetCause, KeepsAside}
+use Rattle.mdmp_tool.specs.Engines.{IsReadThrough, IsSameRun, check_access}
 use Rattle.mdmp_tool.specs.declared.fault.ToolFault.{ToolFault}
 use Rattle.mdmp_tool.specs.declared.fault.ToolFault.TheVariants.{AsideLimit, Budget, MemoryLimit}
 use Rattle.mdmp_c.specs.declared.limits.PlainLimits.{PlainLimits}
 use Rattle.mdmp_c.specs.declared.fault.PlainFault.{PlainFault}
-use Rattle.mdmp_c.specs.Fault.{open_fault}
-use Rattle.mdmp_c.specs.Limits.{AreGiven, IsLimit, ReachesLimit, limit_of, reaches_aside, reaches_budget, reaches_memory}
-use Rattle.mdmp_c.specs.ToolFault.{tool_fault}
-use Rattle.mdmp_c.proofs.Told.{IsLimited}
+use Rattle.mdmp_c.specs.Fault.{budget_fault, open_fault}
+use Rattle.mdmp_c.specs.Limits.{AreGiven, EndsText, IsLimit, ReachesLimit, ends_aside, ends_text, limit_of, most_read, names_checked, names_listed, reaches_budget, reaches_memory}
+use Rattle.mdmp_c.specs.Table.{EndsAt, IsEndedAt}
+use Rattle.mdmp_c.specs.TextPart.{EndsTextAt}
+use Rattle.mdmp_c.specs.ToolFault.{check_answer, list_answer}
+use Rattle.mdmp_c.proofs.Told.{IsLimited, IsTextLimit}
 
 -- a fault of a listing that is not the store's is the budget's or the file's
 pub of_budget : (kind : FaultKind) → (IsOfStore kind → ⊥) → (kind ≡ kinds.Budget) ⊎ (IsUnobtained kind → ⊥)
@@ -39,40 +56,151 @@ IsLimitTold (opening.Budget offset size) = Unit {0}
 IsLimitTold (opening.MemoryLimit held) = Unit {0}
 IsLimitTold fault = ⊥
 
+-- ---- numbers of limits
+
+-- a number of bytes that passes a budget, and one that does not
+pub limit_passed : (n read total : ℕ) (budget : Option ℕ) → budget ≡ limit_of n → KeepsTo budget read → IsTrue (is_passed budget total) → IsLimit n × ((read ≤ n) × (n < total))
+limit_passed n read total budget is keeps passes = by (n == 2 ^ 64 - 1) refl where
+  none_passed : budget ≡ None → ⊥
+  none_passed none = let never : IsTrue false = rw none at passes in cc never
+
+  by : (test : Bool) → (n == 2 ^ 64 - 1) ≡ test → IsLimit n × ((read ≤ n) × (n < total))
+  by true same = absurd (none_passed (is ∙ ap (λ (b : Bool). if b then None else Some n) same))
+  by false same =
+      let some : budget ≡ Some n = is ∙ ap (λ (b : Bool). if b then None else Some n) same in
+      let keep : nat_lt n read ≡ false = rw some at keeps in
+      let pass : IsTrue (nat_lt n total) = rw some at passes in
+      (is_limit n budget is none_passed, (grind (arith, nat_tests, keep), grind (arith, nat_tests, pass)))
+
+-- a bound that is kept by more
+bounded_by : (most : Option ℕ) (n m : ℕ) → n ≤ m → IfSome most (λ k. m ≤ k) → IfSome most (λ k. n ≤ k)
+bounded_by None n m le bound = tt
+bounded_by (Some k) n m le bound = omega (arith, le, bound)
+
+-- ---- a budget that was reached
+
+-- bytes were not read, with which the budget would have been passed
+pub budget_passed : (plain : PlainLimits) (limits : Limits) (F : List ℕ) (choice : Choice) (most : Option ℕ) (read offset size z : ℕ) → AreGiven plain limits → KeepsTo limits.budget read
+    → IsTrue (is_passed limits.budget (read + size)) → IfSome most (λ n. read + size ≤ n) → IsInside offset size z → z ≡ length F → size ≤ max limits.window limits.name
+    → ReachesLimit plain F choice most (budget_fault offset size)
+budget_passed plain limits F choice most read offset size z given keeps passes bound inside sized few =
+    let over = limit_passed plain.budget read (read + size) limits.budget given.budget keeps passes in
+    reaches_budget over.0 offset size refl
+    record {
+      read = read;
+      kept = over.1.0;
+      passes = over.1.1;
+      bound = bound;
+      inside = rw sized at inside;
+      few = rw (given.window, given.name) at few;
+    }
+
 -- an opening that was refused
-pub opening_over : (plain : PlainLimits) (limits : Limits) (old : SourceState) (fault : OpenFault) (new : SourceState) → AreGiven plain limits
-    → KeepsToBudget limits old fault new → TellsMemory limits old fault new → IsLimitTold fault → ReachesLimit plain (open_fault fault)
-opening_over plain limits old (opening.Budget at len) new given kept memory told =
-    reaches_budget (is_limit plain.budget limits.budget given.budget (λ none. let never : IsTrue false = rw none at kept.over.passes in cc never)) at len refl
-opening_over plain limits old (opening.MemoryLimit held) new given kept memory told =
-    reaches_memory (is_limit plain.memory limits.memory given.memory (λ none. let over = memory.1.1.over in let open_end : is_within limits.memory held ≡ true = rw none refl in cc)) held refl
-opening_over plain limits old fault new given kept memory told = absurd told
+pub opening_passed : (plain : PlainLimits) (limits : Limits) (F : List ℕ) (choice : Choice) (most : Option ℕ) (old : SourceState) (at len : ℕ) (new : SourceState) → AreGiven plain limits
+    → old.store.content ≡ Some F → old.size ≡ length F → old.size < 2 ^ 64 → IfSome most (λ n. 32 + 28 * entry_count F ≤ n) → KeepsToBudget limits old (opening.Budget at len) new
+    → ReachesLimit plain F choice most (budget_fault at len)
+opening_passed plain limits F choice most old at len new given known size small bound kept =
+    let over = kept.over in
+    let exact : raised kept.fetched len ≡ kept.fetched + len = omega (arith, over.bound, over.within, small) in
+    let least : kept.fetched + len ≤ 32 + 28 * entry_count F = omega (arith, exact, over.bound, over.known F known) in
+    budget_passed plain limits F choice most kept.fetched at len old.size given kept.kept (subst (λ n. IsTrue (is_passed limits.budget n)) exact over.passes)
+    (bounded_by most _ _ least bound) over.inside size over.most
 
--- a listing that ended
-pub listing_over : (budget : Option ℕ) (f : ListFault) (v : ListerState) → v.counts.budget ≡ budget → IsRefusedIn f v → f.kind ≡ kinds.Budget → budget ≡ None → ⊥
-listing_over budget f v same refused is none =
+pub opening_over : (plain : PlainLimits) (limits : Limits) (F : List ℕ) (choice : Choice) (most : Option ℕ) (old : SourceState) (fault : OpenFault) (new : SourceState) → AreGiven plain limits
+    → old.store.content ≡ Some F → old.size ≡ length F → old.size < 2 ^ 64 → IfSome most (λ n. 32 + 28 * entry_count F ≤ n)
+    → KeepsToBudget limits old fault new → TellsMemory limits old fault new → IsRefusalWithin limits F choice fault → IsLimitTold fault → ReachesLimit plain F choice most (open_fault fault)
+opening_over plain limits F choice most old (opening.Budget at len) new given known size small bound kept memory of told =
+    opening_passed plain limits F choice most old at len new given known size small bound kept
+opening_over plain limits F choice most old (opening.MemoryLimit held) new given known size small bound kept memory of told =
+    reaches_memory (is_limit plain.memory limits.memory given.memory (λ none. let over = memory.1.1.over in let open_end : is_within limits.memory held ≡ true = rw none refl in cc)) held refl limits given of
+opening_over plain limits F choice most old fault new given known size small bound kept memory of told = absurd told
+
+-- the size of a source whose content is known
+pub sized : (F : List ℕ) (source : SourceState) → source.store.content ≡ Some F → IsSizeOf source.store.content source.size → source.size ≡ length F
+sized F source known is = let of : IsSizeOf (Some F) source.size = rw known at is in of
+
+none_more : (n k : ℕ) → n ≡ 0 → n + k ≡ k
+none_more n k none = omega (arith, none)
+
+-- what a lister that has given nothing may read at most
+pub most_listed : (F : List ℕ) (choice : Choice) (n limit : ℕ) (v : ListerState) → v.choice ≡ choice → v.limit ≡ n → v.counts.names ≡ 0 → n ≡ limit
+    → most_read F v.choice v.limit (v.counts.names + names_of_all (listing F choice n).items) ≡ most_read F choice limit (names_listed F choice limit)
+most_listed F choice n limit v of is none same =
+    ap (most_read F v.choice v.limit) (none_more v.counts.names (names_of_all (listing F choice n).items) none)
+    ∙ ap (λ (c : Choice). most_read F c v.limit (names_of_all (listing F choice n).items)) of
+    ∙ ap (λ k. most_read F choice k (names_of_all (listing F choice n).items)) is
+    ∙ ap (λ k. most_read F choice k (names_listed F choice k)) same
+
+-- and one that is to check a file
+pub most_checked : (F : List ℕ) (choice : Choice) (limit : ℕ) (v : ListerState) → v.choice ≡ choice → v.limit ≡ limit → v.counts.names ≡ 0
+    → most_read F v.choice v.limit (v.counts.names + names_checked F v.choice v.limit) ≡ most_read F choice limit (names_checked F choice limit)
+most_checked F choice limit v of is none =
+    ap (most_read F v.choice v.limit) (none_more v.counts.names (names_checked F v.choice v.limit) none)
+    ∙ ap (λ (c : Choice). most_read F c v.limit (names_checked F c v.limit)) of
+    ∙ ap (λ k. most_read F choice k (names_checked F choice k)) is
+
+-- a listing may read no fewer bytes than its opening
+pub least_read : (F : List ℕ) (choice : Choice) (limit names : ℕ) → 32 + 28 * entry_count F ≤ most_read F choice limit names
+least_read F choice limit names = omega arith
+
+-- a lister ended by its budget: what it has fetched and asked for is within what its numbers tell
+pub ended_by : (v : ListerState) (c : Counts) (offset size : ℕ) → c ≡ numbers_of v → AreHeld v c → AreSpent v c → IsRefusedFetch (max v.rooms.window v.limit) offset size v.counts v.source.size
+    → IsEndedAt v (Some (fetch_bound v.limit c.s c.n c.m)) offset size
+ended_by v c offset size is held spent over =
+    let exact : raised v.counts.fetched size ≡ v.counts.fetched + size = omega (arith, over.asked, spent.below) in
+    let fetched : c.fetched ≡ v.counts.fetched = ap (λ (x : Counts). x.fetched) is in
+    record {
+      read = v.counts.fetched;
+      kept = subst (λ n. KeepsTo v.counts.budget n) fetched held.kept.kept;
+      passes = subst (λ n. IsTrue (is_passed v.counts.budget n)) exact over.passes;
+      bound = omega (arith, exact, over.asked, spent.asked);
+      inside = over.inside;
+      few = over.few;
+    }
+
+-- the same with another bound
+ended_as : (v : ListerState) (most other : Option ℕ) (offset size : ℕ) → (ended : IsEndedAt v most offset size) → IfSome other (λ n. ended.read + size ≤ n) → IsEndedAt v other offset size
+ended_as v most other offset size ended bound = record { read = ended.read; kept = ended.kept; passes = ended.passes; bound = bound; inside = ended.inside; few = ended.few }
+
+-- and so is one that it was before
+pub ended_before : (old v : ListerState) (most : Option ℕ) (offset size : ℕ) → v.counts.budget ≡ old.counts.budget → v.rooms ≡ old.rooms → v.limit ≡ old.limit → v.source.size ≡ old.source.size
+    → IsEndedAt v most offset size → IsEndedAt old most offset size
+ended_before old v most offset size budget rooms limit sized ended = record {
+  read = ended.read;
+  kept = subst (λ (b : Option ℕ). KeepsTo b ended.read) budget ended.kept;
+  passes = subst (λ (b : Option ℕ). IsTrue (is_passed b (ended.read + size))) budget ended.passes;
+  bound = ended.bound;
+  inside = rw sized at ended.inside;
+  few = subst (λ n. size ≤ n) (ap (λ (r : Rooms). max r.window v.limit) rooms ∙ ap (max old.rooms.window) limit) ended.few;
+}
+
+-- the most that a lister may fetch, by the names of the file
+pub most_by : (old v : ListerState) (F : List ℕ) (names : ℕ) (c : Counts) → IsSameLister old v → c ≡ numbers_of v → AreOfFile F v.choice c → v.counts.names ≤ old.counts.names + names + 1
+    → fetch_bound v.limit c.s c.n c.m ≤ most_read F old.choice old.limit (old.counts.names + names)
+most_by old v F names c same is of most =
+    let reached : c.m ≡ v.counts.names = ap (λ (x : Counts). x.m) is in
+    let listed : c.n ≡ listed_bytes F old.choice = of.listed ∙ ap (listed_bytes F) same.choice in
+    let cost : c.m * (v.limit + 4) ≤ (old.counts.names + names + 1) * (v.limit + 4) = mul-le-mul_right (v.limit + 4) (omega (arith, reached, most)) in
+    let limit : (old.counts.names + names + 1) * (v.limit + 4) ≡ (old.counts.names + names + 1) * (old.limit + 4) = ap (λ n. (old.counts.names + names + 1) * (n + 4)) same.limit in
+    omega (arith, of.entries, listed, cost, limit)
+
+-- a listing that ended by its budget
+pub listing_over : (old v : ListerState) (F : List ℕ) (names : ℕ) (c : Counts) (f : ListFault) → IsSameLister old v → v.source.size ≡ old.source.size → c ≡ numbers_of v → AreOfFile F v.choice c
+    → AreHeld v c → AreSpent v c → v.counts.names ≤ old.counts.names + names + 1 → IsRefusedIn f v → f.kind ≡ kinds.Budget → EndsAt old (most_read F old.choice old.limit (old.counts.names + names)) f
+listing_over old v F names c f same sized is of held spent most refused budget =
     let over : IsRefusedFetch (max v.rooms.window v.limit) f.offset f.size v.counts v.source.size =
-    subst (λ (kind : FaultKind). IsUnmade (max v.rooms.window v.limit) kind f.offset f.size v.counts v.source.size) is refused in
-    let never : IsTrue false = rw (same, none) at over.passes in
-    cc never
+    subst (λ (kind : FaultKind). IsUnmade (max v.rooms.window v.limit) kind f.offset f.size v.counts v.source.size) budget refused in
+    let ended = ended_by v c f.offset f.size is held spent over in
+    let before = ended_before old v _ f.offset f.size same.budget same.rooms same.limit sized ended in
+    ended_as old _ (Some (most_read F old.choice old.limit (old.counts.names + names))) f.offset f.size before (omega (arith, before.bound, most_by old v F names c same is of most))
 
--- a command over a listing
-module _ {T : Type 0} (plain : PlainLimits) (limits : Limits) (size : ℕ) (given : AreGiven plain limits) where
-  pub limit_reached : (most : Option ℕ) (tell : Result T ToolFault → PlainFault) (answer : Result T ToolFault) → ((fault : ToolFault) → tell (Err fault) ≡ tool_fault fault)
-      → MayReachBudget limits size answer → MayReachMemory limits answer → MayReachAside most limits size answer → ((most ≡ None → ⊥) → IsLimit plain.aside) → IsLimited answer → ReachesLimit plain (tell answer)
-  limit_reached most tell (Err (Budget offset len)) is budget memory aside limits_it told = reaches_budget (is_limit plain.budget limits.budget given.budget budget.0) offset len (is (Budget offset len))
-  limit_reached most tell (Err (MemoryLimit held)) is budget memory aside limits_it told =
-      reaches_memory (is_limit plain.memory limits.memory given.memory (λ none. let open_end : is_within limits.memory held ≡ true = rw none refl in cc)) held (is (MemoryLimit held))
-  limit_reached most tell (Err (AsideLimit offset len)) is budget memory aside limits_it told = reaches_aside (limits_it aside.0) offset len (is (AsideLimit offset len))
-  limit_reached most tell answer is budget memory aside limits_it told = absurd told
-
--- the printing of the next item
-pub next_over : (budget : Option ℕ) (f : ToolFault) (v : ListerState) → v.counts.budget ≡ budget → HasBudgetCause {T = Bool} (Err f) v
-    → (offset size : ℕ) → f ≡ Budget offset size → budget ≡ None → ⊥
-next_over budget f v same over offset size told none =
-    let refused : HasBudgetCause {T = Bool} (Err (Budget offset size)) v = subst (λ (g : ToolFault). HasBudgetCause {T = Bool} (Err g) v) told over in
-    let never : IsTrue false = rw (same, none) at refused.passes in
-    cc never
+-- and told so by a call that opened it
+pub ended_over : (plain : PlainLimits) (limits : Limits) (F : List ℕ) (choice : Choice) (most : Option ℕ) (v : ListerState) (offset size : ℕ) → AreGiven plain limits → v.counts.budget ≡ limits.budget
+    → v.rooms.window ≡ limits.window → v.limit ≡ limits.name → v.source.size ≡ length F → IsEndedAt v most offset size → ReachesLimit plain F choice most (budget_fault offset size)
+ended_over plain limits F choice most v offset size given budget window limit sized ended =
+    budget_passed plain limits F choice most ended.read offset size v.source.size given (subst (λ (b : Option ℕ). KeepsTo b ended.read) budget ended.kept)
+    (subst (λ (b : Option ℕ). IsTrue (is_passed b (ended.read + size))) budget ended.passes) ended.bound ended.inside sized
+    (subst (λ n. size ≤ n) (ap (λ n. max n v.limit) window ∙ ap (max limits.window) limit) ended.few)
 
 -- what was not obtained of a good store, the budget did not allow
 pub is_budget : (kind : FaultKind) → (IsOfStore kind → ⊥) → IsUnobtained kind → kind ≡ kinds.Budget
@@ -80,9 +208,75 @@ is_budget kinds.Budget never unobtained = refl
 is_budget (kinds.Source fault) never unobtained = absurd (never tt)
 is_budget kind never unobtained = absurd unobtained
 
--- and by the limit of what is read aside
-pub next_aside : (aside : Option ℕ) (f : ToolFault) (v : ListerState) → HasAsideCause {T = Bool} aside (Err f) v → (offset size : ℕ) → f ≡ AsideLimit offset size → aside ≡ None → ⊥
-next_aside aside f v over offset size told none =
-    let cause : HasAsideCause {T = Bool} aside (Err (AsideLimit offset size)) v = subst (λ (g : ToolFault). HasAsideCause {T = Bool} aside (Err g) v) told over in
-    let open_end : is_within aside (v.counts.aside.bytes + size) ≡ true = rw none refl in
-    cc
+-- ---- texts
+
+-- the lines of a listing ended by a limit
+pub text_over : (old v : ListerState) (aside : Option ℕ) (c : Counts) (f : ToolFault) → IsSameRun old v → v.source.size ≡ old.source.size → c ≡ numbers_of v → AreHeld v c → AreSpent v c
+    → HasBudgetCause {T = Bool} (Err f) v → KeepsAside {T = Bool} aside (Err f) v → IsTextLimit f → EndsTextAt old aside f
+text_over old v aside c (Budget offset size) same sized is held spent over kept told =
+    let ended = ended_before old v _ offset size same.budget same.rooms same.limit sized (ended_by v c offset size is held spent over) in
+    ended_as old _ None offset size ended tt
+text_over old v aside c (AsideLimit offset size) same sized is held spent over kept told = record {
+  read = v.counts.aside.bytes;
+  kept = kept.kept;
+  passes = kept.over.0;
+  inside = rw sized at kept.over.1.0;
+  few = rw same.limit at kept.over.1.1;
+}
+text_over old v aside c f same sized is held spent over kept told = absurd told
+
+-- bytes that pass the limit of what is read of CodeView records, and others that do not
+aside_passed : (n read total : ℕ) (aside : Option ℕ) → aside ≡ limit_of n → is_within aside read ≡ true → is_within aside total ≡ false → IsLimit n × ((read ≤ n) × (n < total))
+aside_passed n read total aside is keeps passes = by (n == 2 ^ 64 - 1) refl where
+  none_passed : aside ≡ None → ⊥
+  none_passed none = let open_end : is_within aside total ≡ true = rw none refl in cc
+
+  by : (test : Bool) → (n == 2 ^ 64 - 1) ≡ test → IsLimit n × ((read ≤ n) × (n < total))
+  by true same = absurd (none_passed (is ∙ ap (λ (b : Bool). if b then None else Some n) same))
+  by false same =
+      let some : aside ≡ Some n = is ∙ ap (λ (b : Bool). if b then None else Some n) same in
+      let keep : nat_le read n ≡ true = rw some at keeps in
+      let pass : nat_le total n ≡ false = rw some at passes in
+      (is_limit n aside is none_passed, (grind (arith, nat_tests, keep), grind (arith, nat_tests, pass)))
+
+-- and it is told so
+pub text_ended : (plain : PlainLimits) (limits : Limits) (F : List ℕ) (v : ListerState) → AreGiven plain limits → v.counts.budget ≡ limits.budget → v.rooms.window ≡ limits.window
+    → v.limit ≡ limits.name → v.source.size ≡ length F → (f : ToolFault) → EndsTextAt v limits.aside f → EndsText plain F (list_answer (Err f))
+text_ended plain limits F v given budget window limit size (Budget offset len) ended = ends_text (ended_over plain limits F All None v offset len given budget window limit size ended)
+text_ended plain limits F v given budget window limit size (AsideLimit offset len) ended =
+    let over = aside_passed plain.aside ended.read (ended.read + len) limits.aside given.aside ended.kept ended.passes in
+    ends_aside over.0 offset len refl
+    record {
+      read = ended.read;
+      kept = over.1.0;
+      passes = over.1.1;
+      inside = rw size at ended.inside;
+      few = rw (limit, given.name) at ended.few;
+    }
+text_ended plain limits F v given budget window limit size f ended = absurd ended
+
+-- ---- a check
+
+-- with nothing held beside it a lister has all the memory
+leaving_none : (limits : Limits) → leaving 0 limits ≡ limits
+leaving_none limits = λ i. record limits { memory = by limits.memory i } where
+  by : (memory : Option ℕ) → option_map (λ most. most - 0) memory ≡ memory
+  by None = refl
+  by (Some most) = ap Some (let same : most - 0 ≡ most = omega arith in same)
+
+pub check_over : (plain : PlainLimits) (limits : Limits) (F : List ℕ) (old new : SourceState) (answer : Result ℕ ToolFault) → AreGiven plain limits → old.store.content ≡ Some F → old.size ≡ length F
+    → old.size < 2 ^ 64 → new.size ≡ old.size → IsReadThrough (check_access limits) old answer new → IsLimited answer → ReachesLimit plain F All None (check_answer answer)
+check_over plain limits F old new (Err (Budget at len)) given known size small same (IsReadThrough.listed run) told =
+    let ended = ended_by run.lister (numbers_of run.lister) at len refl run.held run.spent run.over in
+    ended_over plain limits F All None run.lister at len given run.budget run.window run.limit (ap (λ (s : SourceState). s.size) run.source ∙ same ∙ size) (ended_as run.lister _ None at len ended tt)
+check_over plain limits F old new (Err (Budget at len)) given known size small same (IsReadThrough.refused asked early kept memory fetches inside) told =
+    opening_passed plain limits F All None old at len new given known size small tt kept
+check_over plain limits F old new (Err (MemoryLimit held)) given known size small same (IsReadThrough.listed run) told = absurd run.within
+check_over plain limits F old new (Err (MemoryLimit held)) given known size small same (IsReadThrough.refused asked early kept memory fetches inside) told =
+    let exact : memory.listed ≡ held = let sum : held ≡ memory.listed + 0 = memory.held_is in omega (arith, sum) in
+    let of : opening_fault_within limits F All ≡ Some (opening.MemoryLimit memory.listed) = subst (λ (l : Limits). opening_fault_within l F All ≡ Some (opening.MemoryLimit memory.listed)) (leaving_none limits) (memory.of_file F known) in
+    reaches_memory (is_limit plain.memory limits.memory given.memory (λ none. let over = memory.over in let open_end : is_within limits.memory held ≡ true = rw none refl in cc)) held refl limits given
+    (of ∙ ap (λ n. Some (opening.MemoryLimit n)) exact)
+check_over plain limits F old new (Err (AsideLimit at len)) given known size small same (IsReadThrough.listed run) told = let over = run.aside_kept.over.0 in absurd (cc)
+check_over plain limits F old new (Err (AsideLimit at len)) given known size small same (IsReadThrough.refused asked early kept memory fetches inside) told = absurd early
+check_over plain limits F old new answer given known size small same through told = absurd told

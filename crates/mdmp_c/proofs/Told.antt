@@ -42,6 +42,12 @@ IsLimited (Err (tool.MemoryLimit held)) = Unit {0}
 IsLimited (Err (tool.AsideLimit offset size)) = Unit {0}
 IsLimited answer = ⊥
 
+-- a fault of a limit that ends a text
+abbrev pub IsTextLimit : ToolFault → Type 0
+IsTextLimit (tool.Budget offset size) = Unit {0}
+IsTextLimit (tool.AsideLimit offset size) = Unit {0}
+IsTextLimit fault = ⊥
+
 -- of a check
 pub IsCheck-told : (form : LineForm) (F : List ℕ) (limit : ℕ) (MayTell : PlainFault → Type 0) (before after : OutState) (text : List ℕ) (answer : Result ℕ ToolFault) → before.taken ≡ Some [] → after.taken ≡ Some text
     → IsNoSourceFault answer → (IsLimited answer → MayTell (check_answer answer)) → Checks form F limit before answer after

@@ -1,11 +1,21 @@
--- Which limits are good.
-use Rattle.std.specs.Prelude.{◌≡◌, ◌≤◌, ◌==◌, ◌-◌, ◌^◌, ℕ, Option, Some, None, if◌then◌else◌}
+-- Which limits are good, and when a call says that one was reached.
+use Rattle.std.specs.Prelude.{◌≡◌, ◌≤◌, ◌<◌, ◌+◌, ◌==◌, ◌-◌, ◌^◌, ℕ, IfSome, List, length, max, Option, Some, None, if◌then◌else◌}
+use Rattle.mdmp_source.specs.Range.{IsInside}
 use Rattle.mdmp_c.specs.declared.fault.PlainFault.{PlainFault}
 use Rattle.mdmp_c.specs.Fault.{aside_fault, budget_fault, wide_fault}
 use Rattle.mdmp_c.specs.declared.limits.PlainLimits.{PlainLimits}
+use Rattle.mdmp_lister.specs.declared.choice.Choice.{Choice}
+use Rattle.mdmp_lister.specs.declared.choice.Choice.TheVariants.{All}
+use Rattle.mdmp_lister.specs.declared.fault.OpenFault.TheVariants.{MemoryLimit}
 use Rattle.mdmp_lister.specs.declared.limits.Limits.{Limits}
+use Rattle.mdmp_lister.specs.Check.{items_of, names_judged}
+use Rattle.mdmp_lister.specs.Format.Bounds.{fetch_bound}
 use Rattle.mdmp_lister.specs.Format.Kind.{greatest_record}
+use Rattle.mdmp_lister.specs.Format.Listing.{chosen, entry_count, listing, verdicts}
+use Rattle.mdmp_lister.specs.Format.Numbers.{listed_bytes}
 use Rattle.mdmp_lister.specs.Limits.{most_bytes}
+use Rattle.mdmp_lister.specs.Memory.{opening_fault_within}
+use Rattle.mdmp_lister.specs.Sink.{names_of_all}
 
 -- a window of at least the greatest record, neither it nor a name of more than 2^30 bytes
 abbrev pub AreLimits : PlainLimits → Type 0
@@ -32,8 +42,57 @@ abbrev pub IsLimits : PlainLimits → Option Limits → Type 0
 IsLimits plain (Some limits) = AreGiven plain limits
 IsLimits plain None = AreLimits plain → ⊥
 
--- a limit is told that was reached, and there is one
-pub data ReachesLimit (limits : PlainLimits) (told : PlainFault) : Type 0 where
-  reaches_budget : IsLimit limits.budget → (offset size : ℕ) → told ≡ budget_fault offset size → ReachesLimit limits told
-  reaches_memory : IsLimit limits.memory → (held : ℕ) → told ≡ wide_fault 72 held → ReachesLimit limits told
-  reaches_aside : IsLimit limits.aside → (offset size : ℕ) → told ≡ aside_fault offset size → ReachesLimit limits told
+-- ---- what a call reads at most
+
+-- the bytes of F that are read at most for the listing of these entries, if so many names are read, and one more that may be at hand
+abbrev pub most_read : List ℕ → Choice → ℕ → ℕ → ℕ
+most_read F choice limit names = fetch_bound limit (entry_count F) (listed_bytes F choice) (names + 1)
+
+-- how many names the listing of these entries reads
+abbrev pub names_listed : List ℕ → Choice → ℕ → ℕ
+names_listed F choice limit = names_of_all (listing F choice limit).items
+
+-- and how many their check reads, which goes on after a fault
+abbrev pub names_checked : List ℕ → Choice → ℕ → ℕ
+names_checked F choice limit = names_judged (items_of F limit (chosen F choice)) (verdicts F choice limit)
+
+-- ---- limits that were reached
+
+-- a call did not read these bytes of F: with them it would have read more than the budget, without them it has not. They lie inside F,
+-- and are at most as many as the window or a name may have. A call that reads at most so many bytes does so only below that budget.
+pub record PassesBudget (limits : PlainLimits) (F : List ℕ) (most : Option ℕ) (offset size : ℕ) : Type 0 where
+  pub read : ℕ
+  pub kept : read ≤ limits.budget
+  pub passes : limits.budget < read + size
+  pub bound : IfSome most (λ n. read + size ≤ n)
+  pub inside : IsInside offset size (length F)
+  pub few : size ≤ max limits.window limits.name
+
+-- a call did not read the CodeView record at this place of F: with it, it might have read more bytes of such records than the limit,
+-- without it, it has not
+pub record PassesAside (limits : PlainLimits) (F : List ℕ) (offset size : ℕ) : Type 0 where
+  pub read : ℕ
+  pub kept : read ≤ limits.aside
+  pub passes : limits.aside < read + size
+  pub inside : IsInside offset size (length F)
+  pub few : size ≤ 24 + limits.name
+
+-- a call over these entries of F says that a limit was reached, and there is one: the budget, or that of memory, which is the first
+-- that keeps F from being opened
+pub data ReachesLimit (limits : PlainLimits) (F : List ℕ) (choice : Choice) (most : Option ℕ) (told : PlainFault) : Type 0 where
+  reaches_budget : IsLimit limits.budget → (offset size : ℕ) → told ≡ budget_fault offset size → PassesBudget limits F most offset size → ReachesLimit limits F choice most told
+  reaches_memory : IsLimit limits.memory → (held : ℕ) → told ≡ wide_fault 72 held → (given : Limits) → AreGiven limits given
+      → opening_fault_within given F choice ≡ Some (MemoryLimit held) → ReachesLimit limits F choice most told
+
+-- a call that lists these entries
+abbrev pub EndsListing : PlainLimits → List ℕ → Choice → PlainFault → Type 0
+EndsListing limits F choice = ReachesLimit limits F choice (Some (most_read F choice limits.name (names_listed F choice limits.name)))
+
+-- a call that checks all entries
+abbrev pub EndsChecking : PlainLimits → List ℕ → PlainFault → Type 0
+EndsChecking limits F = ReachesLimit limits F All (Some (most_read F All limits.name (names_checked F All limits.name)))
+
+-- a call that gives the text of a list, which also reads CodeView records
+pub data EndsText (limits : PlainLimits) (F : List ℕ) (told : PlainFault) : Type 0 where
+  ends_text : ReachesLimit limits F All None told → EndsText limits F told
+  ends_aside : IsLimit limits.aside → (offset size : ℕ) → told ≡ aside_fault offset size → PassesAside limits F offset size → EndsText limits F told

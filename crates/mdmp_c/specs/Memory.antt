@@ -4,7 +4,7 @@ use Rattle.mdmp_c.specs.declared.fault.PlainFault.{PlainFault}
 use Rattle.mdmp_c.specs.declared.limits.PlainLimits.{PlainLimits}
 use Rattle.mdmp_c.specs.Fault.{list_told, no_fault, no_memory, of_kind, told_unless}
 use Rattle.mdmp_c.specs.Giving.{bad_limits}
-use Rattle.mdmp_c.specs.Limits.{AreLimits, ReachesLimit}
+use Rattle.mdmp_c.specs.Limits.{AreLimits, EndsListing}
 use Rattle.mdmp_lister.specs.Addressing.{ReadsCells}
 use Rattle.mdmp_lister.specs.Format.Listing.{listing, memory_lists}
 use Rattle.mdmp_lister.specs.Format.Ranges.{ranges_of}
@@ -60,7 +60,7 @@ pub data ReadsMemory (F : List ℕ) (limits : PlainLimits) (address status : ℕ
       → ReadsMemory F limits address status fault out_before out_after known_before known_after
   wants : AreLimits limits → length out_before ≡ length known_before → GivesNoBytes status 3 no_memory fault out_before out_after known_before known_after
       → ReadsMemory F limits address status fault out_before out_after known_before known_after
-  stops : AreLimits limits → (told : PlainFault) → ReachesLimit limits told → length out_before ≡ length known_before
+  stops : AreLimits limits → (told : PlainFault) → EndsListing limits F memory_lists told → length out_before ≡ length known_before
       → GivesNoBytes status 5 told fault out_before out_after known_before known_after
       → ReadsMemory F limits address status fault out_before out_after known_before known_after
   differ : (length out_before ≡ length known_before → ⊥) → GivesNoBytes status 2 lengths_differ fault out_before out_after known_before known_after

@@ -1,5 +1,6 @@
 -- What the calls give that give an array.
-use Rattle.std.specs.Prelude.{◌≡◌, ◌++◌, ℕ, List, [], Option, Some, None, filter_map, length}
+use Rattle.std.specs.Prelude.{◌≡◌, ◌≤◌, ◌+◌, ◌++◌, ℕ, IfSome, IsTrue, List, [], Option, Some, None, filter_map, length, max}
+use Rattle.mdmp_source.specs.Range.{IsInside}
 use Rattle.mdmp_c.specs.declared.fault.PlainFault.{PlainFault}
 use Rattle.mdmp_c.specs.Fault.{list_told, told_unless}
 use Rattle.mdmp_c.specs.Giving.{put_front, told_count}
@@ -10,6 +11,8 @@ use Rattle.mdmp_lister.specs.declared.fault.OpenFault.{OpenFault}
 use Rattle.mdmp_lister.specs.declared.item.Item.{Item}
 use Rattle.mdmp_lister.specs.Format.Listing.{Run, listing}
 use Rattle.mdmp_lister.specs.Format.Refusal.{opening_fault}
+use Rattle.mdmp_lister.specs.Lister.{ListerState}
+use Rattle.mdmp_lister.specs.Meter.{KeepsTo, is_passed}
 
 -- rows of a file that can be listed: a refused one has none
 abbrev pub rows_unless : {T : Type 0} → Option OpenFault → List T → List T
@@ -26,16 +29,30 @@ pub record PutsRows {T : Type 0} (row : Item → Option T) (items : List Item) (
   pub count_is : count ≡ told_count (length (filter_map row items))
   pub out : after ≡ put_front (filter_map row items) before
 
--- the first of all that there are were given, and then the budget was reached
-pub record IsCutShort {T : Type 0} (budget : Option ℕ) (all given : List T) (fault : Option ListFault) : Type 0 where
-  pub can_stop : budget ≡ None → ⊥
+-- a lister v did not read these bytes, since with them it would have read more than its budget; without them it has not. With them it
+-- would have read at most so many bytes, if that is said
+pub record IsEndedAt (v : ListerState) (most : Option ℕ) (offset size : ℕ) : Type 0 where
+  pub read : ℕ
+  pub kept : KeepsTo v.counts.budget read
+  pub passes : IsTrue (is_passed v.counts.budget (read + size))
+  pub bound : IfSome most (λ n. read + size ≤ n)
+  pub inside : IsInside offset size v.source.size
+  pub few : size ≤ max v.rooms.window v.limit
+
+-- the same of a fault of its listing
+abbrev pub EndsAt : ListerState → ℕ → ListFault → Type 0
+EndsAt v most f = IsEndedAt v (Some most) f.offset f.size
+
+-- the first of all that there are were given, and then the budget was reached, at a fault that may be told so
+pub record IsCutShort {T : Type 0} (MayEnd : ListFault → Type 0) (all given : List T) (fault : Option ListFault) : Type 0 where
   pub rest : List T
   pub first : all ≡ given ++ rest
   pub told : ListFault
   pub told_is : fault ≡ Some told
   pub kind : told.kind ≡ kinds.Budget
+  pub reached : MayEnd told
 
 -- the rows of a run were put there up to its fault or none, or those of its first items up to where the budget was reached
-pub data Collects {T : Type 0} (row : Item → Option T) (budget : Option ℕ) (run : Run) (count : ℕ) (fault : Option ListFault) (before after : List T) : Type 0 where
-  collects_all : fault ≡ run.fault → PutsRows row run.items count before after → Collects row budget run count fault before after
-  collects_some : (given : List Item) → IsCutShort budget run.items given fault → PutsRows row given count before after → Collects row budget run count fault before after
+pub data Collects {T : Type 0} (row : Item → Option T) (MayEnd : ListFault → Type 0) (run : Run) (count : ℕ) (fault : Option ListFault) (before after : List T) : Type 0 where
+  collects_all : fault ≡ run.fault → PutsRows row run.items count before after → Collects row MayEnd run count fault before after
+  collects_some : (given : List Item) → IsCutShort MayEnd run.items given fault → PutsRows row given count before after → Collects row MayEnd run count fault before after

@@ -1,11 +1,15 @@
 -- Parts of a text.
-use Rattle.std.specs.Prelude.{◌≡◌, ◌-◌, ◌++◌, ℕ, Bool, List, Option, Some, None, Result, Ok, Err, drop, length, take}
+use Rattle.std.specs.Prelude.{◌≡◌, ◌≤◌, ◌+◌, ◌-◌, ◌++◌, ℕ, Bool, true, false, List, Option, Some, None, Result, Ok, Err, drop, length, take}
+use Rattle.mdmp_source.specs.Range.{IsInside}
 use Rattle.mdmp_c.specs.declared.fault.PlainFault.{PlainFault}
 use Rattle.mdmp_c.specs.Fault.{list_told, told_unless}
 use Rattle.mdmp_c.specs.Giving.{told_count}
+use Rattle.mdmp_c.specs.Table.{IsEndedAt}
 use Rattle.mdmp_lister.specs.declared.choice.Choice.TheVariants.{All}
 use Rattle.mdmp_lister.specs.Format.Listing.{Run, listing}
 use Rattle.mdmp_lister.specs.Format.Refusal.{opening_fault}
+use Rattle.mdmp_lister.specs.Lister.{ListerState}
+use Rattle.mdmp_lister.specs.Memory.{is_within}
 use Rattle.mdmp_tool.specs.declared.fault.ToolFault.{ToolFault}
 use Rattle.mdmp_tool.specs.declared.fault.ToolFault.TheVariants.{List as BadList, Budget, AsideLimit, Memory, Out}
 use Rattle.mdmp_tool.specs.Text.{list_text}
@@ -24,23 +28,38 @@ pub record IsPartOf (skip room : ℕ) (text : List ℕ) (left space size : ℕ) 
   pub size_is : size ≡ told_count (length (drop skip text))
   pub kept_is : kept ≡ take room (drop skip text)
 
--- the first bytes of a text were put somewhere, and then a limit was reached
-pub record PutsFirst (IsPut : List ℕ → Type 0) (limit : Option ℕ) (text : List ℕ) : Type 0 where
-  pub can_stop : limit ≡ None → ⊥
+-- a lister v did not read the CodeView record at this place, since with it it might have read more bytes of such records than the limit;
+-- without it, it has not
+pub record IsAsideEnd (v : ListerState) (aside : Option ℕ) (offset size : ℕ) : Type 0 where
+  pub read : ℕ
+  pub kept : is_within aside read ≡ true
+  pub passes : is_within aside (read + size) ≡ false
+  pub inside : IsInside offset size v.source.size
+  pub few : size ≤ 24 + v.limit
+
+-- a lister v reached its budget, or this limit of what is read of CodeView records, at this fault
+abbrev pub EndsTextAt : ListerState → Option ℕ → ToolFault → Type 0
+EndsTextAt v aside (Budget offset size) = IsEndedAt v None offset size
+EndsTextAt v aside (AsideLimit offset size) = IsAsideEnd v aside offset size
+EndsTextAt v aside fault = ⊥
+
+-- the first bytes of a text were put somewhere, and then a limit was reached so
+pub record PutsFirst (IsPut : List ℕ → Type 0) (reached : Type 0) (text : List ℕ) : Type 0 where
+  pub limit : reached
   pub given : List ℕ
   pub rest : List ℕ
   pub begins : text ≡ given ++ rest
   pub put : IsPut given
 
 -- the text of a run was put somewhere, up to its fault or none, or up to where a limit was reached; or memory ran out
-abbrev pub PutsRun : (List ℕ → Type 0) → Option ℕ → Option ℕ → List ℕ → Run → Result (Unit {0}) ToolFault → Type 0
-PutsRun IsPut budget aside text run (Ok x) = (run.fault ≡ None) × IsPut text
-PutsRun IsPut budget aside text run (Err (BadList fault)) = (run.fault ≡ Some fault) × IsPut text
-PutsRun IsPut budget aside text run (Err (Budget offset size)) = PutsFirst IsPut budget text
-PutsRun IsPut budget aside text run (Err (AsideLimit offset size)) = PutsFirst IsPut aside text
-PutsRun IsPut budget aside text run (Err Out) = Unit {0}
-PutsRun IsPut budget aside text run (Err Memory) = Unit {0}
-PutsRun IsPut budget aside text run (Err fault) = ⊥
+abbrev pub PutsRun : (List ℕ → Type 0) → (ToolFault → Type 0) → List ℕ → Run → Result (Unit {0}) ToolFault → Type 0
+PutsRun IsPut MayEnd text run (Ok x) = (run.fault ≡ None) × IsPut text
+PutsRun IsPut MayEnd text run (Err (BadList fault)) = (run.fault ≡ Some fault) × IsPut text
+PutsRun IsPut MayEnd text run (Err (Budget offset size)) = PutsFirst IsPut (MayEnd (Budget offset size)) text
+PutsRun IsPut MayEnd text run (Err (AsideLimit offset size)) = PutsFirst IsPut (MayEnd (AsideLimit offset size)) text
+PutsRun IsPut MayEnd text run (Err Out) = Unit {0}
+PutsRun IsPut MayEnd text run (Err Memory) = Unit {0}
+PutsRun IsPut MayEnd text run (Err fault) = ⊥
 
 -- a text was put somewhere, and it ends at this fault; or memory ran out
 pub data EndsAt (IsPut : List ℕ → Type 0) (text : List ℕ) (fault : ToolFault) (result : Result (Unit {0}) ToolFault) : Type 0 where

@@ -47,7 +47,7 @@ pub record PutsVerdicts (vs : List Verdict) (judged : Judged) (before after : Li
   pub out : after ≡ put_front (map verdict_row vs) before
 
 -- the verdicts on the chosen entries of F were put there, or the first of them, up to where the budget was reached
-pub data Judges (F : List ℕ) (choice : Choice) (limit : ℕ) (budget : Option ℕ) (judged : Judged) (before after : List PlainFault) : Type 0 where
-  judges_all : judged.fault ≡ None → PutsVerdicts (verdicts F choice limit) judged before after → Judges F choice limit budget judged before after
-  judges_some : (vs : List Verdict) → IsCutShort budget (verdicts F choice limit) vs judged.fault → PutsVerdicts vs judged before after
-      → Judges F choice limit budget judged before after
+pub data Judges (F : List ℕ) (choice : Choice) (limit : ℕ) (MayEnd : ListFault → Type 0) (judged : Judged) (before after : List PlainFault) : Type 0 where
+  judges_all : judged.fault ≡ None → PutsVerdicts (verdicts F choice limit) judged before after → Judges F choice limit MayEnd judged before after
+  judges_some : (vs : List Verdict) → IsCutShort MayEnd (verdicts F choice limit) vs judged.fault → PutsVerdicts vs judged before after
+      → Judges F choice limit MayEnd judged before after

@@ -1,8 +1,10 @@
 //! The rows of a listing, put into an array.
-ghost use Rattle.std.specs.Prelude.{◌≡◌, ◌∷◌, ◌++◌, [], None, Some, ℕ, List, length};
+ghost use Rattle.std.specs.Prelude.{◌≡◌, ◌+◌, ◌∷◌, ◌++◌, [], None, Some, ℕ, List, length};
 ghost use Rattle.mdmp_c.specs.Giving.{put_front, told_count};
-ghost use Rattle.mdmp_c.specs.Table.{Collects};
+ghost use Rattle.mdmp_c.specs.Limits.{most_read};
+ghost use Rattle.mdmp_c.specs.Table.{Collects, EndsAt};
 ghost use Rattle.mdmp_lister.specs.Format.Listing.{Run};
+ghost use Rattle.mdmp_lister.specs.Sink.{names_of_all};
 ghost use Rattle.mdmp_source.specs.Store.{IsGood};
 
 use crate::rows::PlainRow;
@@ -22,8 +24,10 @@ pub(crate) fn collect<T: PlainRow, S: Store + Drop, A: Allocator + Copy>(
     lister: &mut Lister<S, A>,
     out: &mut [T],
 ) -> Collected
+    requires going { lister.old.stop ≡ None }
     ensures { (file : List ℕ) → IsGood lister.old.source.store file → (left : Run) → lister.old.left ≡ Some left
-        → Collects T.row_of lister.old.counts.budget left result.count result.fault out.old out.new }
+        → Collects T.row_of (EndsAt lister.old (most_read file lister.old.choice lister.old.limit (lister.old.counts.names + names_of_all left.items)))
+        left result.count result.fault out.old out.new }
 {
     let mut count = 0u64;
     loop {
@@ -36,6 +40,8 @@ pub(crate) fn collect<T: PlainRow, S: Store + Drop, A: Allocator + Copy>(
                 }
             }
             Err(fault) => {
+                // The proof learns here within which bounds the lister stayed.
+                let _counts = lister.counts();
                 return Collected {
                     count,
                     fault: Some(fault),

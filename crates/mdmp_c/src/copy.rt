@@ -12,7 +12,8 @@ use mdmp_source::{MemoryStore, WriteOut};
 use mdmp_tool::run_copy;
 use std::alloc::Global;
 
-/// Gives the bytes of a new file, with the streams of these types, 1 to 16 of them.
+/// Gives the bytes of a new file, with the streams of these types, 1 to 16 of them. If a limit is reached,
+/// it gives nothing.
 #[unsafe(no_mangle)]
 pub extern "C" fn mdmp_copy_(
     alloc: Global,

@@ -10,8 +10,8 @@ use crate::giving::{TOO_SHORT, refuse};
 use crate::header_rows::{HeaderRow, StreamRow, fill_streams, header_row};
 use mdmp_lister::header_of;
 
-/// Gives the header of a file. Neither its checksum is checked nor what its entries name. Memory is not
-/// taken.
+/// Gives the header of a file. It checks neither the checksum nor what the entries name, and allocates
+/// nothing.
 #[unsafe(no_mangle)]
 pub extern "C" fn mdmp_header_(file: &[u8], out: &mut HeaderRow, fault: &mut PlainFault) -> u32
     ensures { GivesHeader file.now result fault.new out.old out.new }
@@ -29,8 +29,8 @@ pub extern "C" fn mdmp_header_(file: &[u8], out: &mut HeaderRow, fault: &mut Pla
     }
 }
 
-/// Gives the entries of the directory as they stand there: as many as `out` has room for, and in `count`
-/// how many there are. What they name is not looked at. Memory is not taken.
+/// Gives the entries of the directory as they are in the file: as many as `out` has room for, and in `count`
+/// how many there are. It does not look at what they name, and allocates nothing.
 #[unsafe(no_mangle)]
 pub extern "C" fn mdmp_streams_(
     file: &[u8],

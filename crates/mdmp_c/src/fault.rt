@@ -5,7 +5,7 @@ ghost use Rattle.mdmp_c.specs.Fault.{budget_fault, kind_number, plain_list_fault
 use mdmp_lister::{FaultKind, ListFault, OpenFault};
 use std::mem::size_of;
 
-/// What is wrong, and where. A number that its kind says nothing of is 0.
+/// What is wrong, and at which bytes of the file. A number that the kind does not use is 0.
 #[repr(C)]
 #[derive(Clone, Copy, Debug, PartialEq, Eq)]
 pub struct PlainFault {
@@ -13,17 +13,17 @@ pub struct PlainFault {
     pub kind: u32,
     /// The number of the entry in the directory, from 0.
     pub entry: u32,
-    /// The index of the item in its stream, from 0, where `has_index` is 1.
+    /// The index of the item in its stream, from 0, if `has_index` is 1.
     pub index: u64,
     /// An offset from the start of the file, in bytes: its low 64 bits.
     pub offset: u64,
-    /// A number of bytes, or the number that the kind says: its low 64 bits.
+    /// A number of bytes, or the number that the kind names: its low 64 bits.
     pub size: u64,
     /// The high 64 bits of the one number that may be so great.
     pub high: u64,
     /// Which part of the item, from 1: stack, context, CodeView, miscellaneous, memory.
     pub part: u32,
-    /// 1 where the fault is of one item, 0 where it is of a whole entry.
+    /// 1 if the error is in one item, 0 if it is in a whole entry.
     pub has_index: u32,
     /// Zeros.
     pub reserved: [u32; 4],

@@ -9,8 +9,8 @@ use crate::fault::PlainFault;
 use crate::wording::give_words;
 use std::alloc::Global;
 
-/// Gives the words of a fault, those that the command tells it by, without `mdmp: ` before them or a line
-/// feed behind: nothing of no fault. A fault that no call tells is a bad argument.
+/// Gives the message of an error, as the command prints it, without `mdmp: ` before it or a line feed after
+/// it. The message of no error is empty. An error that no call reports is a bad argument.
 #[unsafe(no_mangle)]
 pub extern "C" fn mdmp_fault_text_(
     alloc: Global,

@@ -40,7 +40,7 @@ const _: () = prove!(size_of::<HeaderRow>() == 40);
 pub struct StreamRow {
     /// The number of the entry in the directory, from 0.
     pub entry: u32,
-    /// `StreamType`, 0 where the entry is unused.
+    /// `StreamType`, 0 if the entry is unused.
     pub stream_type: u32,
     /// `Location.DataSize`, in bytes.
     pub size: u32,

@@ -85,10 +85,10 @@ fn give_index<R: Ranges>(
     0
 }
 
-/// Gives an index of ranges that [`mdmp_ranges_`](crate::mdmp_ranges_) gave. Those whose bytes do not lie inside
-/// the file are passed over. A slot's owner is the number of a row.
+/// Gives an index of ranges that [`mdmp_ranges_`](crate::mdmp_ranges_) gave. It skips ranges whose bytes do not lie
+/// inside the file. A slot's owner is the number of a row.
 ///
-/// Memory is not taken. A room for two slots for each row is enough; with less nothing is given.
+/// It allocates nothing. If `out` has room for two slots for each row, that is enough; with less room nothing is given.
 #[unsafe(no_mangle)]
 pub extern "C" fn mdmp_index_(
     file: &[u8],
@@ -123,7 +123,7 @@ pub extern "C" fn mdmp_index_modules_(
 /// Gives the memory of the dumped process from an address on, by an index that [`mdmp_index_`] gave: what
 /// [`mdmp_read_`](crate::mdmp_read_) gives by its rows. Slots that are no index give bytes of the file, or none.
 ///
-/// Memory is not taken.
+/// It allocates nothing.
 #[unsafe(no_mangle)]
 pub extern "C" fn mdmp_read_index_(
     file: &[u8],
@@ -144,7 +144,7 @@ pub extern "C" fn mdmp_read_index_(
     0
 }
 
-/// Tells the owner of an address in an index: the number of the first row that holds it, or [`NO_OWNER`] if none
+/// Gives the owner of an address in an index: the number of the first row that holds it, or [`NO_OWNER`] if none
 /// does.
 #[unsafe(no_mangle)]
 pub extern "C" fn mdmp_where_(slots: &[IndexSlot], address: u64, owner: &mut u64) -> u32

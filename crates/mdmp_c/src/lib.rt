@@ -1,16 +1,16 @@
 //! The calls of `mdmp` for programs in other languages: `include/mdmp.h` declares them for C.
 //!
-//! Each call reads a file that stands wholly in the caller's memory, and writes what it has to say into
-//! memory of the caller's: a text, an array of plain structures, bytes. No call keeps anything, so any
-//! number of them may run at once over the same file. What a call takes from the allocator is given back
-//! before it returns.
+//! Each call reads a file that is in the caller's memory, and writes its result into memory of the
+//! caller: a text, an array of plain structures, or bytes. No call keeps anything, so any number of calls
+//! may run at once over the same file. Before a call returns, it frees what it allocated.
 //!
 //! A call returns a status: 0 if all is good, 1 for an error in the file, 2 for a bad argument, 3 if memory ran out, 4 if the
-//! buffer is too short, 5 if a limit was reached. [`PlainFault`] says what is wrong, and where.
+//! buffer is too short, 5 if a limit was reached. [`PlainFault`] says what is wrong, and at which bytes.
 //! [`PlainLimits`] limit what is read at a time, what is read in all, and memory. If a limit is reached, the call gives what
-//! it read before.
-//! What a call gives is said by the definitions that the Rust calls have: of a text those of mdmp_tool,
-//! of a record the listing of mdmp_lister. `specs/Giving.antt` says how it reaches the caller.
+//! it read before, or nothing. `specs/Limits.antt` says when a call may say so.
+//!
+//! The contracts of these calls use the definitions of the Rust crates: those of mdmp_tool for a text, the listing of
+//! mdmp_lister for a record. `specs/Giving.antt` says how a result reaches the caller.
 #![tactic(auto)]
 
 ghost use Rattle.std.specs.Prelude.{◌≡◌};
@@ -30,6 +30,7 @@ mod memory;
 mod name;
 mod naming;
 mod parts;
+mod ranging;
 mod records;
 mod rows;
 mod symbols;
@@ -80,7 +81,7 @@ pub extern "C" fn mdmp_abi() -> u32
     ABI
 }
 
-/// Answers [`VERSION`].
+/// Returns [`VERSION`].
 #[unsafe(no_mangle)]
 pub extern "C" fn mdmp_version() -> u32
     ensures { result ≡ 256 }

@@ -5,7 +5,7 @@ ghost use Rattle.mdmp_c.specs.Limits.{IsLimits, limit_of};
 use mdmp_lister::Limits;
 use std::mem::size_of;
 
-/// How many bytes a call takes of the file's records at a time, and of a name; and its limits.
+/// The window and the longest name of a call, and what it may read and allocate.
 #[repr(C)]
 #[derive(Clone, Copy)]
 pub struct PlainLimits {
@@ -13,17 +13,17 @@ pub struct PlainLimits {
     pub window: u32,
     /// The longest name that is read, in bytes: at most 2^30.
     pub name: u32,
-    /// How many bytes may be fetched for the listing, or [`NO_LIMIT`].
+    /// How many bytes the call may read to list the file, or [`NO_LIMIT`].
     pub budget: u64,
-    /// How many bytes the lists of a call may take, or [`NO_LIMIT`].
+    /// How many bytes the lists of the call may take, or [`NO_LIMIT`].
     pub memory: u64,
-    /// How many bytes of CodeView records a list may read, or [`NO_LIMIT`].
+    /// How many bytes of CodeView records the call may read for a list, or [`NO_LIMIT`].
     pub aside: u64,
 }
 
 const _: () = prove!(size_of::<PlainLimits>() == 32);
 
-/// Stands in the place of a limit if there is none.
+/// What a limit is if there is none.
 pub const NO_LIMIT: u64 = u64::MAX;
 
 /// The limits that these numbers are, if they are good.

@@ -2,8 +2,8 @@
 ghost use Rattle.std.specs.Prelude.{◌≡◌, ◌++◌, None, Some, ℕ, List, true};
 ghost use Rattle.mdmp_c.specs.Giving.{Ends, bad_limits};
 ghost use Rattle.mdmp_lister.specs.Memory.{is_within};
-ghost use Rattle.mdmp_c.specs.Limits.{AreLimits, ReachesLimit};
-ghost use Rattle.mdmp_c.specs.TextPart.{EndsAt, IsListPart, IsPartOf, PutsRun};
+ghost use Rattle.mdmp_c.specs.Limits.{AreLimits, EndsText};
+ghost use Rattle.mdmp_c.specs.TextPart.{EndsAt, EndsTextAt, IsListPart, IsPartOf, PutsRun};
 ghost use Rattle.mdmp_lister.specs.Format.Listing.{Run};
 ghost use Rattle.mdmp_source.specs.Store.{IsGood};
 ghost use Rattle.mdmp_tool.specs.Forms.{dump_line_in};
@@ -20,8 +20,8 @@ use mdmp_source::{MemoryStore, OutFailed, Source, Store, WriteOut};
 use mdmp_tool::{LineForm, ToolFault, list_next, put_dump};
 use std::alloc::{AllocError, Allocator, Global};
 
-/// Gives what stands behind the first `skip` bytes of the text of `list`, as [`mdmp_list_`](crate::mdmp_list_)
-/// gives all of it: a long one is read in parts, without memory for the whole.
+/// Gives what follows the first `skip` bytes of the text of `list`, as [`mdmp_list_`](crate::mdmp_list_)
+/// gives all of it: so a caller can read a long text in parts, without memory for the whole.
 #[unsafe(no_mangle)]
 pub extern "C" fn mdmp_list_part_(
     alloc: Global,
@@ -33,7 +33,7 @@ pub extern "C" fn mdmp_list_part_(
     size: &mut u64,
     fault: &mut PlainFault,
 ) -> u32
-    ensures { Ends (IsListPart Text pdb skip file.now limits.now.name) (AreLimits limits.now) (ReachesLimit limits.now) bad_limits result size.new fault.new out.old out.new }
+    ensures { Ends (IsListPart Text pdb skip file.now limits.now.name) (AreLimits limits.now) (EndsText limits.now file.now) bad_limits result size.new fault.new out.old out.new }
 {
     give_list(
         alloc,
@@ -63,7 +63,7 @@ pub(crate) fn give_list(
     size: &mut u64,
     fault: &mut PlainFault,
 ) -> u32
-    ensures { Ends (IsListPart form pdb skip file.now limits.now.name) (AreLimits limits.now) (ReachesLimit limits.now) bad_limits result size.new fault.new out.old out.new }
+    ensures { Ends (IsListPart form pdb skip file.now limits.now.name) (AreLimits limits.now) (EndsText limits.now file.now) bad_limits result size.new fault.new out.old out.new }
 {
     let Some(limits) = limits_of(limits) else {
         return refuse(of_kind(67), size, fault);
@@ -91,7 +91,7 @@ fn put_list<S: Store + Drop, A: Allocator + Copy>(
     requires kept { is_within aside lister.old.counts.aside.bytes ≡ true }
     ensures { (file : List ℕ) → IsGood lister.old.source.store file → (left : Run) → lister.old.left ≡ Some left → (skip room : ℕ) (given : List ℕ)
         → IsPartOf skip room given part.old.skip part.old.room part.old.size part.old.kept.items
-        → PutsRun (λ text. IsPartOf skip room text part.new.skip part.new.room part.new.size part.new.kept.items) lister.old.counts.budget aside
+        → PutsRun (λ text. IsPartOf skip room text part.new.skip part.new.room part.new.size part.new.kept.items) (EndsTextAt lister.old aside)
         (given ++ (dump_line_in form lister.old.header ++ run_text form pdb file lister.old.limit left)) left result }
 {
     let mut line = WriteOut::new(Vec::new(alloc));
@@ -118,7 +118,7 @@ fn put_items<S: Store + Drop, A: Allocator + Copy>(
     requires kept { is_within aside lister.old.counts.aside.bytes ≡ true }
     ensures { (file : List ℕ) → IsGood lister.old.source.store file → (left : Run) → lister.old.left ≡ Some left → (skip room : ℕ) (given : List ℕ)
         → IsPartOf skip room given part.old.skip part.old.room part.old.size part.old.kept.items
-        → PutsRun (λ text. IsPartOf skip room text part.new.skip part.new.room part.new.size part.new.kept.items) lister.old.counts.budget aside
+        → PutsRun (λ text. IsPartOf skip room text part.new.skip part.new.room part.new.size part.new.kept.items) (EndsTextAt lister.old aside)
         (given ++ run_text form pdb file lister.old.limit left) left result }
 {
     let mut line = line;
@@ -129,7 +129,11 @@ fn put_items<S: Store + Drop, A: Allocator + Copy>(
             Ok(true) => {}
             Ok(false) => return Ok(()),
             // The line of a module is given, also if its CodeView record would pass the limit.
-            Err(fault) => return end_items(fault, lines.into_inner(), part),
+            Err(fault) => {
+                // The proof learns here that the lister stayed within its budget.
+                let _counts = lister.counts();
+                return end_items(fault, lines.into_inner(), part);
+            },
         }
         line = lines.into_inner();
         if let Err(AllocError) = part.take(&line) {

@@ -6,13 +6,15 @@ use crate::addressing::read_by;
 use crate::fault::{NO_FAULT, PlainFault, of_kind, open_fault, plain_list_fault, status_of};
 use crate::giving::refuse;
 use crate::limits::{PlainLimits, limits_of};
+use crate::ranging::list_ranges;
 use crate::rows::RangeRow;
 use mdmp_lister::{Choice, Lister};
 use mdmp_source::{MemoryStore, Source};
 use std::alloc::Global;
 
-/// Gives the memory of the dumped process from an address on. Where a range of the file's memory lists
-/// holds an address, its byte is put into `out`, and `known` is true there; else they are 0 and false.
+/// Gives the memory of the dumped process from an address on. If a range of the file's memory lists
+/// holds an address, its byte is put into `out`, and `known` is true for it; else they are 0 and false.
+/// If a memory list has an error or a limit is reached, neither buffer is touched.
 #[unsafe(no_mangle)]
 pub extern "C" fn mdmp_memory_(
     alloc: Global,
@@ -29,7 +31,7 @@ pub extern "C" fn mdmp_memory_(
     status_of(fault)
 }
 
-/// Puts memory of the dumped process into buffers, and tells what was wrong, or that nothing was.
+/// Puts memory of the dumped process into buffers, and returns what was wrong, or that nothing was.
 fn read_memory(
     alloc: Global,
     file: &[u8],
@@ -51,7 +53,7 @@ fn read_memory(
         Ok(lister) => lister,
         Err(refused) => return open_fault(refused.fault),
     };
-    match lister.list_ranges() {
+    match list_ranges(&mut lister) {
         Ok(()) => {}
         Err(found) => return plain_list_fault(found),
     }
@@ -63,9 +65,7 @@ fn read_memory(
 }
 
 /// Gives the memory of the dumped process from an address on, by ranges that [`mdmp_ranges_`](crate::mdmp_ranges_)
-/// gave. Those whose bytes do not lie inside the file are passed over.
-///
-/// Memory is not taken.
+/// gave. It skips ranges whose bytes do not lie inside the file, and allocates nothing.
 #[unsafe(no_mangle)]
 pub extern "C" fn mdmp_read_(
     file: &[u8],

@@ -9,7 +9,7 @@ use mdmp_lister::{Name, name_at};
 use std::alloc::Global;
 
 /// Gives the name at `rva`, an offset from the start of the file, as UTF-8, with U+FFFD for each
-/// surrogate without its other half. Where `rva` is 0 there is none, and the text is empty.
+/// surrogate without its other half. If `rva` is 0, there is no name, and the text is empty.
 #[unsafe(no_mangle)]
 pub extern "C" fn mdmp_name_(
     alloc: Global,

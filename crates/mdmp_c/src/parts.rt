@@ -8,7 +8,7 @@ use mdmp_lister::Name;
 use mdmp_source::{Extent, Location};
 use std::mem::size_of;
 
-/// Where a part of a record is said to stand, `MINIDUMP_LOCATION_DESCRIPTOR`, and what is there.
+/// The place of a part of a record, `MINIDUMP_LOCATION_DESCRIPTOR`, and what is there.
 #[repr(C)]
 #[derive(Clone, Copy)]
 pub struct PartPlace {
@@ -16,8 +16,8 @@ pub struct PartPlace {
     pub size: u32,
     /// `Rva`, an offset from the start of the file.
     pub rva: u32,
-    /// What it names: 0 no bytes, 1 bytes that were not kept, 2 bytes of the file, 3 bytes of which one
-    /// lies behind its end.
+    /// What the place names: 0 no bytes, 1 bytes that are not in the file, 2 bytes inside the file, 3 bytes
+    /// of which one is past its end.
     pub extent: u32,
     /// 0.
     pub reserved: u32,
@@ -25,15 +25,15 @@ pub struct PartPlace {
 
 const _: () = prove!(size_of::<PartPlace>() == 16);
 
-/// Where a name stands, a `MINIDUMP_STRING`.
+/// The place of a name, a `MINIDUMP_STRING`.
 #[repr(C)]
 #[derive(Clone, Copy)]
 pub struct NamePlace {
-    /// Where its length stands, an offset from the start of the file: 0 where there is no name.
+    /// The offset of its length from the start of the file, or 0 if there is no name.
     pub rva: u64,
-    /// How many bytes its units have, which stand 4 bytes behind that.
+    /// How many bytes its units have. They begin 4 bytes after its length.
     pub size: u32,
-    /// 0 where there is no name, 1 for one within the limit, 2 for a longer one.
+    /// 0 if there is no name, 1 if the name is within the limit, 2 if it is longer.
     pub state: u32,
 }
 

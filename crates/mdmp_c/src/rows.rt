@@ -404,9 +404,9 @@ pub struct RangeRow {
     pub start: u64,
     /// How many bytes it has.
     pub size: u64,
-    /// Where its bytes stand, an offset from the start of the file: its low 64 bits.
+    /// The offset of its bytes from the start of the file: its low 64 bits.
     pub offset: u64,
-    /// The high 64 bits of that, which are 0 where its bytes lie inside the file.
+    /// The high 64 bits of the offset, which are 0 if its bytes lie inside the file.
     pub offset_high: u64,
     /// The number of the entry in the directory, from 0.
     pub entry: u32,

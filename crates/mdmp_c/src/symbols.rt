@@ -1,4 +1,4 @@
-//! What a module tells of its symbol file.
+//! What the CodeView record of a module says of its symbol file.
 ghost use Rattle.std.specs.Prelude.{◌≡◌};
 ghost use Rattle.mdmp_wire.specs.CodeView.{codeview_of};
 ghost use Rattle.mdmp_c.specs.Limits.{AreLimits};
@@ -11,17 +11,17 @@ use mdmp_source::inside;
 use mdmp_wire::CodeView;
 use std::mem::size_of;
 
-/// What the CodeView record of a module tells.
+/// What the CodeView record of a module says.
 #[repr(C)]
 #[derive(Clone, Copy)]
 pub struct Symbols {
-    /// Of the kind RSDS: where the name of the symbol file stands, an offset from the start of the file.
+    /// Of the kind RSDS: the offset of the symbol file's name from the start of the file.
     pub name_offset: u64,
     /// 0 for a record of the kind RSDS, 1 for one of another kind, 2 for one that is too short.
     pub kind: u32,
     /// Of the kind RSDS: how often the symbol file was written since it got its identity.
     pub age: u32,
-    /// How many bytes the name has, or the longest name of the limits if it has more. They are of no known encoding.
+    /// How many bytes the name has, or the longest name of the limits if the name is longer. Its encoding is not known.
     pub name_size: u32,
     /// 1 if a zero byte ends the name, 0 if the record or the limit on names ends first.
     pub name_ended: u32,
@@ -46,8 +46,8 @@ const NO_SYMBOLS: Symbols = Symbols {
     reserved: [0; 3],
 };
 
-/// Gives what the CodeView record at a place tells, as the `codeview` of a module. Of the name of a symbol file it reads
-/// no more bytes than the longest name of the limits has.
+/// Gives what the CodeView record at a place says, as the `codeview` of a module. It reads no more bytes of the symbol
+/// file's name than the longest name of the limits has.
 #[unsafe(no_mangle)]
 pub extern "C" fn mdmp_symbols_(
     file: &[u8],

@@ -1,7 +1,9 @@
 //! Calls that give a text: the lines of `check` and of `list`, in either form.
+ghost use Rattle.std.specs.Prelude.{None};
 ghost use Rattle.mdmp_c.specs.Giving.{Ends, bad_limits};
-ghost use Rattle.mdmp_c.specs.Limits.{AreLimits, ReachesLimit};
+ghost use Rattle.mdmp_c.specs.Limits.{AreLimits, EndsText, ReachesLimit};
 ghost use Rattle.mdmp_c.specs.Texts.{IsCheck, IsList};
+ghost use Rattle.mdmp_lister.specs.declared.choice.Choice.TheVariants.{All};
 ghost use Rattle.mdmp_words.specs.declared.request.LineForm.TheVariants.{Json, Text};
 
 use crate::fault::{PlainFault, of_kind};
@@ -9,12 +11,12 @@ use crate::giving::{give_or_want, refuse};
 use crate::limits::{PlainLimits, limits_of};
 use crate::list_part::give_list;
 use crate::tool_fault::check_answer;
-use mdmp_source::{MemoryStore, WriteOut};
-use mdmp_tool::{LineForm, run_check};
+use mdmp_source::{MemoryStore, Source, WriteOut};
+use mdmp_tool::{LineForm, check_source};
 use std::alloc::Global;
 
-/// Gives the text of `check`: a line for each entry, that it is good, or its first fault. `fault` tells
-/// why the file can't be opened, or how many entries have a fault.
+/// Gives the text of `check`: a line for each entry, that it is good, or its first error. `fault` says
+/// why the file can't be opened, or how many entries have an error.
 #[unsafe(no_mangle)]
 pub extern "C" fn mdmp_check_(
     alloc: Global,
@@ -24,12 +26,12 @@ pub extern "C" fn mdmp_check_(
     size: &mut u64,
     fault: &mut PlainFault,
 ) -> u32
-    ensures { Ends (IsCheck Text file.now limits.now.name) (AreLimits limits.now) (ReachesLimit limits.now) bad_limits result size.new fault.new out.old out.new }
+    ensures { Ends (IsCheck Text file.now limits.now.name) (AreLimits limits.now) (ReachesLimit limits.now file.now All None) bad_limits result size.new fault.new out.old out.new }
 {
     check_in(alloc, file, limits, LineForm::Text, out, size, fault)
 }
 
-/// The same as JSON objects (RFC 8259), one a line, in UTF-8: docs/reference/lines.md.
+/// Gives what [`mdmp_check_`] gives as JSON objects (RFC 8259), one a line, in UTF-8: docs/reference/lines.md.
 #[unsafe(no_mangle)]
 pub extern "C" fn mdmp_check_json_(
     alloc: Global,
@@ -39,13 +41,13 @@ pub extern "C" fn mdmp_check_json_(
     size: &mut u64,
     fault: &mut PlainFault,
 ) -> u32
-    ensures { Ends (IsCheck Json file.now limits.now.name) (AreLimits limits.now) (ReachesLimit limits.now) bad_limits result size.new fault.new out.old out.new }
+    ensures { Ends (IsCheck Json file.now limits.now.name) (AreLimits limits.now) (ReachesLimit limits.now file.now All None) bad_limits result size.new fault.new out.old out.new }
 {
     check_in(alloc, file, limits, LineForm::Json, out, size, fault)
 }
 
-/// Gives the text of `list`: a line for the header and for each item, up to the first fault, which
-/// `fault` tells. With `pdb` what the CodeView record of a module tells is one more line.
+/// Gives the text of `list`: a line for the header and for each item, up to the first error, which
+/// is in `fault`. With `pdb` the CodeView record of a module gets one more line.
 #[unsafe(no_mangle)]
 pub extern "C" fn mdmp_list_(
     alloc: Global,
@@ -56,12 +58,12 @@ pub extern "C" fn mdmp_list_(
     size: &mut u64,
     fault: &mut PlainFault,
 ) -> u32
-    ensures { Ends (IsList Text pdb file.now limits.now.name) (AreLimits limits.now) (ReachesLimit limits.now) bad_limits result size.new fault.new out.old out.new }
+    ensures { Ends (IsList Text pdb file.now limits.now.name) (AreLimits limits.now) (EndsText limits.now file.now) bad_limits result size.new fault.new out.old out.new }
 {
     list_in(alloc, file, limits, LineForm::Text, pdb, out, size, fault)
 }
 
-/// The same as JSON objects (RFC 8259), one a line, in UTF-8: docs/reference/lines.md.
+/// Gives what [`mdmp_list_`] gives as JSON objects (RFC 8259), one a line, in UTF-8: docs/reference/lines.md.
 #[unsafe(no_mangle)]
 pub extern "C" fn mdmp_list_json_(
     alloc: Global,
@@ -72,7 +74,7 @@ pub extern "C" fn mdmp_list_json_(
     size: &mut u64,
     fault: &mut PlainFault,
 ) -> u32
-    ensures { Ends (IsList Json pdb file.now limits.now.name) (AreLimits limits.now) (ReachesLimit limits.now) bad_limits result size.new fault.new out.old out.new }
+    ensures { Ends (IsList Json pdb file.now limits.now.name) (AreLimits limits.now) (EndsText limits.now file.now) bad_limits result size.new fault.new out.old out.new }
 {
     list_in(alloc, file, limits, LineForm::Json, pdb, out, size, fault)
 }
@@ -87,15 +89,16 @@ fn check_in(
     size: &mut u64,
     fault: &mut PlainFault,
 ) -> u32
-    ensures { Ends (IsCheck form file.now limits.now.name) (AreLimits limits.now) (ReachesLimit limits.now) bad_limits result size.new fault.new out.old out.new }
+    ensures { Ends (IsCheck form file.now limits.now.name) (AreLimits limits.now) (ReachesLimit limits.now file.now All None) bad_limits result size.new fault.new out.old out.new }
 {
     let Some(limits) = limits_of(limits) else {
         return refuse(of_kind(67), size, fault);
     };
+    let source = Source::new(MemoryStore::new(file));
     let mut text = WriteOut::new(Vec::new(alloc));
-    let answer = run_check(alloc, MemoryStore::new(file), limits, form, &mut text);
+    let checked = check_source(alloc, source, limits, form, &mut text);
     let text = text.into_inner();
-    give_or_want(check_answer(answer), &text, out, size, fault)
+    give_or_want(check_answer(checked.answer), &text, out, size, fault)
 }
 
 /// Gives the lines of `list` in this form.
@@ -109,7 +112,7 @@ fn list_in(
     size: &mut u64,
     fault: &mut PlainFault,
 ) -> u32
-    ensures { Ends (IsList form pdb file.now limits.now.name) (AreLimits limits.now) (ReachesLimit limits.now) bad_limits result size.new fault.new out.old out.new }
+    ensures { Ends (IsList form pdb file.now limits.now.name) (AreLimits limits.now) (EndsText limits.now file.now) bad_limits result size.new fault.new out.old out.new }
 {
     give_list(alloc, file, limits, form, pdb, 0, out, size, fault)
 }

@@ -1,5 +1,7 @@
 //! The verdicts on entries as plain structures, put into an array.
-ghost use Rattle.std.specs.Prelude.{◌≡◌, ℕ, List, IsTrue};
+ghost use Rattle.std.specs.Prelude.{◌≡◌, ◌+◌, ℕ, List, IsTrue};
+ghost use Rattle.mdmp_c.specs.Limits.{most_read, names_checked};
+ghost use Rattle.mdmp_c.specs.Table.{EndsAt};
 ghost use Rattle.mdmp_c.specs.Verdicts.{Judges, verdict_row};
 ghost use Rattle.mdmp_lister.specs.Lister.{is_fresh};
 ghost use Rattle.mdmp_source.specs.Store.{IsGood};
@@ -78,11 +80,17 @@ fn judge_rows<S: Store + Drop, A: Allocator + Copy>(
     requires none { (rows.old.count ≡ 0) × (rows.old.bad ≡ 0) }
     ensures same_output { rows.new.out.ghost_name ≡ rows.old.out.ghost_name }
     ensures judges { (file : List ℕ) → IsGood lister.old.source.store file
-        → Judges file lister.old.choice lister.old.limit lister.old.counts.budget result rows.old.out.now rows.new.out.now }
+        → Judges file lister.old.choice lister.old.limit
+        (EndsAt lister.old (most_read file lister.old.choice lister.old.limit (lister.old.counts.names + names_checked file lister.old.choice lister.old.limit)))
+        result rows.old.out.now rows.new.out.now }
 {
     match lister.check_into(rows) {
         Ok(()) => rows.ended(None),
-        Err(RunFault::At(fault)) => rows.ended(Some(fault)),
+        Err(RunFault::At(fault)) => {
+            // The proof learns here within which bounds the lister stayed.
+            let _counts = lister.counts();
+            rows.ended(Some(fault))
+        },
         // This sink never stops.
         Err(RunFault::Stopped) => rows.ended(None),
     }
@@ -95,7 +103,9 @@ pub(crate) fn judge<S: Store + Drop, A: Allocator + Copy>(
 ) -> Judged
     requires { IsTrue (is_fresh lister.old) }
     ensures { (file : List ℕ) → IsGood lister.old.source.store file
-        → Judges file lister.old.choice lister.old.limit lister.old.counts.budget result out.old out.new }
+        → Judges file lister.old.choice lister.old.limit
+        (EndsAt lister.old (most_read file lister.old.choice lister.old.limit (lister.old.counts.names + names_checked file lister.old.choice lister.old.limit)))
+        result out.old out.new }
 {
     let mut rows = VerdictRows {
         out,

@@ -1,7 +1,7 @@
 //! The call that gives verdicts.
 ghost use Rattle.std.specs.Prelude.{◌≡◌};
 ghost use Rattle.mdmp_c.specs.Giving.{Ends, bad_limits};
-ghost use Rattle.mdmp_c.specs.Limits.{AreLimits, ReachesLimit};
+ghost use Rattle.mdmp_c.specs.Limits.{AreLimits, EndsChecking};
 ghost use Rattle.mdmp_c.specs.Verdicts.{AreVerdicts, ending_told};
 
 use crate::fault::{PlainFault, of_kind, open_fault, plain_list_fault};
@@ -14,10 +14,10 @@ use mdmp_lister::{Choice, ListFault, Lister};
 use mdmp_source::{MemoryStore, Source};
 use std::alloc::Global;
 
-/// Gives the verdict on each entry of a file: its first fault, or none and the entry's number. As many
-/// as `out` has room for, and in `count` how many there are. `fault` tells why the file can't be opened,
-/// or how many entries have a fault, as [`mdmp_check_`](crate::mdmp_check_) does. Where the fetch budget is
-/// reached it tells that, and the verdicts before it are given.
+/// Gives the result of checking each entry of a file: its first error, or none and the entry's number. As many
+/// as `out` has room for, and in `count` how many there are. `fault` says why the file can't be opened,
+/// or how many entries have an error, as [`mdmp_check_`](crate::mdmp_check_) does. If the read limit is
+/// reached, `fault` says that, and the results of the entries before it are given.
 #[unsafe(no_mangle)]
 pub extern "C" fn mdmp_verdicts_(
     alloc: Global,
@@ -27,7 +27,7 @@ pub extern "C" fn mdmp_verdicts_(
     count: &mut u64,
     fault: &mut PlainFault,
 ) -> u32
-    ensures { Ends (AreVerdicts file.now limits.now.name) (AreLimits limits.now) (ReachesLimit limits.now) bad_limits result count.new fault.new out.old out.new }
+    ensures { Ends (AreVerdicts file.now limits.now.name) (AreLimits limits.now) (EndsChecking limits.now file.now) bad_limits result count.new fault.new out.old out.new }
 {
     let Some(limits) = limits_of(limits) else {
         return refuse(of_kind(67), count, fault);

@@ -1,27 +1,34 @@
-use Rattle.std.proofs.Common.{rules, ◌≡◌, ◌∙◌, ◌+◌, Some, None, refl, sym}
+use Rattle.std.proofs.Common.{rules, ◌≡◌, ◌∙◌, ◌+◌, ap, arith, Some, None, refl, sym}
 use Rattle.std.specs.Prelude.{slice_get}
 use Rattle.mdmp_source.specs.SourceLaws.{fetches_then}
 use Rattle.mdmp_source.specs.Store.{IsGood}
 use Rattle.mdmp_lister.proofs.Fetches.{IsGood-later}
 use Rattle.mdmp_lister.specs.Format.Item.{plain}
+use Rattle.mdmp_lister.proofs.Handing.{same_lister-then}
+use Rattle.mdmp_lister.specs.declared.fault.FaultKind.TheVariants as kinds
 use Rattle.mdmp_lister.specs.Format.Listing.{nothing}
+use Rattle.mdmp_lister.specs.Format.Numbers.{maybe_name}
 use Rattle.mdmp_lister.specs.Lister.{tail}
-use Rattle.mdmp_c.proofs.Gathered.{Collects-end, Collects-fault, HasCollected-nothing, HasCollected-passed, HasCollected-taken}
+use Rattle.mdmp_lister.specs.Sink.{names_of_all}
+use Rattle.mdmp_c.specs.Limits.{most_read}
+use Rattle.mdmp_c.specs.Table.{EndsAt}
+use Rattle.mdmp_c.proofs.Gathered.{Collects-end, Collects-fault, HasCollected-nothing, HasCollected-passed, HasCollected-taken, names_left}
 use Rattle.mdmp_c.proofs.Stopping.{listing_over}
 use Rattle.mdmp_c.proofs.collecting.collect.Goals as goal
 
 pub loop-item-init : goal.loop-item-init
 loop-item-init g c = record {
   source = search rules;
-  budget = refl;
-  collected = λ file good run known. (run, (known, HasCollected-nothing g.T.PlainRow.row_of run c.args.out.now));
+  going = c.requires.going;
+  same = record { header_is = refl; entries = refl; choice = refl; limit = refl; rooms = refl; aside = refl; start = refl; budget = refl };
+  collected = λ file good run known. (run, (known, (HasCollected-nothing g.T.PlainRow.row_of run c.args.out.now, refl)));
 }
 
 pub returns-in-Ok-None : goal.returns-in-Ok-None
 returns-in-Ok-None g c = λ file good run known.
     let so_far = c.loop-item.invariant.collected file good run known in
     let end : so_far.0 ≡ nothing = rw c.in-Ok-None.field-0-is at (c.in-Ok-None.ensures.gives so_far.0 so_far.1.0) in
-    Collects-end g.T.PlainRow.row_of c.args.lister.now.counts.budget run so_far.0 _ None _ _ so_far.1.1 end
+    Collects-end g.T.PlainRow.row_of _ run so_far.0 _ None _ _ so_far.1.1.0 end
 
 pub loop-item-preserved-in-Some : goal.loop-item-preserved-in-Some
 loop-item-preserved-in-Some g c =
@@ -29,15 +36,19 @@ loop-item-preserved-in-Some g c =
     let holds = c.next.follows.holds-at-none in
     record {
       source = record { count = so_far.count + _; fetches = fetches_then _ _ _ _ _ so_far.fetches holds.list.spends.fetches };
-      budget = holds.list.same.budget ∙ c.loop-item.invariant.budget;
+      going = rw (c.in-Ok-Some.is, c.in-Ok-Some.field-0-is) at holds.list.stands.stop;
+      same = same_lister-then _ _ _ c.loop-item.invariant.same holds.list.same;
       collected = λ file good run known.
           let before = c.loop-item.invariant.collected file good run known in
           let first : slice_get before.0.items 0 ≡ Some (plain c.in-Ok-Some.item) = rw c.in-Ok-Some.field-0-is at (c.in-Ok-Some.ensures.gives before.0 before.1.0) in (
             tail before.0,
             (
               rw (c.in-Ok-Some.is, c.in-Ok-Some.field-0-is, before.1.0) at holds.list.stands.left,
-              HasCollected-taken g.T.PlainRow.row_of run before.0 _ _ _ _ _ (plain c.in-Ok-Some.item) c.in-Some.row before.1.1 first (sym c.of.ensures ∙ c.in-Some.is)
-                  c.saturating_add-count.ensures c.put.ensures,
+              (
+                HasCollected-taken g.T.PlainRow.row_of run before.0 _ _ _ _ _ (plain c.in-Ok-Some.item) c.in-Some.row before.1.1.0 first (sym c.of.ensures ∙ c.in-Some.is)
+                    c.saturating_add-count.ensures c.put.ensures,
+                names_left before.0 c.in-Ok-Some.item _ _ _ first before.1.1.1 holds.few_names (rw (c.in-Ok-Some.is, c.in-Ok-Some.field-0-is) at holds.list.spends.names),
+              ),
             ),
           );
     }
@@ -48,14 +59,18 @@ loop-item-preserved g c =
     let holds = c.next.follows.holds-at-none in
     record {
       source = record { count = so_far.count + _; fetches = fetches_then _ _ _ _ _ so_far.fetches holds.list.spends.fetches };
-      budget = holds.list.same.budget ∙ c.loop-item.invariant.budget;
+      going = rw (c.in-Ok-Some.is, c.in-Ok-Some.field-0-is) at holds.list.stands.stop;
+      same = same_lister-then _ _ _ c.loop-item.invariant.same holds.list.same;
       collected = λ file good run known.
           let before = c.loop-item.invariant.collected file good run known in
           let first : slice_get before.0.items 0 ≡ Some (plain c.in-Ok-Some.item) = rw c.in-Ok-Some.field-0-is at (c.in-Ok-Some.ensures.gives before.0 before.1.0) in (
             tail before.0,
             (
               rw (c.in-Ok-Some.is, c.in-Ok-Some.field-0-is, before.1.0) at holds.list.stands.left,
-              HasCollected-passed g.T.PlainRow.row_of run before.0 _ _ _ (plain c.in-Ok-Some.item) before.1.1 first (sym c.of.ensures ∙ c.in_default.is),
+              (
+                HasCollected-passed g.T.PlainRow.row_of run before.0 _ _ _ (plain c.in-Ok-Some.item) before.1.1.0 first (sym c.of.ensures ∙ c.in_default.is),
+                names_left before.0 c.in-Ok-Some.item _ _ _ first before.1.1.1 holds.few_names (rw (c.in-Ok-Some.is, c.in-Ok-Some.field-0-is) at holds.list.spends.names),
+              ),
             ),
           );
     }
@@ -65,8 +80,15 @@ returns-in-Err g c = λ file good run known.
     let so_far = c.loop-item.invariant.collected file good run known in
     let fetched = c.loop-item.invariant.source.fetches in
     let now : IsGood c.loop-item.lister.source.store file = IsGood-later file _ _ _ fetched good in
-    let holds = c.next.follows.holds-at-none in
-    let same = holds.list.same.budget ∙ c.loop-item.invariant.budget in
-    let refused = rw c.in-Err.is at holds.list.spends.refused in
-    Collects-fault g.T.PlainRow.row_of c.args.lister.now.counts.budget run so_far.0 _ c.in-Err.fault _ _ so_far.1.1 (c.in-Err.ensures.good file now) (c.in-Err.ensures.gives so_far.0 so_far.1.0)
-    (listing_over c.args.lister.now.counts.budget c.in-Err.fault c.next.follows.lender-at-none same refused)
+    let old = c.args.lister.now in
+    let new = c.next.follows.lender-at-none in
+    let holds = c.next.follows.holds-at-none.list in
+    let spends = holds.spends in
+    let counts = c.counts-counts.ensures in
+    let content = spends.fetches.same_content ∙ now.known in
+    let refused = rw c.in-Err.is at spends.refused in
+    let names = (rw c.in-Err.is at (spends.names_at_fault c.loop-item.invariant.going)).1 in
+    let ended : c.in-Err.fault.kind ≡ kinds.Budget → EndsAt old (most_read file old.choice old.limit (old.counts.names + names_of_all run.items)) c.in-Err.fault =
+    λ is. listing_over old new file (names_of_all run.items) c.counts-counts.result c.in-Err.fault (same_lister-then _ _ _ c.loop-item.invariant.same holds.same) (spends.fetches.same_size ∙ fetched.same_size)
+    counts.value (counts.of_file file content) counts.held counts.spent (omega (arith, names, ap maybe_name is, so_far.1.1.1)) refused is in
+    Collects-fault g.T.PlainRow.row_of _ run so_far.0 _ c.in-Err.fault _ _ so_far.1.1.0 (c.in-Err.ensures.good file now) (c.in-Err.ensures.gives so_far.0 so_far.1.0) ended

@@ -1,7 +1,9 @@
-use Rattle.std.proofs.Common.{◌≡◌, ℕ, List, Some}
+use Rattle.std.proofs.Common.{◌≡◌, ◌+◌, ℕ, List, None, Some}
 use Rattle.mdmp_source.specs.Source.{FetchesSome}
 use Rattle.mdmp_source.specs.Store.{IsGood}
 use Rattle.mdmp_lister.specs.Format.Listing.{Run}
+use Rattle.mdmp_lister.specs.Lister.{IsSameLister}
+use Rattle.mdmp_lister.specs.Sink.{names_of_all}
 use Rattle.mdmp_c.proofs.Gathered.{HasCollected}
 use Rattle.mdmp_c.proofs.collecting.collect.Given as goal
 
@@ -9,9 +11,11 @@ use Rattle.mdmp_c.proofs.collecting.collect.Given as goal
 abbrev pub invariant-loop-item : goal.invariant-loop-item
 invariant-loop-item g l = record {
   source : FetchesSome l.initial.lister.source l.lister.source;
-  budget : l.lister.counts.budget ≡ l.initial.lister.counts.budget;
+  going : l.lister.stop ≡ None;
+  same : IsSameLister l.initial.lister l.lister;
   collected : (file : List ℕ) → IsGood l.initial.lister.source.store file → (run : Run) → l.initial.lister.left ≡ Some run
-      → (left : Run) × ((l.lister.left ≡ Some left) × HasCollected g.T.PlainRow.row_of run left l.count l.initial.out l.out);
+      → (left : Run) × ((l.lister.left ≡ Some left) × (HasCollected g.T.PlainRow.row_of run left l.count l.initial.out l.out
+      × (l.lister.counts.names + names_of_all left.items ≡ l.initial.lister.counts.names + names_of_all run.items)));
 }
 
 abbrev pub decreases-loop-item : goal.decreases-loop-item

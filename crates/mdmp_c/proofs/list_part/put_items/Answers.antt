@@ -8,7 +8,8 @@ use Rattle.mdmp_tool.proofs.Printing.{next_told, next_within}
 use Rattle.mdmp_tool.specs.Text.{next_lines}
 use Rattle.mdmp_tool.proofs.SameRuns.{run_then}
 use Rattle.mdmp_c.proofs.Listed.{HasGiven-next, PutsRun-end, PutsRun-ended, lines_taken}
-use Rattle.mdmp_c.proofs.Stopping.{next_aside, next_over}
+use Rattle.mdmp_c.specs.TextPart.{EndsTextAt}
+use Rattle.mdmp_c.proofs.Stopping.{text_over}
 use Rattle.mdmp_c.proofs.list_part.put_items.Goals as goal
 
 pub returns-in-Ok-false : goal.returns-in-Ok-false
@@ -17,7 +18,7 @@ returns-in-Ok-false g c = λ file good run known skip room before part.
     let given = so_far.part file good run known skip room before part in
     let content = so_far.source.fetches.same_content ∙ good.known in
     let next = next_told c.args.form c.args.pdb file _ _ given.0 _ c.in-Ok-false.field-0 false _ so_far.run.limit c.in-Ok-false.field-0-test (c.in-Ok-false.ensures.lists file content given.0 given.1.0) in
-    PutsRun-end c.args.form c.args.pdb file c.args.lister.now.limit c.args.lister.now.counts.budget c.args.aside run given.0 before skip room _ _ _ _ _ _ given.1.1 next
+    PutsRun-end c.args.form c.args.pdb file c.args.lister.now.limit (EndsTextAt c.args.lister.now c.args.aside) run given.0 before skip room _ _ _ _ _ _ given.1.1 next
 
 pub returns-in-Err : goal.returns-in-Err
 returns-in-Err g c = λ file good run known skip room before part.
@@ -25,10 +26,11 @@ returns-in-Err g c = λ file good run known skip room before part.
     let given = so_far.part file good run known skip room before part in
     let now : IsGood c.loop-lines.lister.source.store file = IsGood-later file _ _ _ so_far.source.fetches good in
     let next = next_within c.args.form c.args.pdb file _ _ given.0 _ (Err c.in-Err.fault) _ so_far.run.limit (c.in-Err.ensures.lists file now.known given.0 given.1.0) in
-    PutsRun-ended c.args.form c.args.pdb file c.args.lister.now.limit c.args.lister.now.counts.budget c.args.aside run given.0 before _ skip room _ _ _ _ _ _ _ _ _ _ c.in-Err.fault _ given.1.1 next
+    PutsRun-ended c.args.form c.args.pdb file c.args.lister.now.limit (EndsTextAt c.args.lister.now c.args.aside) run given.0 before _ skip room _ _ _ _ _ _ _ _ _ _ c.in-Err.fault _ given.1.1 next
     (ap (λ (o : OutState). o.taken) c.new-lines.ensures ∙ ap Some c.clear.ensures.items) (sym c.into_inner.ensures) (c.end_items.ensures skip room) (c.in-Err.ensures.leaves.good file now)
-    (next_over c.args.lister.now.counts.budget c.in-Err.fault c.list_next.new.lister (c.in-Err.ensures.same.budget ∙ so_far.run.budget) c.in-Err.ensures.over)
-    (next_aside c.args.aside c.in-Err.fault c.list_next.new.lister (c.in-Err.ensures.aside so_far.aside).over)
+    (text_over c.args.lister.now c.list_next.new.lister c.args.aside c.counts-counts.result c.in-Err.fault (run_then _ _ _ so_far.run c.in-Err.ensures.same)
+    (c.in-Err.ensures.leaves.reads.fetches.fetches.same_size ∙ so_far.source.fetches.same_size) c.counts-counts.ensures.value c.counts-counts.ensures.held c.counts-counts.ensures.spent
+    c.in-Err.ensures.over (c.in-Err.ensures.aside so_far.aside))
 
 pub loop-lines-preserved : goal.loop-lines-preserved
 loop-lines-preserved g c =

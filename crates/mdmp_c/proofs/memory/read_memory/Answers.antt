@@ -1,14 +1,18 @@
-use Rattle.std.proofs.Common.{rules, ◌≡◌, ◌∙◌, ℕ, Bool, List, Some, ap, sym, subst, refl}
+use Rattle.std.proofs.Common.{rules, ◌≡◌, ◌∙◌, ℕ, ◌+◌, Bool, List, Some, ap, length, sym, subst}
 use Rattle.std.specs.Option.{option_map}
 use Rattle.std.specs.Prelude.{IsTrue}
 use Rattle.mdmp_source.specs.Store.{IsGood}
 use Rattle.mdmp_lister.proofs.Fetches.{IsGood-later}
-use Rattle.mdmp_lister.specs.Format.Listing.{listing}
+use Rattle.mdmp_lister.specs.Format.Listing.{listing, memory_lists}
 use Rattle.mdmp_c.specs.Fault.{budget_fault, status_of}
 use Rattle.mdmp_lister.specs.declared.fault.FaultKind.TheVariants as kinds
-use Rattle.mdmp_c.specs.Limits.{AreLimits, ReachesLimit, reaches_budget}
+use Rattle.mdmp_lister.specs.declared.choice.Choice.{Choice}
+use Rattle.mdmp_lister.specs.Memory.{IsRefusalWithin}
+use Rattle.mdmp_lister.specs.Sink.{names_of_all}
+use Rattle.mdmp_c.specs.Limits.{AreLimits, EndsListing, most_read, names_listed}
+use Rattle.mdmp_c.specs.Table.{IsEndedAt}
 use Rattle.mdmp_c.proofs.Remembered.{ReadsMemory-fault, ReadsMemory-refused}
-use Rattle.mdmp_c.proofs.Stopping.{is_limit, listing_over, opening_over}
+use Rattle.mdmp_c.proofs.Stopping.{ended_over, least_read, most_listed, opening_over, sized}
 use Rattle.mdmp_c.proofs.memory.read_memory.Goals as goal
 
 pub returns-in-Err : goal.returns-in-Err
@@ -17,7 +21,9 @@ returns-in-Err c =
     let good : IsGood c.new-source.result.store file = search rules in
     let valid : AreLimits c.args.limits.now = c.in-Some.ensures.valid in
     ReadsMemory-refused file c.args.limits.now c.memory_lists.result c.args.address _ _ valid c.if-out-known.false c.memory_lists.ensures c.in-Err.refused.fault _ _
-    (opening_over c.args.limits.now c.in-Some.limits _ c.in-Err.refused.fault _ c.in-Some.ensures c.in-Err.ensures.kept c.in-Err.ensures.over)
+    (opening_over c.args.limits.now c.in-Some.limits file memory_lists _ _ c.in-Err.refused.fault _ c.in-Some.ensures good.known (sized file c.new-source.result good.known c.new-source.ensures.content) (search rules)
+    (least_read file memory_lists c.args.limits.now.name _) c.in-Err.ensures.kept c.in-Err.ensures.over
+    (subst (λ (choice : Choice). IsRefusalWithin c.in-Some.limits file choice c.in-Err.refused.fault) c.memory_lists.ensures (c.in-Err.ensures.within file good.known)))
     (c.in-Err.ensures.opens file good.known) (c.in-Err.ensures.good file good)
     (ap status_of c.open_fault.ensures) c.open_fault.ensures
 
@@ -32,8 +38,15 @@ returns-in-Err-list_ranges c =
     let name = c.in-Some.limits.name in
     let left : c.in-Ok.lister.left ≡ Some (listing file choice name) = new.list.given.left ∙ ap (option_map (λ (f : List ℕ). listing f choice name)) good.known in
     let f = c.in-Err-list_ranges.found in
-    let can : f.kind ≡ kinds.Budget → ReachesLimit c.args.limits.now (budget_fault f.offset f.size) = λ is. reaches_budget (is_limit c.args.limits.now.budget c.in-Some.limits.budget c.in-Some.ensures.budget
-    (listing_over c.in-Some.limits.budget f c.list_ranges.new.self (c.in-Err-list_ranges.ensures.same.budget ∙ new.list.counts.budget_is) c.in-Err-list_ranges.ensures.refused is)) f.offset f.size refl in
+    let lister = c.in-Ok.lister in
+    let size : lister.source.size ≡ length file = new.fetches.same_size ∙ sized file c.new-source.result good.known c.new-source.ensures.content in
+    let run = listing file memory_lists name in
+    let listed : lister.left ≡ Some run = left ∙ ap (λ (choice : Choice). Some (listing file choice name)) c.memory_lists.ensures in
+    let most : most_read file lister.choice lister.limit (lister.counts.names + names_of_all run.items) ≡ most_read file memory_lists c.args.limits.now.name (names_listed file memory_lists c.args.limits.now.name) =
+    most_listed file memory_lists name c.args.limits.now.name lister (new.list.asked.choice_is ∙ c.memory_lists.ensures) new.list.asked.limit_is new.list.counts.names c.in-Some.ensures.name in
+    let can : f.kind ≡ kinds.Budget → EndsListing c.args.limits.now file memory_lists (budget_fault f.offset f.size) = λ is.
+    ended_over c.args.limits.now c.in-Some.limits file memory_lists _ lister f.offset f.size c.in-Some.ensures new.list.counts.budget_is new.list.asked.window_room new.list.asked.limit_is size
+    (subst (λ n. IsEndedAt lister (Some n) f.offset f.size) most (c.in-Err-list_ranges.ensures.ended file now run listed is)) in
     ReadsMemory-fault file c.args.limits.now name choice f _ _ _ _ _ valid c.if-out-known.false c.memory_lists.ensures c.in-Some.ensures.name (c.in-Ok.ensures.opens file good.known)
     (c.in-Err-list_ranges.ensures.good file now) (c.in-Err-list_ranges.ensures.lists (listing file choice name) left) can
     (ap status_of c.plain_list_fault.ensures) c.plain_list_fault.ensures
@@ -44,7 +57,7 @@ returns c =
     let good : IsGood c.new-source.result.store file = search rules in
     let new = c.in-Ok.ensures.new in
     let more = c.list_ranges.ensures.fetches.fetches in
-    let last : IsGood c.list_ranges.new.self.source.store file = record {
+    let last : IsGood c.list_ranges.new.lister.source.store file = record {
       known = more.same_content ∙ new.fetches.same_content ∙ good.known;
       reliable = subst (λ (b : Bool). IsTrue b) (sym (more.same_reliable ∙ new.fetches.same_reliable)) good.reliable;
     } in

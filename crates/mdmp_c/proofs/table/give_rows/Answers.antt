@@ -1,14 +1,16 @@
-use Rattle.std.proofs.Common.{rules, ◌≡◌, ◌∙◌, ℕ, List, Some, None, ap, refl, subst}
+use Rattle.std.proofs.Common.{rules, ◌≡◌, ◌∙◌, ◌+◌, ℕ, List, Some, ap, length, refl, subst}
 use Rattle.std.specs.Option.{option_map}
 use Rattle.std.specs.Prelude.{nat_lt, if◌then◌else◌}
 use Rattle.mdmp_source.specs.Store.{IsGood}
 use Rattle.mdmp_lister.proofs.Fetches.{IsGood-later}
 use Rattle.mdmp_lister.specs.Format.Listing.{listing}
 use Rattle.mdmp_c.specs.Fault.{budget_fault, list_told, status_of}
-use Rattle.mdmp_c.specs.Limits.{AreLimits, ReachesLimit, reaches_budget}
-use Rattle.mdmp_c.specs.Table.{Collects, IsTable}
+use Rattle.mdmp_c.specs.Limits.{AreLimits, EndsListing, most_read, names_listed}
+use Rattle.mdmp_c.specs.Table.{Collects, EndsAt, IsEndedAt, IsTable}
+use Rattle.mdmp_lister.specs.declared.fault.ListFault.{ListFault}
+use Rattle.mdmp_lister.specs.Sink.{names_of_all}
 use Rattle.mdmp_c.proofs.Ending.{Ends-collected, Ends-refused, all_rows, no_rows}
-use Rattle.mdmp_c.proofs.Stopping.{is_limit, opening_over}
+use Rattle.mdmp_c.proofs.Stopping.{ended_over, least_read, most_listed, opening_over, sized}
 use Rattle.mdmp_c.proofs.table.give_rows.Goals as goal
 
 pub returns-in-Err : goal.returns-in-Err
@@ -17,8 +19,9 @@ returns-in-Err g c =
     let good : IsGood c.new-source.result.store file = search rules in
     let valid : AreLimits c.args.limits.now = c.in-Some.ensures.valid in
     Ends-refused (IsTable g.T.PlainRow.row_of file c.args.choice c.args.limits.now.name) file c.args.choice (AreLimits c.args.limits.now)
-    (ReachesLimit c.args.limits.now) (no_rows g.T.PlainRow.row_of file c.args.choice c.args.limits.now.name) (all_rows g.T.PlainRow.row_of file c.args.choice c.args.limits.now.name)
-    c.in-Err.refused.fault _ _ _ _ _ valid (opening_over c.args.limits.now c.in-Some.limits _ c.in-Err.refused.fault _ c.in-Some.ensures c.in-Err.ensures.kept c.in-Err.ensures.over)
+    (EndsListing c.args.limits.now file c.args.choice) (no_rows g.T.PlainRow.row_of file c.args.choice c.args.limits.now.name) (all_rows g.T.PlainRow.row_of file c.args.choice c.args.limits.now.name)
+    c.in-Err.refused.fault _ _ _ _ _ valid (opening_over c.args.limits.now c.in-Some.limits file c.args.choice _ _ c.in-Err.refused.fault _ c.in-Some.ensures good.known (sized file c.new-source.result good.known c.new-source.ensures.content) (search rules)
+    (least_read file c.args.choice c.args.limits.now.name _) c.in-Err.ensures.kept c.in-Err.ensures.over (c.in-Err.ensures.within file good.known))
     (c.in-Err.ensures.opens file good.known) (c.in-Err.ensures.good file good)
     (c.refuse-in-Err.ensures.status ∙ ap status_of c.open_fault.ensures) c.refuse-in-Err.ensures.count
     (c.refuse-in-Err.ensures.fault ∙ c.open_fault.ensures) refl
@@ -35,12 +38,18 @@ returns g c =
     let left : c.in-Ok.lister.left ≡ Some run = new.list.given.left ∙ ap (option_map (λ (f : List ℕ). listing f choice c.in-Some.limits.name)) good.known in
     let rows = c.collect-collected.ensures file now run left in
     let name : c.in-Some.limits.name ≡ c.args.limits.now.name = c.in-Some.ensures.name in
-    let can : (c.in-Ok.lister.counts.budget ≡ None → ⊥) → (offset size : ℕ) → ReachesLimit c.args.limits.now (budget_fault offset size) =
-    λ some offset size. reaches_budget (is_limit c.args.limits.now.budget c.in-Some.limits.budget c.in-Some.ensures.budget (λ none. some (new.list.counts.budget_is ∙ none))) offset size refl in
+    let lister = c.in-Ok.lister in
+    let size : lister.source.size ≡ length file = new.fetches.same_size ∙ sized file c.new-source.result good.known c.new-source.ensures.content in
+    let most : most_read file lister.choice lister.limit (lister.counts.names + names_of_all run.items) ≡ most_read file choice c.args.limits.now.name (names_listed file choice c.args.limits.now.name) =
+    most_listed file choice c.in-Some.limits.name c.args.limits.now.name lister new.list.asked.choice_is new.list.asked.limit_is new.list.counts.names name in
+    let MayEnd = EndsAt lister (most_read file lister.choice lister.limit (lister.counts.names + names_of_all run.items)) in
+    let can : (f : ListFault) → MayEnd f → EndsListing c.args.limits.now file choice (budget_fault f.offset f.size) =
+    λ f ended. ended_over c.args.limits.now c.in-Some.limits file choice _ lister f.offset f.size c.in-Some.ensures new.list.counts.budget_is new.list.asked.window_room new.list.asked.limit_is size
+    (subst (λ n. IsEndedAt lister (Some n) f.offset f.size) most ended) in
     let told = subst
-    (λ (n : ℕ). Collects g.T.PlainRow.row_of c.in-Ok.lister.counts.budget (listing file choice n) c.collect-collected.result.count c.collect-collected.result.fault c.args.out.now c.collect-collected.new.out)
+    (λ (n : ℕ). Collects g.T.PlainRow.row_of MayEnd (listing file choice n) c.collect-collected.result.count c.collect-collected.result.fault c.args.out.now c.collect-collected.new.out)
     name rows in
     rw c.tell.ensures.count
-    (Ends-collected g.T.PlainRow.row_of file choice c.args.limits.now.name (AreLimits c.args.limits.now) (ReachesLimit c.args.limits.now) c.in-Ok.lister.counts.budget c.tell.result c.collect-collected.result.count
+    (Ends-collected g.T.PlainRow.row_of file choice c.args.limits.now.name (AreLimits c.args.limits.now) (EndsListing c.args.limits.now file choice) MayEnd c.tell.result c.collect-collected.result.count
     c.collect-collected.result.fault c.tell.new.fault c.args.out.now c.collect-collected.new.out valid can (c.in-Ok.ensures.opens file good.known) told
     (λ n is. subst (λ (m : ℕ). c.tell.result ≡ (if nat_lt m n then 4 else status_of (list_told c.collect-collected.result.fault))) c.collect-collected.auto.out (rw c.list_end.ensures at (c.tell.ensures.status n is))) (c.tell.ensures.fault ∙ c.list_end.ensures))

@@ -1,11 +1,13 @@
-use Rattle.std.proofs.Common.{◌∙◌, ℕ, Some, ap, sym, subst, None, refl}
+use Rattle.std.proofs.Common.{rules, ◌∙◌, ℕ, Some, ap, sym, subst, None}
 use Rattle.mdmp_source.specs.Output.{OutState}
 use Rattle.mdmp_c.specs.declared.fault.PlainFault.{PlainFault}
 use Rattle.mdmp_c.specs.Giving.{bad_limits}
 use Rattle.mdmp_c.specs.Limits.{AreLimits, ReachesLimit}
 use Rattle.mdmp_c.specs.Texts.{IsCheck}
 use Rattle.mdmp_c.specs.ToolFault.{check_answer}
-use Rattle.mdmp_c.proofs.Stopping.{limit_reached}
+use Rattle.mdmp_source.specs.Store.{IsGood}
+use Rattle.mdmp_lister.specs.declared.choice.Choice.TheVariants.{All}
+use Rattle.mdmp_c.proofs.Stopping.{check_over, sized}
 use Rattle.mdmp_c.proofs.Told.{Ends-given, IsCheck-told, IsTellable}
 use Rattle.mdmp_c.proofs.texts.check_in.Goals as goal
 
@@ -13,14 +15,16 @@ pub returns : goal.returns
 returns c =
     let file = c.args.file.now in
     let text = c.deref.result.now in
-    let answer = c.run_check-answer.result in
-    let known = c.new-2.ensures.same_content in
-    let none = ap (λ (o : OutState). o.taken) c.new-text.ensures ∙ ap Some c.new.ensures.items in
+    let answer = c.check_source-checked.result.answer in
+    let none = ap (λ (o : OutState). o.taken) c.new-text.ensures ∙ ap Some c.new-2.ensures.items in
     let is = sym c.into_inner-text.ensures ∙ ap Some (sym c.deref.ensures.value) in
-    let read = c.run_check-answer.ensures.tells.good file record { known = known; reliable = c.new-2.ensures.same_reliable } in
-    let runs = c.run_check-answer.ensures.checks file known in
-    let MayTell = ReachesLimit c.args.limits.now in
-    let can = limit_reached c.args.limits.now c.in-Some.limits _ c.in-Some.ensures None check_answer answer (λ fault. refl) c.run_check-answer.ensures.budget c.run_check-answer.ensures.memory c.run_check-answer.ensures.aside (λ some. absurd (some refl)) in
+    let good : IsGood c.new-source.result.store file = search rules in
+    let run = c.check_source-checked.ensures in
+    let read = run.tells.good file good in
+    let runs = run.checks file good.known in
+    let MayTell = ReachesLimit c.args.limits.now file All None in
+    let can = check_over c.args.limits.now c.in-Some.limits file c.new-source.result _ answer c.in-Some.ensures good.known (sized file c.new-source.result good.known c.new-source.ensures.content) (search rules)
+    run.reads.fetches.fetches.same_size run.through in
     let told = IsCheck-told c.args.form file c.in-Some.limits.name MayTell _ _ text answer none is read can runs in
     let named = subst (λ (n : ℕ). IsTellable (IsCheck c.args.form file n) MayTell (check_answer answer) text) c.in-Some.ensures.name told in
     let valid : AreLimits c.args.limits.now = c.in-Some.ensures.valid in

@@ -1,4 +1,4 @@
-use Rattle.std.proofs.Common.{◌∙◌, [], List, ap, length, map, sym}
+use Rattle.std.proofs.Common.{◌∙◌, [], List, ap, arith, length, map, sym}
 use Rattle.std.proofs.lemmas.List.{length-map}
 use Rattle.mdmp_lister.specs.declared.verdict.Verdict.{Verdict}
 use Rattle.mdmp_tool.specs.CheckText.{bad_count}
@@ -7,7 +7,9 @@ use Rattle.mdmp_c.specs.declared.verdict_rows.Judged.{Judged}
 use Rattle.mdmp_c.specs.Verdicts.{judges_all, judges_some, verdict_row}
 use Rattle.mdmp_c.proofs.Stopping.{is_budget, listing_over}
 use Rattle.mdmp_c.proofs.Gathered.{put_front-nothing}
-use Rattle.mdmp_c.proofs.Judging.{bad-all, name-taken, never_stopped, rows-taken}
+use Rattle.mdmp_lister.specs.Format.Numbers.{maybe_name}
+use Rattle.mdmp_c.specs.Limits.{names_checked}
+use Rattle.mdmp_c.proofs.Judging.{bad-all, name-taken, names_judged_first, never_stopped, rows-taken}
 use Rattle.mdmp_c.proofs.verdict_rows.judge_rows.Goals as goal
 
 pub returns-in-Ok-clause-same_output : goal.returns-in-Ok-clause-same_output
@@ -46,9 +48,16 @@ returns-in-Err-At-clause-judges g c = λ file good.
     let judged = c.ended-in-Err-At.ensures in
     let told = c.in-Err-At.ensures.told fault c.in-Err-At.field-0-is in
     let kind = is_budget fault.kind (c.in-Err-At.ensures.good file good fault c.in-Err-At.field-0-is) told.0 in
-    let can = listing_over c.args.lister.now.counts.budget fault c.check_into.new.self checks.same.budget (c.in-Err-At.ensures.refused fault c.in-Err-At.field-0-is) kind in
+    let lister = c.args.lister.now in
+    let counts = c.counts-counts.ensures in
+    let size = checks.fetches.same_size in
+    let read = rw c.in-Err-At.field-0-is at (checks.read file good.known) in
+    let most = names_judged_first file lister.choice lister.limit checks.items vs fault read first in
+    let reached = rw c.in-Err-At.field-0-is at checks.counts.most_names in
+    let can = listing_over lister c.check_into.new.self file (names_checked file lister.choice lister.limit) c.counts-counts.result fault checks.same size counts.value (counts.of_file file (checks.fetches.same_content ∙ good.known))
+    counts.held counts.spent (omega (arith, reached, most, ap maybe_name kind)) (c.in-Err-At.ensures.refused fault c.in-Err-At.field-0-is) kind in
     judges_some vs
-    record { can_stop = can; rest = first.0; first = first.1; told = fault; told_is = ap (λ (j : Judged). j.fault) judged; kind = kind }
+    record { rest = first.0; first = first.1; told = fault; told_is = ap (λ (j : Judged). j.fault) judged; kind = kind; reached = can }
     record {
       count_is = ap (λ (j : Judged). j.count) judged ∙ rows.1 ∙ ap told_count (length-map vs verdict_row);
       bad_is = ap (λ (j : Judged). j.bad) judged ∙ bad;
