@@ -88,8 +88,3 @@ pub extern "C" fn mdmp_version() -> u32
 {
     VERSION
 }
-
-#[cfg(test)]
-mod symbol_tests;
-#[cfg(test)]
-mod tests;
