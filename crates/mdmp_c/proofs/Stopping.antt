@@ -35,7 +35,7 @@ use Rattle.mdmp_c.specs.declared.limits.PlainLimits.{PlainLimits}
 use Rattle.mdmp_c.specs.declared.fault.PlainFault.{PlainFault}
 use Rattle.mdmp_c.specs.Fault.{budget_fault, open_fault}
 use Rattle.mdmp_c.specs.Limits.{AreGiven, EndsText, IsLimit, ReachesLimit, ends_aside, ends_text, limit_of, most_read, names_checked, names_listed, reaches_budget, reaches_memory}
-use Rattle.mdmp_c.specs.Table.{EndsAt, IsEndedAt}
+use Rattle.mdmp_c.specs.Table.{EndsListAt, IsEndedAt}
 use Rattle.mdmp_c.specs.TextPart.{EndsTextAt}
 use Rattle.mdmp_c.specs.ToolFault.{check_answer, list_answer}
 use Rattle.mdmp_c.proofs.Told.{IsLimited, IsTextLimit}
@@ -186,7 +186,7 @@ most_by old v F names c same is of most =
 
 -- a listing that ended by its budget
 pub listing_over : (old v : ListerState) (F : List ℕ) (names : ℕ) (c : Counts) (f : ListFault) → IsSameLister old v → v.source.size ≡ old.source.size → c ≡ numbers_of v → AreOfFile F v.choice c
-    → AreHeld v c → AreSpent v c → v.counts.names ≤ old.counts.names + names + 1 → IsRefusedIn f v → f.kind ≡ kinds.Budget → EndsAt old (most_read F old.choice old.limit (old.counts.names + names)) f
+    → AreHeld v c → AreSpent v c → v.counts.names ≤ old.counts.names + names + 1 → IsRefusedIn f v → f.kind ≡ kinds.Budget → EndsListAt old (most_read F old.choice old.limit (old.counts.names + names)) f
 listing_over old v F names c f same sized is of held spent most refused budget =
     let over : IsRefusedFetch (max v.rooms.window v.limit) f.offset f.size v.counts v.source.size =
     subst (λ (kind : FaultKind). IsUnmade (max v.rooms.window v.limit) kind f.offset f.size v.counts v.source.size) budget refused in

@@ -40,8 +40,8 @@ pub record IsEndedAt (v : ListerState) (most : Option ℕ) (offset size : ℕ) :
   pub few : size ≤ max v.rooms.window v.limit
 
 -- the same of a fault of its listing
-abbrev pub EndsAt : ListerState → ℕ → ListFault → Type 0
-EndsAt v most f = IsEndedAt v (Some most) f.offset f.size
+abbrev pub EndsListAt : ListerState → ℕ → ListFault → Type 0
+EndsListAt v most f = IsEndedAt v (Some most) f.offset f.size
 
 -- the first of all that there are were given, and then the budget was reached, at a fault that may be told so
 pub record IsCutShort {T : Type 0} (MayEnd : ListFault → Type 0) (all given : List T) (fault : Option ListFault) : Type 0 where

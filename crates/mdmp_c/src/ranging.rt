@@ -1,7 +1,7 @@
 //! A listing for its ranges of memory alone.
 ghost use Rattle.std.specs.Prelude.{◌≡◌, ◌+◌, ◌++◌, ℕ, IfErr, List, MatchResult, None, Some};
 ghost use Rattle.mdmp_c.specs.Limits.{most_read};
-ghost use Rattle.mdmp_c.specs.Table.{EndsAt};
+ghost use Rattle.mdmp_c.specs.Table.{EndsListAt};
 ghost use Rattle.mdmp_lister.specs.declared.fault.FaultKind.TheVariants.{Budget};
 ghost use Rattle.mdmp_lister.specs.Fault.{IsOfStore, IsUnobtained};
 ghost use Rattle.mdmp_lister.specs.Format.Listing.{Run};
@@ -16,9 +16,9 @@ use std::alloc::Allocator;
 
 /// A sink that looks at no item.
 #[derive(Drop)]
-struct Unseen;
+struct AnyItem;
 
-impl Sink for Unseen {
+impl Sink for AnyItem {
     ghost use Rattle.std.specs.Prelude.{◌≡◌, Ok};
 
     ghost step = { λ old item result new. result ≡ Ok tt };
@@ -41,9 +41,9 @@ pub(crate) fn list_ranges<S: Store + Drop, A: Allocator + Copy>(
     ensures fetches { FetchesSome lister.old.source lister.new.source }
     ensures ended { (file : List ℕ) → IsGood lister.old.source.store file → (left : Run) → lister.old.left ≡ Some left
         → IfErr result (λ fault. fault.kind ≡ Budget
-        → EndsAt lister.old (most_read file lister.old.choice lister.old.limit (lister.old.counts.names + names_of_all left.items)) fault) }
+        → EndsListAt lister.old (most_read file lister.old.choice lister.old.limit (lister.old.counts.names + names_of_all left.items)) fault) }
 {
-    match lister.list_into(&mut Unseen) {
+    match lister.list_into(&mut AnyItem) {
         Ok(()) => Ok(()),
         Err(RunFault::At(fault)) => {
             // The proof learns here within which bounds the lister stayed.

@@ -1,7 +1,7 @@
 //! The verdicts on entries as plain structures, put into an array.
 ghost use Rattle.std.specs.Prelude.{◌≡◌, ◌+◌, ℕ, List, IsTrue};
 ghost use Rattle.mdmp_c.specs.Limits.{most_read, names_checked};
-ghost use Rattle.mdmp_c.specs.Table.{EndsAt};
+ghost use Rattle.mdmp_c.specs.Table.{EndsListAt};
 ghost use Rattle.mdmp_c.specs.Verdicts.{Judges, verdict_row};
 ghost use Rattle.mdmp_lister.specs.Lister.{is_fresh};
 ghost use Rattle.mdmp_source.specs.Store.{IsGood};
@@ -81,7 +81,7 @@ fn judge_rows<S: Store + Drop, A: Allocator + Copy>(
     ensures same_output { rows.new.out.ghost_name ≡ rows.old.out.ghost_name }
     ensures judges { (file : List ℕ) → IsGood lister.old.source.store file
         → Judges file lister.old.choice lister.old.limit
-        (EndsAt lister.old (most_read file lister.old.choice lister.old.limit (lister.old.counts.names + names_checked file lister.old.choice lister.old.limit)))
+        (EndsListAt lister.old (most_read file lister.old.choice lister.old.limit (lister.old.counts.names + names_checked file lister.old.choice lister.old.limit)))
         result rows.old.out.now rows.new.out.now }
 {
     match lister.check_into(rows) {
@@ -104,7 +104,7 @@ pub(crate) fn judge<S: Store + Drop, A: Allocator + Copy>(
     requires { IsTrue (is_fresh lister.old) }
     ensures { (file : List ℕ) → IsGood lister.old.source.store file
         → Judges file lister.old.choice lister.old.limit
-        (EndsAt lister.old (most_read file lister.old.choice lister.old.limit (lister.old.counts.names + names_checked file lister.old.choice lister.old.limit)))
+        (EndsListAt lister.old (most_read file lister.old.choice lister.old.limit (lister.old.counts.names + names_checked file lister.old.choice lister.old.limit)))
         result out.old out.new }
 {
     let mut rows = VerdictRows {

@@ -11,7 +11,7 @@ use Rattle.mdmp_lister.specs.Format.Numbers.{maybe_name}
 use Rattle.mdmp_lister.specs.Lister.{tail}
 use Rattle.mdmp_lister.specs.Sink.{names_of_all}
 use Rattle.mdmp_c.specs.Limits.{most_read}
-use Rattle.mdmp_c.specs.Table.{EndsAt}
+use Rattle.mdmp_c.specs.Table.{EndsListAt}
 use Rattle.mdmp_c.proofs.Gathered.{Collects-end, Collects-fault, HasCollected-nothing, HasCollected-passed, HasCollected-taken, names_left}
 use Rattle.mdmp_c.proofs.Stopping.{listing_over}
 use Rattle.mdmp_c.proofs.collecting.collect.Goals as goal
@@ -88,7 +88,7 @@ returns-in-Err g c = λ file good run known.
     let content = spends.fetches.same_content ∙ now.known in
     let refused = rw c.in-Err.is at spends.refused in
     let names = (rw c.in-Err.is at (spends.names_at_fault c.loop-item.invariant.going)).1 in
-    let ended : c.in-Err.fault.kind ≡ kinds.Budget → EndsAt old (most_read file old.choice old.limit (old.counts.names + names_of_all run.items)) c.in-Err.fault =
+    let ended : c.in-Err.fault.kind ≡ kinds.Budget → EndsListAt old (most_read file old.choice old.limit (old.counts.names + names_of_all run.items)) c.in-Err.fault =
     λ is. listing_over old new file (names_of_all run.items) c.counts-counts.result c.in-Err.fault (same_lister-then _ _ _ c.loop-item.invariant.same holds.same) (spends.fetches.same_size ∙ fetched.same_size)
     counts.value (counts.of_file file content) counts.held counts.spent (omega (arith, names, ap maybe_name is, so_far.1.1.1)) refused is in
     Collects-fault g.T.PlainRow.row_of _ run so_far.0 _ c.in-Err.fault _ _ so_far.1.1.0 (c.in-Err.ensures.good file now) (c.in-Err.ensures.gives so_far.0 so_far.1.0) ended

@@ -6,7 +6,7 @@ use Rattle.mdmp_lister.proofs.Fetches.{IsGood-later}
 use Rattle.mdmp_lister.specs.Format.Listing.{listing}
 use Rattle.mdmp_c.specs.Fault.{budget_fault, list_told, status_of}
 use Rattle.mdmp_c.specs.Limits.{AreLimits, EndsListing, most_read, names_listed}
-use Rattle.mdmp_c.specs.Table.{Collects, EndsAt, IsEndedAt, IsTable}
+use Rattle.mdmp_c.specs.Table.{Collects, EndsListAt, IsEndedAt, IsTable}
 use Rattle.mdmp_lister.specs.declared.fault.ListFault.{ListFault}
 use Rattle.mdmp_lister.specs.Sink.{names_of_all}
 use Rattle.mdmp_c.proofs.Ending.{Ends-collected, Ends-refused, all_rows, no_rows}
@@ -42,7 +42,7 @@ returns g c =
     let size : lister.source.size ≡ length file = new.fetches.same_size ∙ sized file c.new-source.result good.known c.new-source.ensures.content in
     let most : most_read file lister.choice lister.limit (lister.counts.names + names_of_all run.items) ≡ most_read file choice c.args.limits.now.name (names_listed file choice c.args.limits.now.name) =
     most_listed file choice c.in-Some.limits.name c.args.limits.now.name lister new.list.asked.choice_is new.list.asked.limit_is new.list.counts.names name in
-    let MayEnd = EndsAt lister (most_read file lister.choice lister.limit (lister.counts.names + names_of_all run.items)) in
+    let MayEnd = EndsListAt lister (most_read file lister.choice lister.limit (lister.counts.names + names_of_all run.items)) in
     let can : (f : ListFault) → MayEnd f → EndsListing c.args.limits.now file choice (budget_fault f.offset f.size) =
     λ f ended. ended_over c.args.limits.now c.in-Some.limits file choice _ lister f.offset f.size c.in-Some.ensures new.list.counts.budget_is new.list.asked.window_room new.list.asked.limit_is size
     (subst (λ n. IsEndedAt lister (Some n) f.offset f.size) most ended) in

@@ -1,7 +1,7 @@
 use Rattle.std.proofs.Common.{rules, ◌+◌, List, subst}
 use Rattle.mdmp_c.specs.declared.fault.PlainFault.{PlainFault}
 use Rattle.mdmp_c.specs.Limits.{most_read, names_checked}
-use Rattle.mdmp_c.specs.Table.{EndsAt}
+use Rattle.mdmp_c.specs.Table.{EndsListAt}
 use Rattle.mdmp_c.specs.Verdicts.{Judges}
 use Rattle.mdmp_c.proofs.verdict_rows.judge.Goals as goal
 
@@ -9,6 +9,6 @@ pub returns : goal.returns
 returns g c = λ file good.
     subst
     (λ (rows : List PlainFault). Judges file c.args.lister.now.choice c.args.lister.now.limit
-    (EndsAt c.args.lister.now (most_read file c.args.lister.now.choice c.args.lister.now.limit (c.args.lister.now.counts.names + names_checked file c.args.lister.now.choice c.args.lister.now.limit)))
+    (EndsListAt c.args.lister.now (most_read file c.args.lister.now.choice c.args.lister.now.limit (c.args.lister.now.counts.names + names_checked file c.args.lister.now.choice c.args.lister.now.limit)))
     c.judge_rows.result c.args.out.now rows)
     (search rules) (c.judge_rows.ensures.judges file good)

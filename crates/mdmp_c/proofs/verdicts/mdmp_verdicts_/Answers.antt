@@ -9,7 +9,7 @@ use Rattle.mdmp_lister.specs.Format.Listing.{entry_count}
 use Rattle.mdmp_c.specs.Fault.{budget_fault, status_of}
 use Rattle.mdmp_lister.specs.declared.fault.ListFault.{ListFault}
 use Rattle.mdmp_c.specs.Limits.{AreLimits, EndsChecking, most_read, names_checked}
-use Rattle.mdmp_c.specs.Table.{EndsAt, IsEndedAt}
+use Rattle.mdmp_c.specs.Table.{EndsListAt, IsEndedAt}
 use Rattle.mdmp_c.specs.Verdicts.{AreVerdicts, Judges}
 use Rattle.mdmp_c.proofs.Ending.{Ends-refused}
 use Rattle.mdmp_c.proofs.Judging.{Ends-judged, all_verdicts, no_verdicts}
@@ -37,7 +37,7 @@ returns c =
     let now : IsGood c.in-Ok.lister.source.store file = IsGood-later file _ _ _ new.fetches good in
     let found = c.judge-judged.ensures file now in
     let lister = c.in-Ok.lister in
-    let MayEnd = EndsAt lister (most_read file lister.choice lister.limit (lister.counts.names + names_checked file lister.choice lister.limit)) in
+    let MayEnd = EndsListAt lister (most_read file lister.choice lister.limit (lister.counts.names + names_checked file lister.choice lister.limit)) in
     let chosen = subst (λ (choice : Choice). Judges file choice lister.limit MayEnd c.judge-judged.result c.args.out.now c.judge-judged.new.out) new.list.asked.choice_is found in
     let limit : c.in-Ok.lister.limit ≡ c.args.limits.now.name = new.list.asked.limit_is ∙ c.in-Some.ensures.name in
     let named = subst (λ (n : ℕ). Judges file All n MayEnd c.judge-judged.result c.args.out.now c.judge-judged.new.out) limit chosen in
