@@ -77,8 +77,8 @@ module _ {S A : Type 0} where
   }
 
   -- bytes that are read beside it are taken off
-  module _ (old new : Reader S A) (size : ℕ) (lister : new.lister ≡ record old.lister { source = new.lister.source; counts = new.lister.counts })
-      (aside : SpendsAside size old.lister.counts new.lister.counts) (length_is : new.lister.source.size ≡ old.lister.source.size) (fits : size ≤ old.left) where
+  module _ (old new : Reader S A) {calls : ℕ} (size : ℕ) (lister : new.lister ≡ record old.lister { source = new.lister.source; counts = new.lister.counts })
+      (aside : SpendsAside calls size old.lister.counts new.lister.counts) (length_is : new.lister.source.size ≡ old.lister.source.size) (fits : size ≤ old.left) where
     same_aside : IsSameReading old.lister new.lister
     same_aside = record {
       rooms = ap (λ (v : ListerState). v.rooms) lister;
