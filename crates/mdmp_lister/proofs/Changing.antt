@@ -155,6 +155,7 @@ module _ {S A : Type 0} (room : ℕ) (old mid : Walk S A) (f : ListFault) (head 
         number = entry ∙ head.same.next;
         named = source_reached f.kind old.meter mid.meter (rw kind tt) (rw head.books.same_names (omega arith)) (rw head.books.same_names (omega arith));
         over = rw kind tt;
+        next = rw kind tt;
       })
       (rw (at, entry_cost-listed (λ d. d) z e of.kind of.known of.inside) (omega arith))
       (λ file content. absurd (never file content))

@@ -12,7 +12,7 @@ use Rattle.mdmp_lister.specs.declared.stage.Stage.TheVariants as stage
 use Rattle.mdmp_lister.specs.declared.step.Step.{Step}
 use Rattle.mdmp_lister.specs.declared.walk.Walk.{Walk}
 use Rattle.mdmp_lister.specs.Fault.{IsListFaultOf, IsOfStore, IsUnobtained, source_of}
-use Rattle.mdmp_lister.specs.Fetching.{IsHeadOf, ReadsRecord, TellsRecord}
+use Rattle.mdmp_lister.specs.Fetching.{IsHeadOf, IsRecordTried, ReadsRecord, TellsRecord, TriesHead}
 use Rattle.mdmp_lister.specs.Following.{IsRecordFault, IsSomeRecord, IsSomeShape}
 use Rattle.mdmp_lister.specs.Following as following
 use Rattle.mdmp_lister.specs.Format.Item.{item_at, range_offset}
@@ -32,6 +32,7 @@ use Rattle.mdmp_lister.proofs.Bodies.{body-shaped, records-faulted, records-give
 use Rattle.mdmp_lister.proofs.Fetches.{FetchesAtMost-none, not_of_source, told_in_caused}
 use Rattle.mdmp_lister.proofs.Heads.{listed-inside}
 use Rattle.mdmp_lister.proofs.Metering.{Books-within, Books_none}
+use Rattle.mdmp_lister.proofs.NextSteps.{record_next}
 use Rattle.mdmp_lister.proofs.Offsets.{range-next}
 use Rattle.mdmp_lister.proofs.Paying.{entry_cost-listed, paid_headed}
 use Rattle.mdmp_lister.proofs.Requests.{Spends-booked, answered_fault, answered_step, fault_meets}
@@ -49,9 +50,10 @@ module _ {S A : Type 0} (old new : Walk S A) (kind : StreamKind) (at : old.stage
       → ((file : List ℕ) → old.meter.source.store.content ≡ Some file → kind ≡ Memory64 → offset ≡ range_offset file old.current.location.rva 0)
       → ((file : List ℕ) → old.meter.source.store.content ≡ Some file → shape_of file old.current.location.rva old.current.location.size kind ≡ Ok head.shape)
       → IsSomeShape old.current.location kind (Ok head.shape)
+      → TriesHead old.current.location kind (Ok head) old.meter new.meter old.window new.window
       → HeadRead old new
   unfolding stream_calls
-  head_read head offset next of small comes bytes fills_left base shape some =
+  head_read head offset next of small comes bytes fills_left base shape some tried =
       let z = old.meter.source.size in
       let e = old.current in
       let begun : 0 < old.next = rw at at sound.staged in
@@ -79,6 +81,7 @@ module _ {S A : Type 0} (old new : Walk S A) (kind : StreamKind) (at : old.stage
         falls = rw (same.room.entries, same.next, next, at) (omega (arith, of.few));
         owes = omega (arith, less);
         books = Books-within 1 1 _ _ old.meter new.meter (omega arith) (omega (arith, less)) books;
+        taken = λ other is. (tried.0, (tried.1.0, rw (next, at, entry_cost-listed (λ d. d) z e kind known inside) tried.1.1));
         paid = λ allowed before paid.
             paid_headed allowed before 1 spent old new paid books same books.fetches.same_size fits called
             (rw (next, at) (omega (arith, of.few)));
@@ -125,6 +128,7 @@ module _ {S A : Type 0} (old new : Walk S A) (f : ListFault) (at : old.stage ≡
         number = omega (arith, told.entry, begun);
         named = rw is (omega arith, omega arith);
         over = rw is tt;
+        next = rw is tt;
       })
       (FetchesAtMost-none old.meter.source) (omega arith)
       (Spends-booked 0 0 old.name.limit old.meter old.meter (Books_none 0 0 old.meter))
@@ -212,8 +216,9 @@ module _ {S A : Type 0} (old new : Walk S A) (kind : StreamKind) (shape : Shape)
       → ((file : List ℕ) → old.meter.source.store.content ≡ Some file → (kind ≡ Memory64 → offset ≡ range_offset file old.current.location.rva k) → (IsUnobtained fault.kind → ⊥)
       → item_at file old.name.limit (old.next - 1) k old.current.location.rva place kind ≡ Err fault)
       → IsRecordFault old.meter.source.size old.name.limit kind fault
+      → IsRecordTried old.name.limit kind place old.meter old.window new.meter fault.kind fault.offset fault.size
       → Answered old (Err f) new
-  answered_record_fault spent fault f next reads bytes called told item some =
+  answered_record_fault spent fault f next reads bytes called told item some tried =
       let e = old.current in
       answered_fault _ (min 1 spent) spent old new f sound reading.begun (rw at refl) (rw at (omega (arith, left))) same next
       (record {
@@ -221,6 +226,7 @@ module _ {S A : Type 0} (old new : Walk S A) (kind : StreamKind) (shape : Shape)
         number = omega (arith, told.entry, reading.begun);
         named = rw told.kind reads.at_fault;
         over = rw (told.kind, told.place.0, told.place.1) (over-within _ _ _ _ _ _ _ (omega (arith, sound.window)) reads.over);
+        next = rw (told.kind, told.place.0, told.place.1) (record_next old new kind shape k offset place at left sound stands fault.kind fault.offset fault.size tried);
       })
       reads.fetches (rw told.kind (omega arith))
       reads.spends (rw at bytes) (rw at called)

@@ -133,6 +133,7 @@ module _ {S A : Type 0} (w n : Walk S A) (room : ℕ) where
         entry = λ _. tt;
       };
       told = λ _. tt;
+      next = λ _. tt;
     }
 
     pub gives_none : (left : Run) → (listed_by rs room w).left ≡ Some left → Gives left (Ok None)
@@ -169,6 +170,7 @@ module _ {S A : Type 0} (w n : Walk S A) (room : ℕ) where
             entry = λ going. (e.met going).number;
           };
           told = λ going. (e.met going).told;
+          next = λ going. (e.met going).next;
         }
 
     pub gives_fault : (left : Run) → (listed_by rs room w).left ≡ Some left → Gives left (Err f)
@@ -211,6 +213,7 @@ module _ {S A : Type 0} (w n : Walk S A) (room : ℕ) where
             entry = λ _. tt;
           };
           told = λ _. tt;
+          next = λ _. tt;
         }
 
     pub gives_item : (left : Run) → (listed_by rs room w).left ≡ Some left → Gives left (Ok (Some x))

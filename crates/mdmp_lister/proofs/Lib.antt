@@ -31,6 +31,7 @@ pub mod Memory
 pub mod Metering
 pub mod NameRows
 pub mod Naming
+pub mod NextSteps
 pub mod Numbers
 pub mod Offsets
 pub mod Openings

@@ -33,6 +33,7 @@ use Rattle.mdmp_lister.proofs.Costs.{stopped-unread, unread-within}
 use Rattle.mdmp_lister.proofs.Ending.{left_of-ended, left_of-fault}
 use Rattle.mdmp_lister.proofs.Fetches.{FetchesAtMost-none, FetchesAtMost-within, told_in_later}
 use Rattle.mdmp_lister.proofs.Budgets.{fault_stage-over}
+use Rattle.mdmp_lister.proofs.NextSteps.{next_then}
 use Rattle.mdmp_lister.proofs.Paying.{fault_stage-calls, fault_stage-owed, fault_stage-work, paid_named, within_named}
 use Rattle.mdmp_lister.proofs.Soundness.{IsGood-after, IsSound-after, fault_stage-going, fault_stage-headed, fault_stage-staged, fault_stage-unfailed, fault_stage-windowed}
 
@@ -334,13 +335,14 @@ module _ {S A : Type 0} (old mid new : Walk S A) (head : HeadRead old mid) where
   given_then (Ok None) given = tt
   given_then (Err f) given = tt
 
-  met_then : (result : Result (Option Step) ListFault) → IfErr result (λ f. FaultMet mid f new) → IfErr result (λ f. FaultMet old f new)
-  met_then (Ok given) met = tt
-  met_then (Err f) met = record {
+  met_then : (result : Result (Option Step) ListFault) → old.stage ≡ Head → IfErr result (λ f. FaultMet mid f new) → IfErr result (λ f. FaultMet old f new)
+  met_then (Ok given) at met = tt
+  met_then (Err f) at met = record {
     told = told_in_later old.current f _ old.meter.source mid.meter.source new.meter.source head.books.fetches (rw head.same.current at met.told);
     number = met.number ∙ head.same.next;
     named = (omega (arith, met.named.0, head.books.same_names), omega (arith, met.named.1, head.books.same_names));
     over = rw (sym head.same.room.window, sym head.same.room.name) met.over;
+    next = next_then old mid head at f.kind f.offset f.size new.meter.fetched met.next;
   }
 
   named_then : (result : Result (Option Step) ListFault) → IfOk result (λ given. Reaches (given_once given) mid.meter new.meter) → IfOk result (λ given. Reaches (given_once given) old.meter new.meter)
@@ -368,7 +370,7 @@ module _ {S A : Type 0} (old mid new : Walk S A) (head : HeadRead old mid) where
             (subst (λ size. Advances size new.name.items (left_of mid file) result (left_of new file)) head.books.fetches.same_size
             (then.listing file (head.books.fetches.same_content ∙ known)));
         given = given_then result then.given;
-        met = λ going. met_then result (then.met (listing-going mid.stage head.stage));
+        met = λ going. met_then result at (then.met (listing-going mid.stage head.stage));
         stage = then.stage;
         passed = subst (λ next. PassesTo result next new.next) head.same.next then.passed;
         current = subst (λ current. CurrentAfter result current new.current) head.same.current then.current;
@@ -404,6 +406,7 @@ module _ {S A : Type 0} (old new : Walk S A) (count : ℕ) (at : old.stage ≡ H
     owes = head.owes;
     of_file = λ file known was. counted.of_file file known;
     met = λ going. tt;
+    next = λ going. tt;
     good = λ file good. tt;
     repeats = λ past. absurd (rw at at past);
     unchanged = λ _. counted.unchanged;
@@ -426,6 +429,7 @@ module _ {S A : Type 0} (old new : Walk S A) (f : ListFault) (at : old.stage ≡
         owes = omega (arith, none);
         of_file = λ file known was. counted.of_file file known;
         met = λ going. ((answered.met going).told, (answered.met going).number);
+        next = λ going. (answered.met going).next;
         good = answered.good;
         repeats = λ past. absurd (rw at at past);
         unchanged = λ _. counted.unchanged;

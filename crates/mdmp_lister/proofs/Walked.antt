@@ -125,6 +125,7 @@ module _ {S A : Type 0} (w : Walk S A) (at : ℕ) (e : Entry) (sound : IsSound w
           entry = λ _. tt;
         };
         told = λ _. tt;
+        next = λ _. tt;
       }
 
   begun_gives : (left : Run) → (walked_by (Sought at) w).left ≡ Some left → Gives left (Ok (Some x))
@@ -442,6 +443,7 @@ module _ {S A : Type 0} (w n : Walk S A) (mark : MeterCounts) (walked : IsWalked
         let before = walked.within (rw e.books.same_names at few) in
         rw e.books.same_names (omega (arith, before.1, e.books.most, e.owes));
     told = e.met;
+    next = e.next;
     good = e.good;
     unchanged = count-unchanged r n.stage e.stage (e.unchanged walked.unchanged);
     repeats = λ stop stopped. rw (e.repeats (stopped-past w.stage stop stopped)) refl;

@@ -1,12 +1,14 @@
 -- What reading promises: some bytes, the head of a stream, a name, a record.
-use Rattle.std.specs.Prelude.{◌≡◌, ◌≤◌, ◌<◌, ◌+◌, ◌-◌, ◌/◌, ◌^◌, ℕ, List, None, Some, Result, IfErr, IfOk, OnOk, length, min, nat_lt, max}
-use Rattle.mdmp_source.specs.Count.{raised_if}
+use Rattle.std.specs.Prelude.{◌≡◌, ◌≤◌, ◌<◌, ◌+◌, ◌-◌, ◌/◌, ◌^◌, ℕ, List, None, Some, Result, Ok, Err, IfErr, IfOk, OnOk, length, min, nat_lt, max}
+use Rattle.mdmp_source.specs.Count.{raised, raised_if}
 use Rattle.mdmp_source.specs.Source.{FetchesAtMost, fault_of}
 use Rattle.mdmp_source.specs.Window.{WindowState, behind_of}
 use Rattle.mdmp_source.specs.declared.fault.SourceFault.{SourceFault}
 use Rattle.mdmp_source.specs.declared.location.Location.{Location}
 use Rattle.mdmp_wire.specs.declared.entry.Entry.{Entry}
 use Rattle.mdmp_lister.specs.declared.fault.Fault.{Fault}
+use Rattle.mdmp_lister.specs.declared.fault.FaultKind.{FaultKind}
+use Rattle.mdmp_lister.specs.declared.fault.FaultKind.TheVariants as kinds
 use Rattle.mdmp_lister.specs.declared.fetching.NameRead.{NameRead}
 use Rattle.mdmp_lister.specs.declared.head.Head.{Head}
 use Rattle.mdmp_lister.specs.declared.kind.StreamKind.{StreamKind}
@@ -15,6 +17,7 @@ use Rattle.mdmp_lister.specs.declared.shape.Shape.{Shape}
 use Rattle.mdmp_lister.specs.declared.step.Step.{Step}
 use Rattle.mdmp_lister.specs.Costs.{name_spent, read_cost, step_spent}
 use Rattle.mdmp_lister.specs.Following.{mapped}
+use Rattle.mdmp_lister.specs.NextFetch.{IsNameFetch, IsNamedAt, IsWindowFetch}
 use Rattle.mdmp_lister.specs.StreamHead.{head_spent}
 use Rattle.mdmp_lister.specs.Holding.{ComesTo, fills, left_behind, needed, reached, started, unfetched}
 use Rattle.mdmp_lister.specs.Meter.{Books, BooksAside, IsUnmade, MeterState, Spends, TellsBudget, TriesFetch, counts_of, store_fault_of}
@@ -23,7 +26,7 @@ use Rattle.mdmp_lister.specs.Walk.Owing.{count_told, ranges_by}
 use Rattle.mdmp_lister.specs.Walk.Reaching.{Reaches, ReachesAtFault, read_once, told_once}
 use Rattle.mdmp_lister.specs.Fault.{IsCaused, IsCausedAt}
 use Rattle.mdmp_lister.specs.Format.Shape.{FitsIn, head_cost}
-use Rattle.mdmp_lister.specs.Format.Kind.{form_of, greatest_record}
+use Rattle.mdmp_lister.specs.Format.Kind.{form_of, greatest_record, record_size}
 use Rattle.mdmp_lister.specs.Step.{IsStepHeld, current_by, passed_by, stream_told}
 
 -- what was read with this answer: an answer of a known file is as it should be, the fetches are booked, a fault of the
@@ -101,6 +104,34 @@ pub record ReadsRecord (room spent limit : ℕ) (result : Result Step Fault) (ol
   pub at_fault : IfErr result (λ fault. ReachesAtFault fault.kind old new)
   pub over : IfErr result (λ fault. IsUnmade (max room (max 4 limit)) fault.kind fault.offset fault.size (counts_of new) new.source.size)
   pub caused : IsCausedAt result old.source new.source
+
+-- ---- which fetch a budget is told of
+
+-- of the name at this RVA
+abbrev pub IsNameTried : (limit rva : ℕ) → FaultKind → (offset size : ℕ) → MeterState → Type 0
+IsNameTried limit rva kinds.Budget offset size m = IsNameFetch m.source.store.content m.source.size limit rva offset size
+IsNameTried limit rva kind offset size m = Unit {0}
+
+-- of the bytes of a record, or of its name
+pub data IsRecordFetch (limit : ℕ) (kind : StreamKind) (at : ℕ) (was : MeterState) (w : WindowState) (fetched offset size : ℕ) : Type 0 where
+  of_bytes : fetched ≡ was.fetched → IsWindowFetch w.room w.end (unfetched w) at (record_size kind) offset size → IsRecordFetch limit kind at was w fetched offset size
+  of_name : (rva : ℕ) → IsNamedAt was.source.store.content kind at rva → IsNameFetch was.source.store.content was.source.size limit rva offset size
+      → IsRecordFetch limit kind at was w fetched offset size
+
+abbrev pub IsRecordTried : (limit : ℕ) → StreamKind → (at : ℕ) → MeterState → WindowState → MeterState → FaultKind → (offset size : ℕ) → Type 0
+IsRecordTried limit kind at was w now kinds.Budget offset size = IsRecordFetch limit kind at was w now.fetched offset size
+IsRecordTried limit kind at was w now fault offset size = Unit {0}
+
+-- of the head of a stream
+abbrev pub IsHeadTried : (room : ℕ) → Location → StreamKind → MeterState → MeterState → FaultKind → (offset size : ℕ) → Type 0
+IsHeadTried room at kind was now kinds.Budget offset size =
+    (now.fetched ≡ was.fetched) × IsWindowFetch room (at.rva + at.size) at.size at.rva (head_cost (form_of kind)) offset size
+IsHeadTried room at kind was now fault offset size = Unit {0}
+
+-- else so many bytes were fetched of it, which come off those of the stream
+abbrev pub TriesHead : Location → StreamKind → Result Head Fault → (was now : MeterState) → (old new : WindowState) → Type 0
+TriesHead at kind (Ok head) was now old new = (taken : ℕ) × ((now.fetched ≡ raised was.fetched taken) × (unfetched new ≡ at.size - taken))
+TriesHead at kind (Err fault) was now old new = IsHeadTried old.room at kind was now fault.kind fault.offset fault.size
 
 -- a step tells a record of this kind, its name fits in `room` bytes, and it begins no entry
 pub record TellsRecord (room : ℕ) (kind : StreamKind) (s : Step) : Type 0 where

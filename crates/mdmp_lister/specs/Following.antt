@@ -47,6 +47,11 @@ abbrev pub records_by : Standing → ℕ
 records_by (within given left offset) = left
 records_by standing = 0
 
+-- how many were given
+abbrev pub given_by : Standing → ℕ
+given_by (within given left offset) = given
+given_by standing = 0
+
 -- the number of the first entry behind the current one, that entry, and how far it was given
 pub record Cursor : Type 0 where
   pub passed : ℕ

@@ -32,6 +32,7 @@ use Rattle.mdmp_lister.specs.Format.Listing.{Run, nothing, only_fault, items_fro
 use Rattle.mdmp_lister.specs.Format.Shape.{shape_of}
 use Rattle.mdmp_lister.specs.Memory.{is_within}
 use Rattle.mdmp_lister.specs.Meter.{IsBegunOver, IsUnmade, Moves, SpendsAside}
+use Rattle.mdmp_lister.specs.NextFetch.{Standpoint, TellsNextFetch}
 use Rattle.mdmp_lister.specs.declared.meter.MeterCounts.{MeterCounts}
 use Rattle.mdmp_lister.specs.Format.Ranges.{ranges_of}
 use Rattle.mdmp_lister.specs.Fault.{is_unobtained, IsUnobtained, IsSteady, IsToldIn}
@@ -140,6 +141,19 @@ GivesLeftRecord old (Err f) new = Unit {0}
 -- where it stands in its directory
 abbrev pub cursor_in : ListerState → Cursor
 cursor_in v = record { passed = v.passed; current = v.current; standing = v.standing }
+
+-- where it stands as its next item is asked for
+abbrev pub standpoint_in : ListerState → Standpoint
+standpoint_in v = record {
+  content = v.source.store.content;
+  size = v.source.size;
+  room = v.rooms.window;
+  limit = v.limit;
+  entry = v.current;
+  standing = v.standing;
+  unread = v.unread;
+  fetched = v.counts.fetched;
+}
 
 -- an answer, whatever place the name of its item is lent from
 abbrev pub plain_answer : Result (Option Item) ListFault → Result (Option Item) ListFault
@@ -272,6 +286,8 @@ pub record NextLeaves (old : ListerState) (result : Result (Option Item) ListFau
   pub places : NextPlaces old result new
   -- a fault of the store that does not stand yet is told in this call; it and one of the budget are of no item
   pub told : old.stop ≡ None → IfErr result (λ f. IsToldIn old.current f old.source new.source)
+  -- and one of the budget is of the next fetch
+  pub next : old.stop ≡ None → IfErr result (λ f. TellsNextFetch (standpoint_in old) f.kind f.offset f.size new.counts.fetched)
 
 -- and of a lister, which keeps the ranges that it gives, and whose count of names is never at its greatest
 pub record ListerLeaves (old : ListerState) (result : Result (Option Item) ListFault) (new : ListerState) : Type 0 where

@@ -1,21 +1,31 @@
 -- Which fetch it is that a budget doesn't allow.
-use Rattle.std.specs.Prelude.{◌≡◌, ◌<◌, ◌+◌, ◌-◌, ◌*◌, ◌/◌, ℕ, zero, suc, List, Option, Some, None, Result, Ok, Err, IsTrue, min, take, slice_get}
+use Rattle.std.specs.Prelude.{◌≡◌, ◌≤◌, ◌<◌, ◌+◌, ◌-◌, ◌*◌, ◌/◌, ◌%◌, ℕ, zero, suc, List, Option, Some, None, Result, Ok, Err, IsTrue, max, min, take, slice_get}
 use Rattle.mdmp_source.specs.Count.{raised}
 use Rattle.mdmp_source.specs.Range.{IsInside}
 use Rattle.mdmp_source.specs.Source.{SourceState}
+use Rattle.mdmp_wire.specs.AnyRecord.{name_rva}
 use Rattle.mdmp_wire.specs.Header.{header_at}
 use Rattle.mdmp_wire.specs.HeaderFault.{header_fault_of}
+use Rattle.mdmp_wire.specs.Number.{u32_at}
 use Rattle.mdmp_wire.specs.declared.entry.Entry.{Entry}
 use Rattle.mdmp_wire.specs.declared.header.Header.{Header}
 use Rattle.mdmp_lister.specs.declared.choice.Choice.{Choice}
+use Rattle.mdmp_lister.specs.declared.fault.FaultKind.{FaultKind}
+use Rattle.mdmp_lister.specs.declared.fault.FaultKind.TheVariants as kind
 use Rattle.mdmp_lister.specs.declared.fault.FetchFault.{FetchFault}
 use Rattle.mdmp_lister.specs.declared.fault.FetchFault.TheVariants as fetch
 use Rattle.mdmp_lister.specs.declared.fault.OpenFault.{OpenFault}
 use Rattle.mdmp_lister.specs.declared.fault.OpenFault.TheVariants.{Budget}
+use Rattle.mdmp_lister.specs.declared.kind.StreamKind.{StreamKind}
 use Rattle.mdmp_lister.specs.declared.limits.Limits.{Limits}
+use Rattle.mdmp_lister.specs.declared.shape.Shape.{Shape}
+use Rattle.mdmp_lister.specs.Following.{Standing, begun, given_by}
 use Rattle.mdmp_lister.specs.Format.Directory.{IsDirectory}
+use Rattle.mdmp_lister.specs.Format.Item.{record_at}
+use Rattle.mdmp_lister.specs.Format.Kind.{form_of, kind_of, record_size}
 use Rattle.mdmp_lister.specs.Format.Listing.{is_chosen}
 use Rattle.mdmp_lister.specs.Format.Refusal.{directory_refusal}
+use Rattle.mdmp_lister.specs.Format.Shape.{FitsIn, head_cost, shape_of}
 use Rattle.mdmp_lister.specs.Meter.{KeepsTo, MeterState, is_passed}
 use Rattle.mdmp_lister.specs.StreamHead.{ahead_of, heads_ahead}
 
@@ -84,3 +94,66 @@ TriesDirectory window header (Err (fetch.Source fault)) old new = Unit {0}
 abbrev pub TriesHeads : {T : Type 0} → Choice → ℕ → List Entry → Result T FetchFault → MeterState → MeterState → Type 0
 TriesHeads choice z entries (Err (fetch.Budget offset size)) old new = (taken : ℕ) × ((new.fetched ≡ raised old.fetched taken) × IsHeadFetch choice z entries 0 taken offset size)
 TriesHeads choice z entries answer old new = Unit {0}
+
+-- ---- as it is listed
+
+-- what a window with this room takes next of a stretch up to `end`, of which so many bytes are unread, where the `wanted` bytes
+-- at `at` are not all held: those behind what it holds from there on, as many as it has room for
+pub record IsWindowFetch (room end unread at wanted offset size : ℕ) : Type 0 where
+  pub offset_is : offset ≡ max at (end - unread)
+  pub size_is : size ≡ min (room - (offset - at)) (end - offset)
+  pub lacks : offset < at + wanted
+
+-- the length of the name at this RVA comes next, in a file of z bytes, or its units, of no more bytes than the limit
+pub data IsNameFetch (content : Option (List ℕ)) (z limit rva offset size : ℕ) : Type 0 where
+  of_length : 0 < rva → IsInside rva 4 z → offset ≡ rva → size ≡ 4 → IsNameFetch content z limit rva offset size
+  of_units : 0 < rva → IsInside (rva + 4) size z → offset ≡ rva + 4 → size % 2 ≡ 0 → size ≤ limit
+      → ((file : List ℕ) → content ≡ Some file → u32_at file rva ≡ size) → IsNameFetch content z limit rva offset size
+
+-- the record of this kind at `at` has its name at this RVA
+abbrev pub IsNamedAt : Option (List ℕ) → StreamKind → ℕ → ℕ → Type 0
+IsNamedAt content kind at rva = (file : List ℕ) → content ≡ Some file → name_rva (record_at kind file at) ≡ Some rva
+
+-- where a listing stands as its next item is asked for
+pub record Standpoint : Type 0 where
+  -- the file, where it is known, and its size
+  pub content : Option (List ℕ)
+  pub size : ℕ
+  -- what the window has room for, and the limit on names
+  pub room : ℕ
+  pub limit : ℕ
+  -- the current entry, how far it was given, and how many bytes of its stream are unread
+  pub entry : Entry
+  pub standing : Standing
+  pub unread : ℕ
+  -- the bytes fetched so far
+  pub fetched : ℕ
+
+-- the next record of the current entry is of this kind and stands at `at`, as the head of its stream says
+pub record IsNextRecord (s : Standpoint) (kind : StreamKind) (at : ℕ) : Type 0 where
+  pub shape : Shape
+  pub kind_is : kind_of s.entry.stream_type ≡ Some kind
+  pub fits : FitsIn s.entry.location.size kind shape
+  pub left : given_by s.standing < shape.count
+  pub of_file : (file : List ℕ) → s.content ≡ Some file → shape_of file s.entry.location.rva s.entry.location.size kind ≡ Ok shape
+  pub at_is : at ≡ s.entry.location.rva + shape.first + given_by s.standing * shape.stride
+
+-- a window that slides over the current entry's stream takes this next, where so many of its bytes are unread
+abbrev pub IsStreamFetch : Standpoint → (unread at wanted offset size : ℕ) → Type 0
+IsStreamFetch s unread at wanted offset size = IsWindowFetch s.room (s.entry.location.rva + s.entry.location.size) unread at wanted offset size
+
+-- the fetch that comes next where so many bytes were fetched: of the head of the current entry's stream, of its next record, or
+-- of that record's name
+pub data IsNextFetch (s : Standpoint) (fetched offset size : ℕ) : Type 0 where
+  of_head : s.standing ≡ begun → (kind : StreamKind) → kind_of s.entry.stream_type ≡ Some kind → fetched ≡ s.fetched
+      → IsStreamFetch s s.unread s.entry.location.rva (head_cost (form_of kind)) offset size → IsNextFetch s fetched offset size
+  -- what was taken of the stream since then is no longer unread
+  of_record : (kind : StreamKind) (at taken : ℕ) → IsNextRecord s kind at → fetched ≡ raised s.fetched taken
+      → IsStreamFetch s (s.unread - taken) at (record_size kind) offset size → IsNextFetch s fetched offset size
+  of_name : (kind : StreamKind) (at rva : ℕ) → IsNextRecord s kind at → IsNamedAt s.content kind at rva
+      → IsNameFetch s.content s.size s.limit rva offset size → IsNextFetch s fetched offset size
+
+-- a fault that tells the budget is of the next fetch
+abbrev pub TellsNextFetch : Standpoint → FaultKind → (offset size fetched : ℕ) → Type 0
+TellsNextFetch s kind.Budget offset size fetched = IsNextFetch s fetched offset size
+TellsNextFetch s kind offset size fetched = Unit {0}

@@ -19,8 +19,9 @@ use Rattle.mdmp_lister.specs.Following.{Follows, IsBegun, begun, records_by}
 use Rattle.mdmp_lister.specs.Format.Item.{plain}
 use Rattle.mdmp_lister.specs.Format.Kind.{HasNoNames, kind_of}
 use Rattle.mdmp_lister.specs.Format.Listing.{Run, listing_sought, only_fault, records_told, stream_item}
-use Rattle.mdmp_lister.specs.Lister.{AnswersNext, Gives, cursor_in, IsNewList, IsSameLister, NextLeaves, ListerState, IsRefusedIn}
+use Rattle.mdmp_lister.specs.Lister.{AnswersNext, Gives, cursor_in, IsNewList, IsSameLister, NextLeaves, ListerState, IsRefusedIn, standpoint_in}
 use Rattle.mdmp_lister.specs.Meter.{Moves}
+use Rattle.mdmp_lister.specs.NextFetch.{TellsNextFetch}
 use Rattle.mdmp_lister.specs.Step.{TellsAnswer}
 use Rattle.mdmp_lister.specs.Listed.{entry_cost}
 use Rattle.mdmp_lister.specs.Walk.Positions.{mark_by, position_by}
@@ -158,6 +159,8 @@ pub record CountsRecords (old : WalkerState) (result : Result ℕ ListFault) (ne
   pub spent : IsSpentSince old new.list.counts
   pub fetched : IsFetchedSince old new.list.counts
   pub told : old.list.stop ≡ None → IfErr result (λ f. IsToldIn old.list.current f old.list.source new.list.source × (f.entry + 1 ≡ old.list.passed))
+  -- one of the budget is of the next fetch
+  pub next : old.list.stop ≡ None → IfErr result (λ f. TellsNextFetch (standpoint_in old.list) f.kind f.offset f.size new.list.counts.fetched)
   pub good : (file : List ℕ) → IsGood old.list.source.store file → IfErr result (λ f. IsOfStore f.kind → ⊥)
   pub refused : IfErr result (λ f. IsRefusedIn f new.list)
   pub unchanged : IfErr result (λ f. TellsNoChange f.kind)

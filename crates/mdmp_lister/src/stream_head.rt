@@ -2,7 +2,7 @@
 ghost use Rattle.std.specs.Prelude.{◌≡◌, ◌≤◌, ◌+◌, ℕ, List, Some, IfOk};
 ghost use Rattle.mdmp_source.specs.Range.{IsInside};
 ghost use Rattle.mdmp_wire.specs.Number.{number_at};
-ghost use Rattle.mdmp_lister.specs.Fetching.{BeginsStream, IsHeadOf, ReadsHead, shape_told};
+ghost use Rattle.mdmp_lister.specs.Fetching.{BeginsStream, IsHeadOf, ReadsHead, TriesHead, shape_told};
 ghost use Rattle.mdmp_lister.specs.Following.{IsSomeShape};
 ghost use Rattle.mdmp_lister.specs.Format.Kind.{greatest_record};
 ghost use Rattle.mdmp_lister.specs.Format.Shape.{shape_of};
@@ -66,6 +66,7 @@ pub(crate) fn begin_stream<S: Store, A: Allocator>(
         → kind ≡ StreamKind.Memory64 → IfOk result (λ head. head.base ≡ number_at file (at.rva + 8) 8) }
     ensures head { IfOk result (IsHeadOf at.size kind) }
     ensures begins { BeginsStream at result meter.old meter.new window.old window.new }
+    ensures tries { TriesHead at kind result meter.old meter.new window.old window.new }
     ensures some { IsSomeShape at kind (shape_told result) }
 {
     check_head(at, kind)?;

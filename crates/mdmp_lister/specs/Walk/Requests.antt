@@ -1,5 +1,6 @@
 -- What a request for the next item leaves of a walk.
 use Rattle.std.specs.Prelude.{◌≡◌, ◌≤◌, ◌<◌, ◌+◌, ◌-◌, ℕ, List, Option, Some, None, Result, Ok, Err, IfOk, IfErr, IfSome, IsOk, IsTrue, false, get_or, length, max}
+use Rattle.mdmp_source.specs.Count.{raised}
 use Rattle.mdmp_source.specs.Source.{FetchesAtMost}
 use Rattle.mdmp_source.specs.Store.{IsGood}
 use Rattle.mdmp_source.specs.declared.fault.SourceFault.{SourceFault}
@@ -9,6 +10,7 @@ use Rattle.mdmp_source.specs.declared.location.Location.{Location}
 use Rattle.mdmp_lister.specs.declared.codeview.CodeViewRead.{CodeViewRead}
 use Rattle.mdmp_lister.specs.declared.fault.FaultKind.TheVariants.{Source}
 use Rattle.mdmp_lister.specs.declared.fault.ListFault.{ListFault}
+use Rattle.mdmp_lister.specs.declared.kind.StreamKind.{StreamKind}
 use Rattle.mdmp_lister.specs.declared.meter.Amount.{Amount}
 use Rattle.mdmp_lister.specs.declared.step.Step.{Step}
 use Rattle.mdmp_lister.specs.declared.step.Step.TheVariants as step
@@ -16,6 +18,7 @@ use Rattle.mdmp_lister.specs.declared.walk.Walk.{Walk}
 use Rattle.mdmp_lister.specs.CodeView.{ReadsCodeView}
 use Rattle.mdmp_lister.specs.Costs.{IsUnreadBy, begun_at, given_spent, stream_begun}
 use Rattle.mdmp_lister.specs.Meter.{Books, IsUnmade, Moves, counts_of}
+use Rattle.mdmp_lister.specs.NextFetch.{Standpoint, TellsNextFetch}
 use Rattle.mdmp_lister.specs.Walk.Paying.{IsPaid, IsWithinSince, unread_bytes}
 use Rattle.mdmp_lister.specs.Walk.Reaching.{Reaches, ReachesAtFault, given_once}
 use Rattle.mdmp_lister.specs.Fault.{IsOfStore, IsToldIn}
@@ -38,6 +41,23 @@ module _ {S A : Type 0} where
     pub head : IfSome (stream_told step) (λ _. new.stage ≡ Head)
     pub falls : work_of new < work_of old
 
+  -- where it stands as its next step is asked for
+  abbrev pub standpoint_of : Walk S A → Standpoint
+  standpoint_of w = record {
+    content = w.meter.source.store.content;
+    size = w.meter.source.size;
+    room = w.window.room;
+    limit = w.name.limit;
+    entry = w.current;
+    standing = standing_of w.stage;
+    unread = unread_bytes w;
+    fetched = w.meter.fetched;
+  }
+
+  -- so many bytes were fetched, and come off those of the current entry's stream that may still be
+  abbrev pub TakesUnread : Walk S A → Walk S A → Type 0
+  TakesUnread old new = (taken : ℕ) × ((new.meter.fetched ≡ raised old.meter.fetched taken) × (unread_bytes new ≡ unread_bytes old - taken))
+
   -- a fault that was met: it stands in the current entry; one of the store was told by the last fetch, and one of the budget
   -- is of a fetch that was not made
   pub record FaultMet (old : Walk S A) (fault : ListFault) (new : Walk S A) : Type 0 where
@@ -45,6 +65,8 @@ module _ {S A : Type 0} where
     pub number : fault.entry + 1 ≡ old.next
     pub named : ReachesAtFault fault.kind old.meter new.meter
     pub over : IsUnmade (max old.window.room old.name.limit) fault.kind fault.offset fault.size (counts_of new.meter) new.meter.source.size
+    -- the one that comes next
+    pub next : TellsNextFetch (standpoint_of old) fault.kind fault.offset fault.size new.meter.fetched
 
   -- a request for the next item was answered so, and left the walk so
   pub record Answered (old : Walk S A) (result : Result (Option Step) ListFault) (new : Walk S A) : Type 0 where
@@ -86,6 +108,8 @@ module _ {S A : Type 0} where
     pub falls : work_of new < work_of old
     pub owes : unread_bytes new ≤ unread_bytes old
     pub books : Books 1 (unread_bytes old - unread_bytes new) old.meter new.meter
+    -- what was fetched is no longer unread
+    pub taken : (kind : StreamKind) → kind_of old.current.stream_type ≡ Some kind → TakesUnread old new
     pub paid : (allowed : Amount) (before : ℕ) → IsPaid allowed before old → IsPaid allowed before new
 
   -- the head of the current entry was read, or has a fault: what was fetched of it came off what was unread, and where the
@@ -123,6 +147,7 @@ module _ {S A : Type 0} where
     pub of_file : (file : List ℕ) → old.meter.source.store.content ≡ Some file → IsCounted (records_told file (record { number = old.next - 1; entry = old.current })) old.stage
         → IsCounted (records_told file (record { number = old.next - 1; entry = old.current })) new.stage
     pub met : stop_of old.stage ≡ None → IfErr result (λ fault. IsToldIn old.current fault old.meter.source new.meter.source × (fault.entry + 1 ≡ old.next))
+    pub next : stop_of old.stage ≡ None → IfErr result (λ fault. TellsNextFetch (standpoint_of old) fault.kind fault.offset fault.size new.meter.fetched)
     pub good : (file : List ℕ) → IsGood old.meter.source.store file → IfErr result (λ fault. IsOfStore fault.kind → ⊥)
     pub repeats : IsPastHead old.stage → new ≡ old
     pub unchanged : StaysUnchanged old.stage → StaysUnchanged new.stage

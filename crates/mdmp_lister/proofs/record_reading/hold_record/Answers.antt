@@ -10,3 +10,6 @@ returns-clause-reads g c =
       caused = read.caused;
       refused = read.refused;
     }
+
+pub returns-clause-tries : goal.returns-clause-tries
+returns-clause-tries g c = rw c.record_size.ensures.value at c.hold.ensures.tries

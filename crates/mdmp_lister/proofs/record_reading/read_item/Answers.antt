@@ -1,8 +1,9 @@
-use Rattle.std.proofs.Common.{◌≡◌, ◌∙◌, Err, Some, refl, rules, sym}
+use Rattle.std.proofs.Common.{◌≡◌, ◌∙◌, Err, Some, ap, refl, rules, sym}
 use Rattle.mdmp_wire.specs.AnyRecord.{name_rva}
 use Rattle.mdmp_lister.specs.Fault.{fault_of_fetch}
 use Rattle.mdmp_lister.specs.Following.{of_name}
 use Rattle.mdmp_lister.specs.Format.Item.{record_at}
+use Rattle.mdmp_lister.proofs.NextSteps.{name_refused, record_refused}
 use Rattle.mdmp_lister.proofs.RecordReads.{reads_failed, reads_misnamed, reads_named, reads_nameless}
 use Rattle.mdmp_lister.proofs.record_reading.read_item.Goals as goal
 
@@ -35,3 +36,19 @@ pub returns-in-Err-clause-some : goal.returns-in-Err-clause-some
 returns-in-Err-clause-some g c =
     let rva : name_rva (record_at c.args.kind c.hold_record.new.window.held 0) ≡ Some c.in-Some.rva = rw c.bytes.ensures at (sym c.held_name_rva.ensures ∙ c.in-Some.is) in
     of_name (record_at c.args.kind c.hold_record.new.window.held 0) (sym c.in_ok-hold_record.ensures.kind) (rw (rva, ← c.in_ok-hold_record.ensures.reads.books.fetches.same_size) c.in-Err.ensures.some)
+
+pub returns-in_err-hold_record-clause-tries : goal.returns-in_err-hold_record-clause-tries
+returns-in_err-hold_record-clause-tries g c =
+    let a = c.args in
+    let fault = c.in_err-hold_record.field-0.0 in
+    let is : c.from_residual.result ≡ Err (fault_of_fetch fault) = search rules in
+    rw is (record_refused _ a.kind a.at a.meter.now c.hold_record.new.meter a.window.now c.hold_record.new.window fault c.requires.ahead c.in_err-hold_record.ensures.tries)
+
+pub returns-in-Err-clause-tries : goal.returns-in-Err-clause-tries
+returns-in-Err-clause-tries g c =
+    let a = c.args in
+    let fault = c.in-Err.fault in
+    let held = c.in_ok-hold_record.ensures.reads in
+    let rva : name_rva (record_at a.kind c.hold_record.new.window.held 0) ≡ Some c.in-Some.rva = rw c.bytes.ensures at (sym c.held_name_rva.ensures ∙ c.in-Some.is) in
+    name_refused _ a.kind a.at a.meter.now c.hold_record.new.meter a.window.now c.hold_record.new.window c.in-Some.rva c.read_name.new.meter fault.kind fault.offset fault.size
+    held.books.fetches.same_size held.books.fetches.same_content (λ file known. ap name_rva (held.of_file file known) ∙ rva) c.in-Err.ensures.tries

@@ -11,6 +11,7 @@ use Rattle.mdmp_lister.specs.Following.{IsSomeShape, failed}
 use Rattle.mdmp_lister.specs.Format.Kind.{form_of, record_size}
 use Rattle.mdmp_lister.specs.Format.Shape.{head_cost, head_size}
 use Rattle.mdmp_lister.proofs.HeadReads.{begins_failed, begins_read, begins_short}
+use Rattle.mdmp_lister.proofs.NextSteps.{head_refused, head_tried}
 use Rattle.mdmp_lister.proofs.stream_head.begin_stream.Goals as goal
 
 some_failed : (at : Location) (kind : StreamKind) (r : Result Head Fault) → head_size (form_of kind) (record_size kind) ≤ at.size → IsErr r → IfErr r (λ fault. IsUnobtained fault.kind)
@@ -44,3 +45,28 @@ returns-clause-begins g c =
     let begun = rw (c.from-start.ensures, c.from.ensures) at c.start.ensures in
     begins_read c.args.at (form_of c.args.kind) c.args.meter.now c.hold.new.meter c.args.window.now c.start.new.self c.hold.new.window begun (rw c.from-start.ensures at hold.comes)
     _ c.head_of.result c.requires.room (rw (c.from-start.ensures, least) at hold.reads) (rw (c.from-start.ensures, least) at hold.slides) c.head_of.ensures.fault
+
+pub returns-in_err-check_head-clause-tries : goal.returns-in_err-check_head-clause-tries
+returns-in_err-check_head-clause-tries g c =
+    let fault : Fault = c.in_err-check_head.field-0.0 in
+    let is : c.from_residual.result ≡ Err fault = search rules in
+    rw (is, c.in_err-check_head.ensures.short.is) tt
+
+pub returns-in_err-hold-clause-tries : goal.returns-in_err-hold-clause-tries
+returns-in_err-hold-clause-tries g c =
+    let a = c.args in
+    let fault = c.in_err-hold.field-0.0 in
+    let hold = c.in_err-hold.ensures in
+    let is : c.from_residual-in_err-hold.result ≡ Err (fault_of_fetch fault) = search rules in
+    let least = c.head_cost-least.ensures.value ∙ ap head_cost c.form.ensures in
+    let begun = rw (c.from-start.ensures, c.from.ensures) at c.start.ensures in
+    rw is (head_refused a.at a.kind a.meter.now c.hold.new.meter a.window.now c.start.new.self c.hold.new.window begun fault (rw (c.from-start.ensures, least) at hold.tries))
+
+pub returns-clause-tries : goal.returns-clause-tries
+returns-clause-tries g c =
+    let a = c.args in
+    let hold = c.in_ok-hold.ensures in
+    let least = c.head_cost-least.ensures.value ∙ ap head_cost c.form.ensures in
+    let begun = rw (c.from-start.ensures, c.from.ensures) at c.start.ensures in
+    head_tried a.at a.kind a.meter.now c.hold.new.meter a.window.now c.start.new.self c.hold.new.window begun c.head_of.result
+    hold.comes.end (rw (c.from-start.ensures, least) at hold.tries) c.head_of.ensures.fault

@@ -10,6 +10,7 @@ use Rattle.mdmp_lister.proofs.Counted.{counted_bad, counted_none, counted_outsid
 use Rattle.mdmp_lister.proofs.Fetches.{not_of_source, told_in_caused, unchanged_caused}
 use Rattle.mdmp_lister.proofs.Heads.{listed-inside}
 use Rattle.mdmp_lister.proofs.Metering.{Books-within, Books_none}
+use Rattle.mdmp_lister.proofs.NextSteps.{head_next}
 use Rattle.mdmp_lister.proofs.Paying.{entry_cost-listed, fault_stage-owed}
 use Rattle.mdmp_lister.proofs.Unchanged.{fault_stage-unchanged}
 use Rattle.mdmp_lister.proofs.walk.Walk.read_head.Goals as goal
@@ -21,7 +22,7 @@ returns-in-Ok-clause-read g c =
     let of = c.in-Ok.ensures in
     let base = c.from.ensures in
     head_read w _ c.in-Some-of_type.kind c.requires.head c.requires.sound (search rules) (search rules) (search rules) _ of.begins.books
-    c.in-Ok.head c.from.result refl of.head (omega (arith, base, c.from.type_inv)) of.begins.comes of.begins.bytes of.begins.fills_left (λ file content memory. omega (arith, base, of.base file content memory)) of.shape of.some
+    c.in-Ok.head c.from.result refl of.head (omega (arith, base, c.from.type_inv)) of.begins.comes of.begins.bytes of.begins.fills_left (λ file content memory. omega (arith, base, of.base file content memory)) of.shape of.some of.tries
 
 pub returns-in-Ok-clause-counted : goal.returns-in-Ok-clause-counted
 returns-in-Ok-clause-counted g c =
@@ -90,6 +91,7 @@ returns-in-Err-clause-read g c =
       number = omega (arith, told.entry, begun);
       named = rw told.kind of.begins.at_fault;
       over = rw (told.kind, told.place.0, told.place.1) (over-within _ _ _ _ _ _ _ (omega arith) of.begins.over);
+      next = rw (told.kind, told.place.0, told.place.1) (head_next w (record w { meter = c.begin_stream.new.meter }) kind c.requires.head whole known c.in-Err.fault.kind c.in-Err.fault.offset c.in-Err.fault.size of.tries);
     })
     (omega (arith, of.begins.bytes))
     (λ file content not.

@@ -45,7 +45,7 @@ returns-in-Err-clause-read g c =
     (taken_fault w _ c.of_entry.result
     (answered_record_fault w _ a.kind a.shape a.index a.offset c.record_at-at.result c.requires.stage c.requires.left c.requires.sound (search rules) c.record_at-at.ensures.place
     _ c.in-Err.fault c.of_entry.result refl (rw room at of.reads) (omega (arith, of.slides.bytes)) (omega (arith, of.slides.calls greatest_record (most_record a.kind) c.requires.sound.window)) c.of_entry.ensures (λ file known here other. rw room at (of.item file known w.current.location.rva here other))
-    (rw room at of.some))
+    (rw room at of.some) (rw room at of.tries))
     (λ stays. fault_stage-unchanged c.of_entry.result (unchanged_caused c.in-Err.fault c.of_entry.result w.meter.source c.read_item.new.meter.source of.reads.caused c.of_entry.ensures.kind))
     (λ none. of.nameless (nameless_reading w a.kind a.shape a.index a.offset c.requires.stage c.requires.sound none)))
 
