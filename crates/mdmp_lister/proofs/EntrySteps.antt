@@ -1,5 +1,6 @@
 -- What requests leave of a walk within an entry: behind its head, behind each record, and at their faults.
 use Rattle.std.proofs.Common.{◌≡◌, ◌≤◌, ◌<◌, ◌+◌, ◌-◌, ◌*◌, ◌/◌, ◌^◌, ◌∙◌, ℕ, List, None, Some, Ok, Err, false, arith, ap, length, min, refl, subst, sym}
+use Rattle.mdmp_source.specs.Count.{raised}
 use Rattle.mdmp_source.specs.Store.{IsGood}
 use Rattle.mdmp_lister.specs.declared.fault.Fault.{Fault}
 use Rattle.mdmp_lister.specs.declared.fault.FaultKind.TheVariants.{StreamOutside}
@@ -16,17 +17,18 @@ use Rattle.mdmp_lister.specs.Fetching.{IsHeadOf, IsRecordTried, ReadsRecord, Tel
 use Rattle.mdmp_lister.specs.Following.{IsRecordFault, IsSomeRecord, IsSomeShape}
 use Rattle.mdmp_lister.specs.Following as following
 use Rattle.mdmp_lister.specs.Format.Item.{item_at, range_offset}
-use Rattle.mdmp_lister.specs.Format.Kind.{HasNoNames, greatest_record, has_names, kind_of}
+use Rattle.mdmp_lister.specs.Format.Kind.{HasNoNames, form_of, greatest_record, has_names, kind_of}
 use Rattle.mdmp_lister.specs.Format.Listing.{entry_body, only_fault}
-use Rattle.mdmp_lister.specs.Format.Shape.{location_fault, shape_of}
+use Rattle.mdmp_lister.specs.Format.Shape.{head_cost, location_fault, shape_of}
 use Rattle.mdmp_lister.specs.Holding.{ComesTo, fills, started, unfetched}
 use Rattle.mdmp_lister.specs.Meter.{Books}
+use Rattle.mdmp_lister.specs.NextFetch.{head_takes, window_takes}
 use Rattle.mdmp_lister.specs.Stage.{fault_stage}
 use Rattle.mdmp_lister.specs.Step.{bytes_behind, step_item}
 use Rattle.mdmp_lister.specs.Walk.{IsHolding, IsReading, IsSound, SameEntry}
 use Rattle.mdmp_lister.specs.Walk.Checking.{RecordGiven}
 use Rattle.mdmp_lister.specs.Walk.Paying.{calls_owed, owed_of, stream_calls, unread_bytes}
-use Rattle.mdmp_lister.specs.Walk.Requests.{Answered, FaultMet, HeadRead}
+use Rattle.mdmp_lister.specs.Walk.Requests.{Answered, FaultMet, HeadRead, TakesHead, standpoint_of}
 use Rattle.mdmp_lister.proofs.Budgets.{over-within}
 use Rattle.mdmp_lister.proofs.Bodies.{body-shaped, records-faulted, records-given}
 use Rattle.mdmp_lister.proofs.Fetches.{FetchesAtMost-none, not_of_source, told_in_caused}
@@ -81,7 +83,12 @@ module _ {S A : Type 0} (old new : Walk S A) (kind : StreamKind) (at : old.stage
         falls = rw (same.room.entries, same.next, next, at) (omega (arith, of.few));
         owes = omega (arith, less);
         books = Books-within 1 1 _ _ old.meter new.meter (omega arith) (omega (arith, less)) books;
-        taken = λ other is. (tried.0, (tried.1.0, rw (next, at, entry_cost-listed (λ d. d) z e kind known inside) tried.1.1));
+        taken = λ other is.
+            let same : other ≡ kind = cc in
+            let all = entry_cost-listed (λ d. d) z e kind known inside in
+            let takes : head_takes (standpoint_of old) kind ≡ window_takes old.window.room (e.location.rva + e.location.size) e.location.size e.location.rva (head_cost (form_of kind)) = rw (at, all) refl in
+            subst (λ k. TakesHead k old new) (sym same)
+            (subst (λ n. (new.meter.fetched ≡ raised old.meter.fetched n) × (unread_bytes new ≡ unread_bytes old - n)) (sym takes) (tried.0, rw (next, at, all) tried.1));
         paid = λ allowed before paid.
             paid_headed allowed before 1 spent old new paid books same books.fetches.same_size fits called
             (rw (next, at) (omega (arith, of.few)));

@@ -17,7 +17,7 @@ use Rattle.mdmp_lister.specs.declared.shape.Shape.{Shape}
 use Rattle.mdmp_lister.specs.declared.step.Step.{Step}
 use Rattle.mdmp_lister.specs.Costs.{name_spent, read_cost, step_spent}
 use Rattle.mdmp_lister.specs.Following.{mapped}
-use Rattle.mdmp_lister.specs.NextFetch.{IsNameFetch, IsNamedAt, IsWindowFetch}
+use Rattle.mdmp_lister.specs.NextFetch.{IsNameFetch, IsNamedAt, IsWindowFetch, window_takes}
 use Rattle.mdmp_lister.specs.StreamHead.{head_spent}
 use Rattle.mdmp_lister.specs.Holding.{ComesTo, fills, left_behind, needed, reached, started, unfetched}
 use Rattle.mdmp_lister.specs.Meter.{Books, BooksAside, IsUnmade, MeterState, Spends, TellsBudget, TriesFetch, counts_of, store_fault_of}
@@ -108,14 +108,15 @@ pub record ReadsRecord (room spent limit : ℕ) (result : Result Step Fault) (ol
 -- ---- which fetch a budget is told of
 
 -- of the name at this RVA
-abbrev pub IsNameTried : (limit rva : ℕ) → FaultKind → (offset size : ℕ) → MeterState → Type 0
-IsNameTried limit rva kinds.Budget offset size m = IsNameFetch m.source.store.content m.source.size limit rva offset size
-IsNameTried limit rva kind offset size m = Unit {0}
+abbrev pub IsNameTried : (limit rva : ℕ) → FaultKind → (offset size : ℕ) → MeterState → MeterState → Type 0
+IsNameTried limit rva kinds.Budget offset size was now = IsNameFetch was.source.store.content was.source.size limit rva was.fetched now.fetched offset size
+IsNameTried limit rva kind offset size was now = Unit {0}
 
 -- of the bytes of a record, or of its name
 pub data IsRecordFetch (limit : ℕ) (kind : StreamKind) (at : ℕ) (was : MeterState) (w : WindowState) (fetched offset size : ℕ) : Type 0 where
   of_bytes : fetched ≡ was.fetched → IsWindowFetch w.room w.end (unfetched w) at (record_size kind) offset size → IsRecordFetch limit kind at was w fetched offset size
-  of_name : (rva : ℕ) → IsNamedAt was.source.store.content kind at rva → IsNameFetch was.source.store.content was.source.size limit rva offset size
+  of_name : (rva before : ℕ) → IsNamedAt was.source.store.content kind at rva → before ≡ raised was.fetched (window_takes w.room w.end (unfetched w) at (record_size kind))
+      → IsNameFetch was.source.store.content was.source.size limit rva before fetched offset size
       → IsRecordFetch limit kind at was w fetched offset size
 
 abbrev pub IsRecordTried : (limit : ℕ) → StreamKind → (at : ℕ) → MeterState → WindowState → MeterState → FaultKind → (offset size : ℕ) → Type 0
@@ -128,9 +129,11 @@ IsHeadTried room at kind was now kinds.Budget offset size =
     (now.fetched ≡ was.fetched) × IsWindowFetch room (at.rva + at.size) at.size at.rva (head_cost (form_of kind)) offset size
 IsHeadTried room at kind was now fault offset size = Unit {0}
 
--- else so many bytes were fetched of it, which come off those of the stream
+-- else what the window took of it was fetched, which comes off the bytes of the stream
 abbrev pub TriesHead : Location → StreamKind → Result Head Fault → (was now : MeterState) → (old new : WindowState) → Type 0
-TriesHead at kind (Ok head) was now old new = (taken : ℕ) × ((now.fetched ≡ raised was.fetched taken) × (unfetched new ≡ at.size - taken))
+TriesHead at kind (Ok head) was now old new =
+    let taken = window_takes old.room (at.rva + at.size) at.size at.rva (head_cost (form_of kind)) in
+    (now.fetched ≡ raised was.fetched taken) × (unfetched new ≡ at.size - taken)
 TriesHead at kind (Err fault) was now old new = IsHeadTried old.room at kind was now fault.kind fault.offset fault.size
 
 -- a step tells a record of this kind, its name fits in `room` bytes, and it begins no entry

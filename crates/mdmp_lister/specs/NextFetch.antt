@@ -1,5 +1,5 @@
 -- Which fetch it is that a budget doesn't allow.
-use Rattle.std.specs.Prelude.{◌≡◌, ◌≤◌, ◌<◌, ◌+◌, ◌-◌, ◌*◌, ◌/◌, ◌%◌, ℕ, zero, suc, List, Option, Some, None, Result, Ok, Err, IsTrue, max, min, take, slice_get}
+use Rattle.std.specs.Prelude.{◌≡◌, ◌≤◌, ◌<◌, ◌+◌, ◌-◌, ◌*◌, ◌/◌, ◌%◌, ℕ, zero, suc, List, Option, Some, None, Result, Ok, Err, IsTrue, max, min, nat_lt, take, slice_get, if◌then◌else◌}
 use Rattle.mdmp_source.specs.Count.{raised}
 use Rattle.mdmp_source.specs.Range.{IsInside}
 use Rattle.mdmp_source.specs.Source.{SourceState}
@@ -104,11 +104,18 @@ pub record IsWindowFetch (room end unread at wanted offset size : ℕ) : Type 0 
   pub size_is : size ≡ min (room - (offset - at)) (end - offset)
   pub lacks : offset < at + wanted
 
--- the length of the name at this RVA comes next, in a file of z bytes, or its units, of no more bytes than the limit
-pub data IsNameFetch (content : Option (List ℕ)) (z limit rva offset size : ℕ) : Type 0 where
-  of_length : 0 < rva → IsInside rva 4 z → offset ≡ rva → size ≡ 4 → IsNameFetch content z limit rva offset size
-  of_units : 0 < rva → IsInside (rva + 4) size z → offset ≡ rva + 4 → size % 2 ≡ 0 → size ≤ limit
-      → ((file : List ℕ) → content ≡ Some file → u32_at file rva ≡ size) → IsNameFetch content z limit rva offset size
+-- how many bytes it takes then: none where all that is wanted is held
+abbrev pub window_takes : (room end unread at wanted : ℕ) → ℕ
+window_takes room end unread at wanted =
+    let offset = max at (end - unread) in
+    if nat_lt offset (at + wanted) then min (room - (offset - at)) (end - offset) else 0
+
+-- the length of the name at this RVA comes next, in a file of z bytes, where `before` bytes were fetched before the name; or,
+-- once its length was fetched, its units, of no more bytes than the limit
+pub data IsNameFetch (content : Option (List ℕ)) (z limit rva before fetched offset size : ℕ) : Type 0 where
+  of_length : 0 < rva → IsInside rva 4 z → fetched ≡ before → offset ≡ rva → size ≡ 4 → IsNameFetch content z limit rva before fetched offset size
+  of_units : 0 < rva → IsInside (rva + 4) size z → fetched ≡ raised before 4 → offset ≡ rva + 4 → size % 2 ≡ 0 → size ≤ limit
+      → ((file : List ℕ) → content ≡ Some file → u32_at file rva ≡ size) → IsNameFetch content z limit rva before fetched offset size
 
 -- the record of this kind at `at` has its name at this RVA
 abbrev pub IsNamedAt : Option (List ℕ) → StreamKind → ℕ → ℕ → Type 0
@@ -142,16 +149,32 @@ pub record IsNextRecord (s : Standpoint) (kind : StreamKind) (at : ℕ) : Type 0
 abbrev pub IsStreamFetch : Standpoint → (unread at wanted offset size : ℕ) → Type 0
 IsStreamFetch s unread at wanted offset size = IsWindowFetch s.room (s.entry.location.rva + s.entry.location.size) unread at wanted offset size
 
+-- and so many bytes
+abbrev pub stream_takes : Standpoint → (unread at wanted : ℕ) → ℕ
+stream_takes s unread at wanted = window_takes s.room (s.entry.location.rva + s.entry.location.size) unread at wanted
+
+-- so many, where the head of an entry's stream is not read
+abbrev pub while_begun : Standing → ℕ → ℕ
+while_begun begun n = n
+while_begun standing n = 0
+
+-- the bytes that are fetched for the head, which are no longer unread then
+abbrev pub head_takes : Standpoint → StreamKind → ℕ
+head_takes s kind = while_begun s.standing (stream_takes s s.unread s.entry.location.rva (head_cost (form_of kind)))
+
+-- and for a record at `at` behind it
+abbrev pub record_takes : Standpoint → StreamKind → ℕ → ℕ
+record_takes s kind at = stream_takes s (s.unread - head_takes s kind) at (record_size kind)
+
 -- the fetch that comes next where so many bytes were fetched: of the head of the current entry's stream, of its next record, or
 -- of that record's name
 pub data IsNextFetch (s : Standpoint) (fetched offset size : ℕ) : Type 0 where
   of_head : s.standing ≡ begun → (kind : StreamKind) → kind_of s.entry.stream_type ≡ Some kind → fetched ≡ s.fetched
       → IsStreamFetch s s.unread s.entry.location.rva (head_cost (form_of kind)) offset size → IsNextFetch s fetched offset size
-  -- what was taken of the stream since then is no longer unread
-  of_record : (kind : StreamKind) (at taken : ℕ) → IsNextRecord s kind at → fetched ≡ raised s.fetched taken
-      → IsStreamFetch s (s.unread - taken) at (record_size kind) offset size → IsNextFetch s fetched offset size
-  of_name : (kind : StreamKind) (at rva : ℕ) → IsNextRecord s kind at → IsNamedAt s.content kind at rva
-      → IsNameFetch s.content s.size s.limit rva offset size → IsNextFetch s fetched offset size
+  of_record : (kind : StreamKind) (at : ℕ) → IsNextRecord s kind at → fetched ≡ raised s.fetched (head_takes s kind)
+      → IsStreamFetch s (s.unread - head_takes s kind) at (record_size kind) offset size → IsNextFetch s fetched offset size
+  of_name : (kind : StreamKind) (at rva before : ℕ) → IsNextRecord s kind at → IsNamedAt s.content kind at rva → before ≡ raised s.fetched (head_takes s kind + record_takes s kind at)
+      → IsNameFetch s.content s.size s.limit rva before fetched offset size → IsNextFetch s fetched offset size
 
 -- a fault that tells the budget is of the next fetch
 abbrev pub TellsNextFetch : Standpoint → FaultKind → (offset size fetched : ℕ) → Type 0

@@ -91,7 +91,7 @@ pub(crate) fn read_name<S: Store, A: Allocator>(
     ensures held { IfOk result (IsHeld (length buffer.new.items)) }
     ensures some { IsSomeName meter.old.source.size buffer.new.limit rva result }
     ensures reads { ReadsName buffer.new.limit rva result meter.old meter.new }
-    ensures tries { IfErr result (λ fault. IsNameTried buffer.new.limit rva fault.kind fault.offset fault.size meter.old) }
+    ensures tries { IfErr result (λ fault. IsNameTried buffer.new.limit rva fault.kind fault.offset fault.size meter.old meter.new) }
 {
     let size = meter.size();
     if rva == 0 {

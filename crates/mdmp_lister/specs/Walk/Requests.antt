@@ -18,7 +18,7 @@ use Rattle.mdmp_lister.specs.declared.walk.Walk.{Walk}
 use Rattle.mdmp_lister.specs.CodeView.{ReadsCodeView}
 use Rattle.mdmp_lister.specs.Costs.{IsUnreadBy, begun_at, given_spent, stream_begun}
 use Rattle.mdmp_lister.specs.Meter.{Books, IsUnmade, Moves, counts_of}
-use Rattle.mdmp_lister.specs.NextFetch.{Standpoint, TellsNextFetch}
+use Rattle.mdmp_lister.specs.NextFetch.{Standpoint, TellsNextFetch, head_takes}
 use Rattle.mdmp_lister.specs.Walk.Paying.{IsPaid, IsWithinSince, unread_bytes}
 use Rattle.mdmp_lister.specs.Walk.Reaching.{Reaches, ReachesAtFault, given_once}
 use Rattle.mdmp_lister.specs.Fault.{IsOfStore, IsToldIn}
@@ -54,9 +54,11 @@ module _ {S A : Type 0} where
     fetched = w.meter.fetched;
   }
 
-  -- so many bytes were fetched, and come off those of the current entry's stream that may still be
-  abbrev pub TakesUnread : Walk S A → Walk S A → Type 0
-  TakesUnread old new = (taken : ℕ) × ((new.meter.fetched ≡ raised old.meter.fetched taken) × (unread_bytes new ≡ unread_bytes old - taken))
+  -- the bytes of the head were fetched, and come off those of the current entry's stream that may still be
+  abbrev pub TakesHead : StreamKind → Walk S A → Walk S A → Type 0
+  TakesHead kind old new =
+      let taken = head_takes (standpoint_of old) kind in
+      (new.meter.fetched ≡ raised old.meter.fetched taken) × (unread_bytes new ≡ unread_bytes old - taken)
 
   -- a fault that was met: it stands in the current entry; one of the store was told by the last fetch, and one of the budget
   -- is of a fetch that was not made
@@ -109,7 +111,7 @@ module _ {S A : Type 0} where
     pub owes : unread_bytes new ≤ unread_bytes old
     pub books : Books 1 (unread_bytes old - unread_bytes new) old.meter new.meter
     -- what was fetched is no longer unread
-    pub taken : (kind : StreamKind) → kind_of old.current.stream_type ≡ Some kind → TakesUnread old new
+    pub taken : (kind : StreamKind) → kind_of old.current.stream_type ≡ Some kind → TakesHead kind old new
     pub paid : (allowed : Amount) (before : ℕ) → IsPaid allowed before old → IsPaid allowed before new
 
   -- the head of the current entry was read, or has a fault: what was fetched of it came off what was unread, and where the

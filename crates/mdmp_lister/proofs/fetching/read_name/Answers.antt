@@ -1,7 +1,8 @@
-use Rattle.std.proofs.Common.{◌≡◌, ◌≤◌, ◌+◌, None, Err, arith, inr, refl, rules}
+use Rattle.std.proofs.Common.{◌≡◌, ◌≤◌, ◌+◌, ◌∙◌, None, Err, ap, arith, inr, refl, rules}
+use Rattle.mdmp_source.specs.Count.{raised}
 use Rattle.mdmp_lister.specs.declared.fetching.NameRead.TheVariants.{Long, Units}
 use Rattle.mdmp_lister.specs.Fault.{fault_of_fetch}
-use Rattle.mdmp_lister.specs.Meter.{store_fault_of}
+use Rattle.mdmp_lister.specs.Meter.{MeterState, store_fault_of}
 use Rattle.mdmp_lister.proofs.Fetches.{IsCaused_later}
 use Rattle.mdmp_lister.proofs.Metering.{Books-then}
 use Rattle.mdmp_lister.proofs.NextSteps.{length_bad, length_refused, units_refused}
@@ -82,13 +83,14 @@ pub returns-in_err-length-clause-tries : goal.returns-in_err-length-clause-tries
 returns-in_err-length-clause-tries g c =
     let fault = c.in_err-length.field-0.0 in
     let is : c.from_residual.result ≡ Err (fault_of_fetch fault) = search rules in
-    rw is (length_refused c.args.buffer.now.limit c.args.rva fault c.reach_name.new.self c.read_length.new.meter c.args.meter.now c.if-rva-eq0.false (inr (omega arith)) c.in_err-length.ensures.tries)
+    rw is (length_refused c.args.buffer.now.limit c.args.rva fault c.reach_name.new.self c.read_length.new.meter c.args.meter.now c.if-rva-eq0.false (inr (omega arith))
+    (ap (λ (m : MeterState). m.fetched) c.reach_name.ensures) c.in_err-length.ensures.tries)
 
 pub returns-in_err-check_units-clause-tries : goal.returns-in_err-check_units-clause-tries
 returns-in_err-check_units-clause-tries g c =
     let bad = c.in_err-check_units in
     let is : c.from_residual-in_err-check_units.result ≡ Err bad.field-0.0 = search rules in
-    rw is (length_bad c.args.buffer.now.limit c.args.rva c.args.meter.now _ _ c.in_ok-length.length bad.field-0.0 (rw c.check_units.ensures at bad.was))
+    rw is (length_bad c.args.buffer.now.limit c.args.rva c.args.meter.now c.read_length.new.meter _ _ c.in_ok-length.length bad.field-0.0 (rw c.check_units.ensures at bad.was))
 
 pub returns-in_err-fetch-clause-tries : goal.returns-in_err-fetch-clause-tries
 returns-in_err-fetch-clause-tries g c =
@@ -97,4 +99,5 @@ returns-in_err-fetch-clause-tries g c =
     let few : bytes ≤ c.fetch.new.self.limit = omega (arith, c.if-limit-length.false, c.limit.ensures, c.fetch.ensures.limit) in
     let is : c.from_residual-in_err-fetch.result ≡ Err (fault_of_fetch fault) = search rules in
     rw is (units_refused c.fetch.new.self.limit c.args.rva bytes fault c.read_length.new.meter c.fetch.new.meter c.args.meter.now c.if-rva-eq0.false (search rules) (search rules) few
-    (λ file known. c.in_ok-length.ensures.reads.of_file file (rw c.reach_name.ensures known)) c.in_err-fetch.ensures.tries)
+    (λ file known. c.in_ok-length.ensures.reads.of_file file (rw c.reach_name.ensures known))
+    (c.in_ok-length.ensures.tries ∙ ap (λ (m : MeterState). raised m.fetched 4) c.reach_name.ensures) c.in_err-fetch.ensures.tries)

@@ -51,4 +51,5 @@ returns-in-Err-clause-tries g c =
     let held = c.in_ok-hold_record.ensures.reads in
     let rva : name_rva (record_at a.kind c.hold_record.new.window.held 0) ≡ Some c.in-Some.rva = rw c.bytes.ensures at (sym c.held_name_rva.ensures ∙ c.in-Some.is) in
     name_refused _ a.kind a.at a.meter.now c.hold_record.new.meter a.window.now c.hold_record.new.window c.in-Some.rva c.read_name.new.meter fault.kind fault.offset fault.size
-    held.books.fetches.same_size held.books.fetches.same_content (λ file known. ap name_rva (held.of_file file known) ∙ rva) c.in-Err.ensures.tries
+    held.books.fetches.same_size held.books.fetches.same_content (λ file known. ap name_rva (held.of_file file known) ∙ rva)
+    c.requires.ahead c.in_ok-hold_record.ensures.tries c.in-Err.ensures.tries
