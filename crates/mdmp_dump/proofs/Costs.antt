@@ -1,12 +1,22 @@
 -- What the passes over the streams of a file cost.
-use Rattle.std.proofs.Common.{◌≡◌, ◌∙◌, ◌<◌, ◌≤◌, ◌+◌, ◌*◌, ◌++◌, ℕ, suc, List, [], ◌∷◌, Ok, ap, arith, length, map, refl, sum, sym}
+use Rattle.std.proofs.Common.{◌≡◌, ◌∙◌, ◌<◌, ◌≤◌, ◌+◌, ◌*◌, ◌++◌, ℕ, Option, None, Some, suc, List, [], ◌∷◌, Ok, ap, arith, false, inl, inr, is_some, length, map, refl, sum, sym, true}
 use Rattle.std.proofs.Math.Nat.{mul-le-mul_right}
 use Rattle.std.proofs.lemmas.List.Sums.{sum_by-cons}
-use Rattle.std.specs.Prelude.{get_or}
+use Rattle.std.proofs.lemmas.Grind.{common_steps}
+use Rattle.std.specs.Prelude.{◌&&◌, get_or}
+use Rattle.mdmp_source.specs.Range.{IsInside, is_inside}
+use Rattle.mdmp_wire.specs.declared.entry.Entry.{Entry}
+use Rattle.mdmp_lister.specs.declared.kind.StreamKind.{StreamKind}
+use Rattle.mdmp_lister.specs.Following.{IsBegun, Standing, records_by, through}
+use Rattle.mdmp_lister.specs.Following as following
+use Rattle.mdmp_lister.specs.Format.Kind.{is_known, kind_of}
 use Rattle.mdmp_lister.specs.Format.Listing.{Numbered}
-use Rattle.mdmp_lister.specs.Format.Shape.{record_count}
-use Rattle.mdmp_dump.specs.EntryWalk.{name_cost, no_entry, pass_cost}
-use Rattle.mdmp_dump.specs.FileView.{costs_in, count_in, pass_cost_in}
+use Rattle.mdmp_lister.specs.Format.Numbers.{is_listed}
+use Rattle.mdmp_lister.specs.Format.Shape.{location_fault, record_count}
+use Rattle.mdmp_lister.specs.Listed.{entry_cost, entry_cost_by}
+use Rattle.mdmp_lister.proofs.Heads.{listed-inside}
+use Rattle.mdmp_dump.specs.EntryWalk.{LiesInside, MayCount, name_cost, no_entry, pass_cost}
+use Rattle.mdmp_dump.specs.FileView.{AreInside, costs_in, count_in, inside_cost_in, pass_cost_in}
 
 -- ---- sums
 
@@ -28,6 +38,48 @@ costs_push (e ∷ es) (m ∷ ns) n fewer =
     sum_first (pass_cost e.entry m) (costs_in es (ns ++ n ∷ []))
     ∙ ap (λ (k : ℕ). pass_cost e.entry m + k) (costs_push es ns n (let h : suc (length ns) < suc (length es) = fewer in omega (arith, h)))
     ∙ (let h : sum (pass_cost e.entry m ∷ costs_in es ns) ≡ pass_cost e.entry m + sum (costs_in es ns) = sum_first (pass_cost e.entry m) (costs_in es ns) in omega (arith, h))
+
+-- ---- streams inside
+
+-- a stream that is not listed costs nothing
+pub unlisted_cost : (z : ℕ) (e : Entry) → is_listed z e ≡ false → entry_cost z e ≡ 0
+unfolding entry_cost_by
+unlisted_cost z e none = rw none refl
+
+inside_true : (at len size : ℕ) → IsInside at len size → is_inside at len size ≡ true
+inside_true at len size (inl none) = rw none refl
+inside_true at len size (inr within) = grind (arith, common_steps, within)
+
+known_kind : (o : Option StreamKind) → is_some o ≡ true → (kind : StreamKind) × (o ≡ Some kind)
+known_kind None is = absurd (cc)
+known_kind (Some kind) is = (kind, refl)
+
+-- one whose location has no fault lies inside, where its records are known
+placed_listed : (z : ℕ) (e : Entry) → location_fault z e ≡ None → LiesInside z e
+placed_listed z e placed known =
+    let kind = known_kind (kind_of e.stream_type) known in
+    ap (λ known_is. known_is && is_inside e.location.rva e.location.size z) known
+    ∙ inside_true e.location.rva e.location.size z (listed-inside z e kind.0 placed kind.1)
+
+begun_placed : (z : ℕ) (e : Entry) (s : Standing) → IsBegun z e (Ok s) → location_fault z e ≡ None
+begun_placed z e s (following.outside fault is bad) = absurd (cc)
+begun_placed z e s (following.opaque placed none is) = placed
+begun_placed z e s (following.shaped placed kind of shape some offset is) = placed
+
+-- one that may have so many records
+pub may_listed : (z : ℕ) (e : Entry) (n : ℕ) → MayCount z e n → LiesInside z e
+may_listed z e n may = placed_listed z e (begun_placed z e may.0 may.1.0)
+
+begun_none : (z : ℕ) (e : Entry) (s : Standing) → IsBegun z e (Ok s) → is_listed z e ≡ false → records_by s ≡ 0
+begun_none z e s (following.outside fault is bad) none = absurd (cc)
+begun_none z e s (following.opaque placed unknown is) none = let same : s ≡ through = cc in ap records_by same
+begun_none z e s (following.shaped placed kind of shape some offset is) none =
+    let known : is_known e.stream_type ≡ true = ap is_some of in
+    let lies = placed_listed z e placed known in
+    absurd (cc (lies, none))
+
+pub may_none : (z : ℕ) (e : Entry) (n : ℕ) → MayCount z e n → is_listed z e ≡ false → n ≡ 0
+may_none z e n may none = may.1.1 ∙ begun_none z e may.0 may.1.0 none
 
 -- ---- of a known file
 
@@ -52,3 +104,24 @@ module _ (F : List ℕ) where
       let head : n * cost ≤ count_in (record_count F x.entry) * cost = mul-le-mul_right cost (most 0 (omega arith)) in
       let rest : sum (costs_in xs ns) ≤ sum (map (pass_cost_in F) xs) = costs_most xs ns (λ k inside. most (suc k) (omega (arith, inside))) in
       omega (arith, head, rest, sum_first (pass_cost x.entry n) (costs_in xs ns), sum_first (pass_cost_in F x) (map (pass_cost_in F) xs))
+
+  -- nor than what those cost that lie inside
+  inside_most : (z : ℕ) (x : Numbered) (n : ℕ) → n ≤ count_in (record_count F x.entry) → LiesInside z x.entry → pass_cost x.entry n ≤ inside_cost_in z F x
+  inside_most z x n most lies = by (kind_of x.entry.stream_type) refl where
+    by : (o : Option StreamKind) → kind_of x.entry.stream_type ≡ o → pass_cost x.entry n ≤ inside_cost_in z F x
+    by None none = rw none (omega arith)
+    by (Some kind) some =
+        let cost = name_cost x.entry.stream_type in
+        let is = lies (ap is_some some) in
+        let few : n * cost ≤ count_in (record_count F x.entry) * cost = mul-le-mul_right cost most in
+        rw is (omega (arith, few))
+
+  pub costs_inside : (z : ℕ) (xs : List Numbered) (ns : List ℕ) → ((k : ℕ) → k < length ns → get_or ns k 0 ≤ count_in (record_count F (get_or xs k no_entry).entry)) → AreInside z xs ns
+      → sum (costs_in xs ns) ≤ sum (map (inside_cost_in z F) xs)
+  unfolding costs_in
+  costs_inside z [] ns most lies = omega arith
+  costs_inside z (x ∷ xs) [] most lies = omega arith
+  costs_inside z (x ∷ xs) (n ∷ ns) most lies =
+      let head : pass_cost x.entry n ≤ inside_cost_in z F x = inside_most z x n (most 0 (omega arith)) (lies 0 (omega arith)) in
+      let rest : sum (costs_in xs ns) ≤ sum (map (inside_cost_in z F) xs) = costs_inside z xs ns (λ k inside. most (suc k) (omega (arith, inside))) (λ k inside. lies (suc k) (omega (arith, inside))) in
+      omega (arith, head, rest, sum_first (pass_cost x.entry n) (costs_in xs ns), sum_first (inside_cost_in z F x) (map (inside_cost_in z F) xs))

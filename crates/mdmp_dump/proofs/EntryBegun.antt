@@ -24,6 +24,7 @@ use Rattle.mdmp_lister.specs.declared.step.Step.{Step}
 use Rattle.mdmp_lister.specs.Format.Item.{plain}
 use Rattle.mdmp_lister.specs.Format.Kind.{is_known, kind_of}
 use Rattle.mdmp_lister.specs.Format.Listing.{Numbered, Run, chosen_from, count_listed, entry_of, listing_sought, only_chosen, records_told, stream_item}
+use Rattle.mdmp_lister.specs.Format.Numbers.{is_listed}
 use Rattle.mdmp_lister.specs.Format.Shape.{record_count}
 use Rattle.mdmp_lister.specs.FaultLaws.{follows_fits}
 use Rattle.mdmp_lister.specs.Lister.{IsRefusedIn, IsSameLister, ListerState, cursor_in, tail}
@@ -38,6 +39,7 @@ use Rattle.mdmp_dump.specs.FileRefusal.{IsUnbudgeted}
 use Rattle.mdmp_dump.specs.Left.{left_from, run_of}
 use Rattle.mdmp_dump.specs.Reading.{IsLastTold, store_fault_in}
 use Rattle.mdmp_dump.specs.Walking.{IsFar, IsKept, bytes_allowed, current_entry, ended_with, left_by, lists_memory64, records_to_give, state_of}
+use Rattle.mdmp_dump.proofs.Costs.{unlisted_cost}
 use Rattle.mdmp_dump.proofs.Left.{begun}
 use Rattle.mdmp_dump.proofs.Taking.{FetchesSome_none, FetchesSome_then, Fetches_only, fetches_err}
 
@@ -275,6 +277,13 @@ module _ (number : ℕ) (e : Entry) (old mid new : WalkerState) (at : slice_get 
           reached = omega arith;
           more = omega arith;
         };
+        unlisted = λ none. record {
+          same = record { header = refl; choice = refl; chosen = refl; held = refl; start = refl; fetches = FetchesSome_none old.list.source };
+          aside = refl;
+          allowed = λ few. omega arith;
+          reached = omega arith;
+          more = omega arith;
+        };
         begun = tt;
         of_file = λ F known not. absurd (not own);
         counts = tt;
@@ -381,6 +390,23 @@ module _ (x : Numbered) (old mid new : WalkerState) (kept : IsKept old) (at : Is
     more = omega (arith, names_new, at.names);
   }
 
+  -- of an entry that is not listed nothing is fetched
+  unlisted : is_listed old.list.source.size x.entry ≡ false → Pays 0 0 (state_of old) (state_of new)
+  unlisted none = record {
+    same = same_walk;
+    aside = ap (λ (a : Amount). a.bytes) counted_same.aside;
+    allowed = λ few.
+        let asked : mid.list.counts.asked ≤ bytes_allowed old = at.paid (omega (arith, few, names_new)) in
+        let mark = ap (λ (c : MeterCounts). c.asked) mark_new in
+        let cost : entry_cost new.list.source.size new.list.current ≡ 0 =
+        ap (λ (z : ℕ). entry_cost z new.list.current) (counts.fetches.same_size ∙ at.fetches.fetches.same_size)
+        ∙ ap (λ (e : Entry). entry_cost old.list.source.size e) (counts.current ∙ at.current)
+        ∙ unlisted_cost old.list.source.size x.entry none in
+        omega (arith, asked, cost, mark, mark_names, names_new);
+    reached = omega (arith, names_new, at.names);
+    more = omega (arith, names_new, at.names);
+  }
+
   limit_new : new.list.limit ≡ 0
   limit_new = counted_same.limit ∙ kept.limit
 
@@ -397,6 +423,9 @@ module _ (x : Numbered) (old mid new : WalkerState) (kept : IsKept old) (at : Is
     paid_at : Pays (listed (chosen_entry (state_of old) stream).entry) 0 (state_of old) (state_of new)
     paid_at = subst (λ (y : Numbered). Pays (listed y.entry) 0 (state_of old) (state_of new)) (sym is) paid
 
+    unlisted_at : is_listed old.list.source.size (chosen_entry (state_of old) stream).entry ≡ false → Pays 0 0 (state_of old) (state_of new)
+    unlisted_at none = unlisted (subst (λ (y : Numbered). is_listed old.list.source.size y.entry ≡ false) is none)
+
     never : {T : Type 0} (fault : SourceFault) → ended_with old.list.stop ≡ Some fault → T
     never fault told = absurd (let failed = failed_ended old.list.stop fault told in cc (failed, fresh))
 
@@ -411,6 +440,7 @@ module _ (x : Numbered) (old mid new : WalkerState) (kept : IsKept old) (at : Is
     pub begins_counted : (stream : ℕ) → chosen_entry (state_of old) stream ≡ x → is_failed old.list.stop ≡ false → Begins (state_of old) stream (Ok count) (state_of new)
     begins_counted stream is fresh = record {
       pays = paid_at x old mid new kept at (Ok count) counts stream is fresh;
+      unlisted = unlisted_at x old mid new kept at (Ok count) counts stream is fresh;
       begun = (current_new x old mid new kept at (Ok count) counts ∙ sym is, left_new, counts.few);
       of_file = λ F known. subst (λ (y : Numbered). record_count F y.entry ≡ Ok count) (sym is) (count_is F known);
       counts = (
@@ -470,6 +500,7 @@ module _ (x : Numbered) (old mid new : WalkerState) (kept : IsKept old) (at : Is
     pub begins_refused : (stream : ℕ) → chosen_entry (state_of old) stream ≡ x → is_failed old.list.stop ≡ false → Begins (state_of old) stream (Err (faults.List f)) (state_of new)
     begins_refused stream is fresh = record {
       pays = paid_at x old mid new kept at (Err f) counts stream is fresh;
+      unlisted = unlisted_at x old mid new kept at (Err f) counts stream is fresh;
       begun = tt;
       of_file = λ F known own.
           let told = answered F (at.fetches.fetches.same_content ∙ known) (own_store_fault f.kind unbudgeted_new own) in

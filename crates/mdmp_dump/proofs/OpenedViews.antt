@@ -15,9 +15,9 @@ use Rattle.mdmp_lister.specs.declared.fault.OpenFault.TheVariants as opening
 use Rattle.mdmp_lister.specs.declared.limits.Limits.{Limits}
 use Rattle.mdmp_dump.specs.declared.fault.ReadFault.{ReadFault}
 use Rattle.mdmp_dump.specs.declared.fault.ReadFault.TheVariants as faults
-use Rattle.mdmp_dump.specs.EntryWalk.{IsOpenedWalk, MayCount, WalkState, chosen_entry, kind_by}
+use Rattle.mdmp_dump.specs.EntryWalk.{IsOpenedWalk, LiesInside, MayCount, WalkState, chosen_entry, kind_by, no_entry}
 use Rattle.mdmp_dump.specs.FileRefusal.{IsOfOpening, run_told, view_refusal}
-use Rattle.mdmp_dump.specs.FileView.{AreBare, AreCounted, AreWalked, IsShortAt, IsViewPaid, IsView, IsViewed, KeepsAll, PaysAll, PaysSome, asks_in, costs_in, file_shape, kind_at, opening_cost, pass_cost_in, room_told, shape_by}
+use Rattle.mdmp_dump.specs.FileView.{AreBare, AreCounted, AreWalked, IsShortAt, IsViewPaid, IsView, IsViewed, KeepsAll, PaysAll, PaysSome, asks_in, costs_in, file_shape, inside_cost_in, kind_at, opening_cost, pass_cost_in, room_told, shape_by}
 use Rattle.mdmp_dump.specs.InFile.{dump_in, stream_named}
 use Rattle.mdmp_dump.specs.Left.{run_of}
 use Rattle.mdmp_dump.specs.Opening.{HasSpentOpening, IsLimited, IsShortOf, copy_bound, opening_bound}
@@ -171,6 +171,8 @@ head_spent source left choice fault back = record {
   few = omega arith;
   fetched = omega (arith, back.fetches.fetched);
   of_file = λ F known. omega (arith, back.known F known);
+  inside = λ k within. absurd (let h : k < 0 = within in omega (arith, h));
+  inside_costs = λ F known. omega (arith, back.known F known);
 }
 
 -- a stream was, behind some others
@@ -189,6 +191,12 @@ module _ (source : SourceState) (window : ℕ) (choice : Choice) (w v : WalkStat
         let entries : w.header.number_of_streams ≡ entry_count F = ap (λ h. h.number_of_streams) (opened.header_is F known) in
         let passes : sum (map (pass_cost_in F) w.chosen) ≡ sum (map (pass_cost_in F) (chosen F choice)) = ap (λ (xs : List Numbered). sum (map (pass_cost_in F) xs)) (opened.chosen_are F known) in
         omega (arith, entries, passes, some.few F (opened.fetches.fetches.same_content ∙ known));
+    inside = λ k within. subst (λ (z : ℕ). LiesInside z (get_or w.chosen k no_entry).entry) opened.fetches.fetches.same_size (some.inside k within);
+    inside_costs = λ F known.
+        let entries : w.header.number_of_streams ≡ entry_count F = ap (λ h. h.number_of_streams) (opened.header_is F known) in
+        let sized : sum (map (inside_cost_in w.source.size F) w.chosen) ≡ sum (map (inside_cost_in source.size F) w.chosen) = ap (λ (z : ℕ). sum (map (inside_cost_in z F) w.chosen)) opened.fetches.fetches.same_size in
+        let passes : sum (map (inside_cost_in source.size F) w.chosen) ≡ sum (map (inside_cost_in source.size F) (chosen F choice)) = ap (λ (xs : List Numbered). sum (map (inside_cost_in source.size F) xs)) (opened.chosen_are F known) in
+        omega (arith, entries, sized, passes, some.inside_costs F (opened.fetches.fetches.same_content ∙ known));
   }
 
   -- what was fetched is within a budget that the opening of the walk and the walk kept to

@@ -1,5 +1,5 @@
 -- A file that is walked over as a view of it is opened.
-use Rattle.std.proofs.Common.{◌≡◌, ◌∙◌, ◌<◌, ◌≤◌, ◌+◌, ◌*◌, ◌^◌, ◌⊎◌, ℕ, zero, suc, List, [], ◌∷◌, ◌++◌, length, get_or, map, take, Option, Some, None, Result, Ok, Err, ap, arith, inl, inr, refl, subst, sym, sum, length-append}
+use Rattle.std.proofs.Common.{◌≡◌, ◌∙◌, ◌<◌, ◌≤◌, ◌+◌, ◌*◌, ◌^◌, ◌⊎◌, ℕ, Bool, true, false, zero, suc, List, [], ◌∷◌, ◌++◌, length, get_or, map, take, Option, Some, None, Result, Ok, Err, ap, arith, inl, inr, refl, subst, sym, sum, length-append}
 use Rattle.std.specs.Prelude.{sum_by}
 use Rattle.std.proofs.Math.Nat.{mul-le-mul_right}
 use Rattle.std.proofs.lemmas.Bool.{cases_lt}
@@ -9,6 +9,7 @@ use Rattle.mdmp_source.specs.Count.{raised}
 use Rattle.mdmp_source.specs.Source.{FetchesSome}
 use Rattle.mdmp_lister.specs.declared.fault.OpenFault.TheVariants as opening
 use Rattle.mdmp_lister.specs.Format.Listing.{Numbered}
+use Rattle.mdmp_lister.specs.Format.Numbers.{is_listed}
 use Rattle.mdmp_lister.specs.Format.Shape.{record_count}
 use Rattle.mdmp_lister.specs.Meter.{KeepsTo}
 use Rattle.mdmp_dump.specs.declared.fault.ReadFault.{ReadFault}
@@ -17,10 +18,10 @@ use Rattle.mdmp_dump.specs.declared.found_record.FoundRecord.{FoundRecord}
 use Rattle.mdmp_dump.specs.declared.view.Fields.{Fields}
 use Rattle.mdmp_dump.specs.declared.view.Kind.{Kind}
 use Rattle.mdmp_dump.specs.declared.view.Kind.TheVariants.{Known}
-use Rattle.mdmp_dump.specs.EntryWalk.{Begins, FindsRow, GivesNext, IsSameWalk, MayCount, Pays, WalkState, chosen_entry, kind_by, listed, name_cost, no_entry, pass_cost, raw_part}
+use Rattle.mdmp_dump.specs.EntryWalk.{Begins, FindsRow, GivesNext, IsSameWalk, LiesInside, MayCount, Pays, WalkState, chosen_entry, kind_by, listed, name_cost, no_entry, pass_cost, raw_part}
 use Rattle.mdmp_dump.specs.FileRefusal.{body_told, entry_told, run_told}
 use Rattle.mdmp_dump.specs.Left.{run_of}
-use Rattle.mdmp_dump.specs.FileView.{AreBare, AreCounted, AreWalked, HasWalked, IsShortAt, KeepsAll, KeepsUpTo, PaysAll, PaysSome, PaysUpTo, costs_in, count_in, kind_at, opening_cost, pass_cost_in, room_told, stream_asks, stream_of}
+use Rattle.mdmp_dump.specs.FileView.{AreBare, AreCounted, AreInside, AreWalked, HasWalked, IsShortAt, KeepsAll, KeepsUpTo, PaysAll, PaysSome, PaysUpTo, costs_in, count_in, kind_at, opening_cost, pass_cost_in, room_told, stream_asks, stream_of}
 use Rattle.mdmp_dump.specs.FoundRecord.{fields_of}
 use Rattle.mdmp_dump.specs.InFile.{stream_named}
 use Rattle.mdmp_dump.specs.Placed.{far_room, fields_bytes, fields_room, size_in}
@@ -29,7 +30,7 @@ use Rattle.mdmp_dump.specs.Seen.{Seen, nothing_seen}
 use Rattle.mdmp_dump.specs.Shape.{GivesNone, all_bytes, parts_in, seen_record, told, type_told}
 use Rattle.mdmp_dump.specs.View.{kind_in, raw_in, records_seen}
 use Rattle.mdmp_dump.proofs.Budgets.{budget_wants, kept_less, over_tells, wanting_own}
-use Rattle.mdmp_dump.proofs.Costs.{costs_most, costs_push}
+use Rattle.mdmp_dump.proofs.Costs.{costs_inside, costs_most, costs_push, may_listed, may_none}
 use Rattle.mdmp_dump.proofs.Refusals.{count_refused, entry_begins, one_told, row_passed, row_refused, rows_passed}
 use Rattle.mdmp_dump.proofs.Taking.{FetchesSome_none, FetchesSome_then, fetches_err}
 use Rattle.mdmp_dump.proofs.Viewed.{raw_sized, records_are, rooms_all, rooms_none, rooms_step, row_seen}
@@ -130,6 +131,7 @@ module _ (Z : Type 0) (limit : ℕ) (old : WalkState) (k : ℕ) where
     reached = 0;
     pays = subst (λ (b : ℕ). Pays (listed (chosen_entry old k).entry) b old now) (no_more (name_cost (chosen_entry old k).entry.stream_type)) begins.pays;
     few = λ F known. omega arith;
+    unlisted = begins.unlisted;
   }
 
   pub walking_unbegun : (fault : ReadFault) (now : WalkState) → Begins old k (Err fault) now → (F : List ℕ) → old.source.store.content ≡ Some F → HasWalked Z F limit old k (Err fault)
@@ -197,6 +199,7 @@ module _ (Z : Type 0) (limit : ℕ) (old : WalkState) (k : ℕ) where
       reached = index + 1;
       pays = row_paid (Err fault) gives;
       few = λ F known. omega (arith, fewer, ap count_in (walking.of_file F known).counted);
+      unlisted = λ none. absurd (omega (arith, fewer, may_none old.source.size (chosen_entry old k).entry count walking.counts none));
     }
 
     -- within a budget that has room for a pass over all of its records
@@ -228,6 +231,7 @@ module _ (Z : Type 0) (limit : ℕ) (old : WalkState) (k : ℕ) where
     reached = 0;
     pays = subst (λ (b : ℕ). Pays (listed (chosen_entry old k).entry) b old now) (no_more (name_cost (chosen_entry old k).entry.stream_type)) begins.pays;
     few = λ F known. omega arith;
+    unlisted = begins.unlisted;
   }
 
   pub untouched_paid : PaysUpTo k old old
@@ -241,6 +245,13 @@ module _ (Z : Type 0) (limit : ℕ) (old : WalkState) (k : ℕ) where
       more = omega arith;
     };
     few = λ F known. omega arith;
+    unlisted = λ none. record {
+      same = record { header = refl; choice = refl; chosen = refl; held = refl; start = refl; fetches = FetchesSome_none old.source };
+      aside = refl;
+      allowed = λ few. omega arith;
+      reached = omega arith;
+      more = omega arith;
+    };
   }
 
   pub budget_refuses : (fault : ReadFault) (offset size : ℕ) → fault ≡ faults.Opening (opening.Budget offset size) → (F : List ℕ) → HasWalked Z F limit old k (Err fault)
@@ -313,7 +324,7 @@ none_walked w = record {
 }
 
 pub none_paid : (w : WalkState) → PaysSome w w
-none_paid w = record { reached = []; pays = none_walked w; few = λ F known. omega (arith, none_cost_sum w.chosen) }
+none_paid w = record { reached = []; pays = none_walked w; few = λ F known. omega (arith, none_cost_sum w.chosen); inside = λ k within. absurd (let h : k < 0 = within in omega (arith, h)); inside_costs = λ F known. omega (arith, none_cost_sum w.chosen) }
 
 -- a list's first elements and one more
 take_more : {X : Type 0} (xs : List X) (k : ℕ) (d : X) → k < length xs → take (k + 1) xs ≡ take k xs ++ get_or xs k d ∷ []
@@ -412,16 +423,48 @@ module _ (Z : Type 0) (limit : ℕ) (old : WalkState) where
         (λ i before. (walking.of_file F known).quiet i (omega (arith, before, walking.counted))) inside
         (subst (λ (x : Numbered). entry_told F limit x ≡ Some fault) entry_now (of F (file_now F known) own))
 
+    inside_before : AreInside old.source.size old.chosen counts
+    inside_before = λ i within. may_listed old.source.size (chosen_entry old i).entry (get_or counts i 0) (walking.counts_fit i within)
+
+    few_before : (F : List ℕ) → old.source.store.content ≡ Some F → (i : ℕ) → i < length counts → get_or counts i 0 ≤ count_in (record_count F (chosen_entry old i).entry)
+    few_before F known i before = omega (arith, ap count_in ((walking.of_file F known).counted i before))
+
+    few_pushed : (up : PaysUpTo k now next) → (F : List ℕ) → old.source.store.content ≡ Some F → (i : ℕ) → i < length (counts ++ up.reached ∷ [])
+        → get_or (counts ++ up.reached ∷ []) i 0 ≤ count_in (record_count F (chosen_entry old i).entry)
+    few_pushed up F known =
+        each_push (λ i m. m ≤ count_in (record_count F (chosen_entry old i).entry)) counts up.reached (few_before F known)
+        (subst (λ (x : Numbered). up.reached ≤ count_in (record_count F x.entry)) entry_here (up.few F (file_now F known)))
+
+    inside_pushed : (n : ℕ) → is_listed old.source.size (chosen_entry now k).entry ≡ true → AreInside old.source.size old.chosen (counts ++ n ∷ [])
+    inside_pushed n lies =
+        each_push (λ i m. LiesInside old.source.size (chosen_entry old i).entry) counts n inside_before
+        (λ known. subst (λ (x : Numbered). is_listed old.source.size x.entry ≡ true) entry_here lies)
+
+    -- up to a stream that lies inside, or before one that does not
     pub one_paid : PaysUpTo k now next → PaysSome old next
-    one_paid up = record {
-      reached = counts ++ up.reached ∷ [];
-      pays = one_pays up.reached up.pays (counts ++ up.reached ∷ []) refl;
-      few = λ F known.
-          costs_most F old.chosen (counts ++ up.reached ∷ [])
-          (each_push (λ i m. m ≤ count_in (record_count F (chosen_entry old i).entry)) counts up.reached
-          (λ i before. omega (arith, ap count_in ((walking.of_file F known).counted i before)))
-          (subst (λ (x : Numbered). up.reached ≤ count_in (record_count F x.entry)) entry_here (up.few F (file_now F known))));
-    }
+    one_paid up = by (is_listed old.source.size (chosen_entry now k).entry) refl where
+      by : (b : Bool) → is_listed old.source.size (chosen_entry now k).entry ≡ b → PaysSome old next
+      by true lies = record {
+        reached = counts ++ up.reached ∷ [];
+        pays = one_pays up.reached up.pays (counts ++ up.reached ∷ []) refl;
+        few = λ F known. costs_most F old.chosen (counts ++ up.reached ∷ []) (few_pushed up F known);
+        inside = inside_pushed up.reached lies;
+        inside_costs = λ F known. costs_inside F old.source.size old.chosen (counts ++ up.reached ∷ []) (few_pushed up F known) (inside_pushed up.reached lies);
+      }
+      by false none =
+          let free = up.unlisted (subst (λ (z : ℕ). is_listed z (chosen_entry now k).entry ≡ false) (sym walking.pays.same.fetches.fetches.same_size) none) in
+          record {
+            reached = counts;
+            pays = record {
+              same = same_then old now next walking.pays.same free.same;
+              aside = free.aside ∙ walking.pays.aside;
+              allowed = λ few. (let first = walking.pays.allowed (omega (arith, few, free.more)) in let then = free.allowed few in omega (arith, first, then));
+              reached = omega (arith, walking.pays.reached, free.reached);
+            };
+            few = λ F known. costs_most F old.chosen counts (few_before F known);
+            inside = inside_before;
+            inside_costs = λ F known. costs_inside F old.source.size old.chosen counts (few_before F known) inside_before;
+          }
 
     -- what is spent with a pass over one stream more
     spent_more : (n : ℕ) → opening_cost old (counts ++ n ∷ []) ≡ opening_cost old counts + pass_cost (chosen_entry now k).entry n

@@ -1,5 +1,5 @@
 -- A walk over the chosen entries of a file, a record at a time, which reads no name.
-use Rattle.std.specs.Prelude.{◌≡◌, ◌≤◌, ◌<◌, ◌+◌, ◌*◌, ◌^◌, ℕ, List, [], ◌∷◌, length, get_or, Option, Some, None, Result, Ok, Err, ◌==◌, if◌then◌else◌, IfErr, IfOk, IsOk, MatchResult}
+use Rattle.std.specs.Prelude.{◌≡◌, ◌≤◌, ◌<◌, ◌+◌, ◌*◌, ◌^◌, ℕ, List, [], ◌∷◌, length, get_or, Option, Some, None, Result, Ok, Err, false, true, ◌==◌, if◌then◌else◌, IfErr, IfOk, IsOk, MatchResult}
 use Rattle.mdmp_source.specs.Source.{SourceState, FetchesSome, IsTold}
 use Rattle.mdmp_source.specs.Store.{IsGood}
 use Rattle.mdmp_source.specs.declared.fault.SourceFault.{SourceFault}
@@ -17,6 +17,7 @@ use Rattle.mdmp_lister.specs.Following.{IsBegun, Standing, records_by}
 use Rattle.mdmp_lister.specs.Format.Item.{item_at}
 use Rattle.mdmp_lister.specs.Format.Kind.{has_names, is_known, kind_of}
 use Rattle.mdmp_lister.specs.Format.Listing.{Numbered, chosen, list_fault, records_told}
+use Rattle.mdmp_lister.specs.Format.Numbers.{is_listed}
 use Rattle.mdmp_lister.specs.Format.Shape.{record_count, shape_of}
 use Rattle.mdmp_dump.specs.declared.fault.ReadFault.{ReadFault}
 use Rattle.mdmp_dump.specs.declared.fault.ReadFault.TheVariants as faults
@@ -53,6 +54,10 @@ name_cost t = name_cost_by (kind_of t)
 -- the bytes of a stream that are passed over
 abbrev pub listed : Entry → ℕ
 listed e = if is_known e.stream_type then e.location.size else 0
+
+-- a stream lies inside a file of z bytes, if its records are known
+abbrev pub LiesInside : ℕ → Entry → Type 0
+LiesInside z e = is_known e.stream_type ≡ true → is_listed z e ≡ true
 
 -- what a pass over a stream of so many records costs
 abbrev pub pass_cost : Entry → ℕ → ℕ
@@ -144,6 +149,8 @@ MayCount z e count = (standing : Standing) × (IsBegun z e (Ok standing) × (cou
 
 pub record Begins (old : WalkState) (stream : ℕ) (result : Result ℕ ReadFault) (new : WalkState) : Type 0 where
   pub pays : Pays (listed (chosen_entry old stream).entry) 0 old new
+  -- of a stream that lies outside the file nothing is fetched
+  pub unlisted : is_listed old.source.size (chosen_entry old stream).entry ≡ false → Pays 0 0 old new
   pub begun : IfOk result (λ count. (new.current ≡ chosen_entry old stream) × (new.left ≡ count) × (count < 2 ^ 32))
   pub of_file : (file : List ℕ) → old.source.store.content ≡ Some file → IsCountOf file (chosen_entry old stream) result
   pub counts : IfOk result (MayCount old.source.size (chosen_entry old stream).entry)

@@ -8,6 +8,7 @@ use Rattle.mdmp_source.specs.declared.fault.SourceFault.TheVariants.{Changed}
 use Rattle.mdmp_wire.specs.Header.{header_at}
 use Rattle.mdmp_wire.specs.declared.header.Header.{Header}
 use Rattle.mdmp_lister.specs.Format.Listing.{Numbered, chosen}
+use Rattle.mdmp_lister.specs.Format.Numbers.{is_listed}
 use Rattle.mdmp_lister.specs.Format.Shape.{record_count}
 use Rattle.mdmp_lister.specs.declared.fault.OpenFault.TheVariants as opening
 use Rattle.mdmp_lister.specs.Meter.{KeepsTo, is_passed}
@@ -22,7 +23,7 @@ use Rattle.mdmp_dump.specs.declared.view.Kind.{Kind}
 use Rattle.mdmp_dump.specs.declared.view.Kind.TheVariants as kinds
 use Rattle.mdmp_dump.specs.declared.view.ViewFault.{ViewFault}
 use Rattle.mdmp_dump.specs.declared.view.ViewFault.TheVariants as view
-use Rattle.mdmp_dump.specs.EntryWalk.{IsSameWalk, MayCount, Pays, WalkState, chosen_entry, kind_by, listed, name_cost, pass_cost, raw_part}
+use Rattle.mdmp_dump.specs.EntryWalk.{IsSameWalk, LiesInside, MayCount, Pays, WalkState, chosen_entry, kind_by, listed, name_cost, no_entry, pass_cost, raw_part}
 use Rattle.mdmp_dump.specs.FileRefusal.{body_told, entry_told, view_refusal}
 use Rattle.mdmp_dump.specs.FoundRecord.{AreIn, no_part}
 use Rattle.mdmp_dump.specs.InFile.{dump_in, stream_named}
@@ -45,6 +46,14 @@ count_in (Err fault) = 0
 -- a pass over a stream of F: its bytes, where its records are known, and the length of each name that they may have
 abbrev pub pass_cost_in : List ℕ → Numbered → ℕ
 pass_cost_in F x = pass_cost x.entry (count_in (record_count F x.entry))
+
+-- the same of one that lies inside a file of z bytes; of another it is nothing
+abbrev pub inside_cost_in : ℕ → List ℕ → Numbered → ℕ
+inside_cost_in z F x = if is_listed z x.entry then pass_cost_in F x else 0
+
+-- the first of some streams, those that were reached, lie inside a file of z bytes where their records are known
+abbrev pub AreInside : ℕ → List Numbered → List ℕ → Type 0
+AreInside z xs reached = (k : ℕ) → k < length reached → LiesInside z (get_or xs k no_entry).entry
 
 -- ---- of unknown content
 
@@ -242,12 +251,17 @@ pub record PaysUpTo (k : ℕ) (old new : WalkState) : Type 0 where
   pub reached : ℕ
   pub pays : Pays (listed (chosen_entry old k).entry) (reached * name_cost (chosen_entry old k).entry.stream_type) old new
   pub few : (F : List ℕ) → old.source.store.content ≡ Some F → reached ≤ count_in (record_count F (chosen_entry old k).entry)
+  -- of one that lies outside nothing was fetched
+  pub unlisted : is_listed old.source.size (chosen_entry old k).entry ≡ false → Pays 0 0 old new
 
 -- the streams were, up to one of them
 pub record PaysSome (old new : WalkState) : Type 0 where
   pub reached : List ℕ
   pub pays : PaysAll reached old new
   pub few : (F : List ℕ) → old.source.store.content ≡ Some F → sum (costs_in old.chosen reached) ≤ sum (map (pass_cost_in F) old.chosen)
+  -- none that was reached lies outside the file
+  pub inside : AreInside old.source.size old.chosen reached
+  pub inside_costs : (F : List ℕ) → old.source.store.content ≡ Some F → sum (costs_in old.chosen reached) ≤ sum (map (inside_cost_in old.source.size F) old.chosen)
 
 -- a stream of F was walked over: it has as many records as were counted, whose names and parts take what is told; or the
 -- first refusal among them is told

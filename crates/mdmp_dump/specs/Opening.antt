@@ -13,13 +13,17 @@ use Rattle.mdmp_lister.specs.Memory.{is_within}
 use Rattle.mdmp_dump.specs.declared.file_view.FileView.{FileView}
 use Rattle.mdmp_dump.specs.declared.fault.ReadFault.{ReadFault}
 use Rattle.mdmp_dump.specs.declared.fault.ReadFault.TheVariants as faults
-use Rattle.mdmp_dump.specs.FileView.{AreCounted, IsShortAt, asks_in, costs_in, opening_cost, pass_cost_in}
+use Rattle.mdmp_dump.specs.FileView.{AreCounted, AreInside, IsShortAt, asks_in, costs_in, inside_cost_in, opening_cost, pass_cost_in}
 
 -- ---- what a known file costs
 
 -- what opening a view of F may fetch: the header, the directory, and one pass over each chosen stream
 abbrev pub opening_bound : List ℕ → Choice → ℕ
 opening_bound F choice = 32 + 12 * entry_count F + sum (map (pass_cost_in F) (chosen F choice))
+
+-- the same where a stream that lies outside a file of z bytes costs nothing
+abbrev pub listed_bound : ℕ → List ℕ → Choice → ℕ
+listed_bound z F choice = 32 + 12 * entry_count F + sum (map (inside_cost_in z F) (chosen F choice))
 
 -- what a copy of the chosen streams of F may fetch: it opens a view, passes over each stream twice more, and asks for the
 -- bytes of all names, parts and streams whose records are not known
@@ -77,6 +81,10 @@ pub record HasSpentOpening (choice : Choice) (old new : SourceState) : Type 0 wh
   pub fetched : new.fetched ≤ old.fetched + (32 + 12 * entries + sum (costs_in chosen_are reached))
   -- of a known file that is no more than what opening it may fetch
   pub of_file : (file : List ℕ) → old.store.content ≡ Some file → 32 + 12 * entries + sum (costs_in chosen_are reached) ≤ opening_bound file choice
+  -- no stream that was reached lies outside the file
+  pub inside : AreInside old.size chosen_are reached
+  -- so of a known file it is no more than what the streams cost that lie inside
+  pub inside_costs : (file : List ℕ) → old.store.content ≡ Some file → 32 + 12 * entries + sum (costs_in chosen_are reached) ≤ listed_bound old.size file choice
 
 -- ---- what is seen of a view
 

@@ -1,5 +1,5 @@
 -- What a copy does, from its parts.
-use Rattle.std.proofs.Common.{◌≡◌, ◌⊎◌, ◌∙◌, ◌+◌, ◌<◌, ◌≤◌, ℕ, List, [], Option, Some, None, true, false, inl, inr, refl, ap, arith, drop, length, ltb-false, slice_index_or, subst, sym}
+use Rattle.std.proofs.Common.{◌≡◌, ◌⊎◌, ◌∙◌, ◌+◌, ◌<◌, ◌≤◌, ℕ, List, [], Option, Some, None, true, false, inl, inr, refl, ap, arith, drop, get_or, length, ltb-false, map, slice_index_or, subst, sum, sym}
 use Rattle.std.specs.Prelude.{◌*◌, Result, Ok, Err, IfOk, IfSome, IsTrue, nat_lt}
 use Rattle.std.proofs.lemmas.List.{drop_more}
 use Rattle.std.proofs.lemmas.Option.{none-some}
@@ -19,21 +19,23 @@ use Rattle.mdmp_lister.specs.declared.fault.OpenFault.{OpenFault}
 use Rattle.mdmp_lister.specs.declared.fault.OpenFault.TheVariants as opening
 use Rattle.mdmp_lister.specs.declared.limits.Limits.{Limits}
 use Rattle.mdmp_lister.specs.Fault.{IsUnobtained}
-use Rattle.mdmp_lister.specs.Format.Listing.{entry_count}
+use Rattle.mdmp_lister.specs.Format.Listing.{Numbered, chosen, entry_count}
 use Rattle.mdmp_lister.specs.Format.Refusal.{directory_refusal}
 use Rattle.mdmp_lister.specs.Meter.{KeepsTo, is_passed}
 use Rattle.mdmp_dump.specs.declared.fault.ReadFault.{ReadFault}
 use Rattle.mdmp_dump.specs.declared.fault.ReadFault.TheVariants as reads
+use Rattle.mdmp_dump.specs.declared.pass.Pass.{Pass}
 use Rattle.mdmp_dump.specs.declared.view.ViewFault.{ViewFault}
 use Rattle.mdmp_dump.specs.declared.view.ViewFault.TheVariants as view
-use Rattle.mdmp_dump.specs.EntryWalk.{WalkState}
+use Rattle.mdmp_dump.specs.EntryWalk.{WalkState, chosen_entry}
 use Rattle.mdmp_dump.specs.FileRefusal.{IsUnbudgeted, IsViewRefusal, view_refusal}
-use Rattle.mdmp_dump.specs.FileView.{HasMoved, costs_in, source_fault}
+use Rattle.mdmp_dump.specs.FileView.{AreCounted, AreInside, HasMoved, IsView, costs_in, count_in, inside_cost_in, opening_cost, source_fault}
 use Rattle.mdmp_dump.specs.InFile.{dump_in}
 use Rattle.mdmp_dump.specs.LaysOut.{LaysOut}
 use Rattle.mdmp_dump.specs.Opening.{FetchesWithin, HasSpentOpening, IsLimited, IsShortOf, copy_bound, opening_bound}
 use Rattle.mdmp_dump.specs.Reading.{IsLastTold, IsWanting, MayBeTold, TellsOf, store_fault, store_fault_in}
 use Rattle.mdmp_dump.specs.Shape.{ViewShape}
+use Rattle.mdmp_dump.proofs.Costs.{costs_inside, may_listed}
 use Rattle.mdmp_writer.specs.Writing.{GoesOut}
 use Rattle.mdmp_tool.specs.declared.fault.ToolFault.{ToolFault}
 use Rattle.mdmp_tool.specs.declared.fault.ToolFault.TheVariants as tool
@@ -107,7 +109,30 @@ read_unopened budget size fault refusal = tt
 -- nothing was fetched of a source that is as it was
 pub unspent : (source : SourceState) (choice : Choice) → HasSpentOpening choice source source
 unfolding costs_in
-unspent source choice = record { entries = 0; chosen_are = []; reached = []; few = omega arith; fetched = omega arith; of_file = λ F known. omega arith }
+unspent source choice = record { entries = 0; chosen_are = []; reached = []; few = omega arith; fetched = omega arith; of_file = λ F known. omega arith; inside = λ k within. absurd (let h : k < 0 = within in omega (arith, h)); inside_costs = λ F known. omega arith }
+
+-- a view was opened and let go, and nothing was asked of it
+pub view_spent : {Z : Type 0} {limit : ℕ} {w : WalkState} {counts rooms : List ℕ} {pass : Option Pass} {passed asked : ℕ} {last : Option ViewFault} → IsView Z limit w counts rooms pass passed asked last
+    → (source left : SourceState) (choice : Choice) → w.choice ≡ choice → FetchesSome source w.source → AreCounted source.size w counts → left.fetched ≤ source.fetched + opening_cost w counts
+    → ((F : List ℕ) → source.store.content ≡ Some F → opening_cost w counts ≡ opening_bound F choice) → HasSpentOpening choice source left
+view_spent {w = w} {counts = counts} sound source left choice choice_is fetches fits spent cost =
+    let inside : AreInside source.size w.chosen counts = λ k within. may_listed source.size (chosen_entry w k).entry (get_or counts k 0) (fits k within) in
+    record {
+      entries = w.header.number_of_streams;
+      chosen_are = w.chosen;
+      reached = counts;
+      few = sound.few;
+      fetched = omega (arith, spent);
+      of_file = λ F known. omega (arith, cost F known);
+      inside = inside;
+      inside_costs = λ F known.
+          let of = sound.of_file F (fetches.fetches.same_content ∙ known) in
+          let entries : w.header.number_of_streams ≡ entry_count F = ap (λ h. h.number_of_streams) of.header in
+          let chosen_same : w.chosen ≡ chosen F choice = of.chosen_are ∙ ap (chosen F) choice_is in
+          let passes : sum (map (inside_cost_in source.size F) w.chosen) ≡ sum (map (inside_cost_in source.size F) (chosen F choice)) = ap (λ (xs : List Numbered). sum (map (inside_cost_in source.size F) xs)) chosen_same in
+          let most = costs_inside F source.size w.chosen counts (λ k within. omega (arith, ap count_in (of.counted k (omega (arith, within, sound.counted))))) inside in
+          omega (arith, entries, passes, most);
+    }
 
 -- what was written fits the shape
 pub shape_copied : (shape : ViewShape) (before after : OutState) (r : Result ℕ ToolFault) → IsShapeCopied shape before r after → IsOfShape shape r

@@ -10,7 +10,7 @@ use Rattle.mdmp_dump.specs.Shape.{ViewShape}
 use Rattle.mdmp_dump.proofs.Taking.{FetchesSome_then}
 use Rattle.mdmp_tool.specs.Copying.{first_not_copied, spent, unopened}
 use Rattle.mdmp_tool.proofs.Engining.{may_change}
-use Rattle.mdmp_tool.proofs.Copying.{Copies-not, Copies-over, Copies-refused, Copies-viewed, budget_over, budget_refused, budget_unread, budget_written, cause_copied, good_read, memory_refused, memory_written, read_unopened, reliable_copied, shape_copied, unspent, within_refused, within_unread, within_written}
+use Rattle.mdmp_tool.proofs.Copying.{Copies-not, Copies-over, Copies-refused, Copies-viewed, budget_over, budget_refused, budget_unread, budget_written, cause_copied, good_read, memory_refused, memory_written, read_unopened, reliable_copied, shape_copied, unspent, view_spent, within_refused, within_unread, within_written}
 use Rattle.mdmp_tool.proofs.copy.copy_source.Goals as goal
 
 pub returns-in-Some-clause-copies : goal.returns-in-Some-clause-copies
@@ -153,14 +153,7 @@ pub returns-then-is_over-clause-spends : goal.returns-then-is_over-clause-spends
 returns-then-is_over-clause-spends g c =
     let of = c.in-Ok.ensures in
     let view = c.in-Ok.field-0.view in
-    unopened tt (record {
-      entries = view.walk.header.number_of_streams;
-      chosen_are = view.walk.chosen;
-      reached = view.counts.items;
-      few = view.sound.few;
-      fetched = omega (arith, c.into_source.ensures.spent, of.new.start, of.new.passed, of.new.asked);
-      of_file = λ F known. omega (arith, of.cost F known);
-    })
+    unopened tt (view_spent view.sound c.args.source c.into_source.result (Types c.args.types) of.new.choice_is of.new.fetches of.new.counted (omega (arith, c.into_source.ensures.spent, of.new.start, of.new.passed, of.new.asked)) of.cost)
 
 pub returns-then-is_over-clause-budget : goal.returns-then-is_over-clause-budget
 returns-then-is_over-clause-budget g c =
