@@ -268,7 +268,7 @@ pub check_over : (plain : PlainLimits) (limits : Limits) (F : List ℕ) (old new
     → old.size < 2 ^ 64 → new.size ≡ old.size → IsReadThrough (check_access limits) old answer new → IsLimited answer → ReachesLimit plain F All None (check_answer answer)
 check_over plain limits F old new (Err (Budget at len)) given known size small same (IsReadThrough.listed run) told =
     let ended = ended_by run.lister (numbers_of run.lister) at len refl run.held run.spent run.over in
-    ended_over plain limits F All None run.lister at len given run.budget run.window run.limit (ap (λ (s : SourceState). s.size) run.source ∙ same ∙ size) (ended_as run.lister _ None at len ended tt)
+    ended_over plain limits F All None run.lister at len given run.budget run.opened.asked.window_room run.opened.asked.limit_is (ap (λ (s : SourceState). s.size) run.source ∙ same ∙ size) (ended_as run.lister _ None at len ended tt)
 check_over plain limits F old new (Err (Budget at len)) given known size small same (IsReadThrough.refused asked early kept memory fetches inside) told =
     opening_passed plain limits F All None old at len new given known size small tt kept
 check_over plain limits F old new (Err (MemoryLimit held)) given known size small same (IsReadThrough.listed run) told = absurd run.within
