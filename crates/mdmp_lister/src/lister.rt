@@ -126,7 +126,7 @@ impl<S: Store + Drop, A: Allocator + Copy> Lister<S, A> {
         ensures refusal { IfErr result (λ refused. IsOpenRefusal source.size refused.fault) }
         ensures short { source.size < 32 → MatchResult result (λ _. ⊥) (λ refused. refused.fault ≡ OpenFault.TooShort source.size) }
         ensures memory { IfErr result (λ refused. refused.fault ≡ OpenFault.Memory
-            → FetchesAtMost 32 source refused.source ⊎ ((file : List ℕ) → source.store.content ≡ Some file → opening_fault file choice ≡ None)) }
+            → FetchesAtMost 32 source refused.source ⊎ ((file : List ℕ) → source.store.content ≡ Some file → opening_fault_within limits file choice ≡ None)) }
         ensures cause { IfErr result (λ refused. IsUnreadFor refused.fault source refused.source) }
         ensures kept { IfErr result (λ refused. KeepsToBudget limits source refused.fault refused.source) }
         ensures next { IfErr result (λ refused. TellsNextOpening (Some choice) limits source refused.fault refused.source) }

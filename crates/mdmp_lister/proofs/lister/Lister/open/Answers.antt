@@ -1,15 +1,19 @@
-use Rattle.std.proofs.Common.{◌≡◌, ◌∙◌, ◌≤◌, ℕ, List, None, Some, Ok, Err, ap, arith, inr, refl, rules, subst, vec_capacity}
+use Rattle.std.proofs.Common.{◌≡◌, ◌∙◌, ◌≤◌, ℕ, List, None, Some, Ok, Err, ap, arith, inr, refl, rules, subst, true, vec_capacity}
+use Rattle.mdmp_wire.specs.Header.{header_at}
 use Rattle.std.proofs.lemmas.Bool.{le-ltb, lt-ltb}
 use Rattle.mdmp_source.specs.Source.{FetchesAtMost}
 use Rattle.mdmp_source.specs.SourceLaws.{fetches_then}
 use Rattle.mdmp_lister.specs.declared.choice.Choice.{Choice}
+use Rattle.mdmp_lister.specs.Format.Bounds.{held_bound}
 use Rattle.mdmp_lister.specs.Format.Numbers.{range_count}
 use Rattle.mdmp_lister.specs.Format.Refusal.{directory_refusal, most_ranges, opening_fault}
+use Rattle.mdmp_lister.specs.Memory.{is_within}
 use Rattle.mdmp_lister.specs.Opening.{IsOfHead, refusal_of_fetch}
 use Rattle.mdmp_lister.specs.StreamHead.{heads_ahead}
 use Rattle.mdmp_lister.proofs.Budgets.{over_fetched}
 use Rattle.mdmp_lister.proofs.Advancing.{IsCaused-counted, IsHandedBack-counted, KeepsToBudget-counted}
 use Rattle.mdmp_lister.proofs.Fetches.{not_unread, unread_caused}
+use Rattle.mdmp_lister.proofs.Memory.{lister_within}
 use Rattle.mdmp_lister.proofs.Openings.{heads-next, next-counted}
 use Rattle.mdmp_lister.proofs.Refusals.{IsHandedBack_bare, not_of_head, not_of_memory, open_refusal, refusal_of-directory, refusal_of_fetch-any, refusal_of_fetch-caused, refusal_of_fetch-long}
 use Rattle.mdmp_lister.proofs.lister.Lister.open.Goals as goal
@@ -86,7 +90,14 @@ returns-in-Ok-with_room-clause-opens g c = λ file known.
 pub returns-in-Err-with_room-clause-memory : goal.returns-in-Err-with_room-clause-memory
 returns-in-Err-with_room-clause-memory g c = λ memory.
     let new = c.in-Ok.ensures.new in
-    inr (λ file known. few_ranges file c.args.choice c.in-Ok-count_ranges.count (new.reads.opens file known) (c.in-Ok-count_ranges.ensures.count file (new.spends.fetches.same_content ∙ known) ∙ ap (range_count file) new.choice_is) (omega arith))
+    let counts = c.in-Ok-count_ranges.ensures in
+    let room = counts.same.room in
+    let count = c.in-Ok-count_ranges.count in
+    inr (λ file known.
+    let counted : count ≡ range_count file c.args.choice = counts.count file (new.spends.fetches.same_content ∙ known) ∙ ap (range_count file) new.choice_is in
+    let header : c.count_ranges.new.self.header ≡ header_at file 0 = counts.sound.header_is file (counts.books.fetches.same_content ∙ new.spends.fetches.same_content ∙ known) in
+    let holds : is_within c.args.limits.memory (held_bound c.args.limits.window c.args.limits.name c.count_ranges.new.self.header.number_of_streams count) ≡ true = search rules in
+    lister_within c.args.limits file c.args.choice c.count_ranges.new.self.header count (c.in-Ok.ensures.within file known) header counted (omega arith) holds)
 
 pub returns-in-Ok-with_room-clause-new : goal.returns-in-Ok-with_room-clause-new
 returns-in-Ok-with_room-clause-new g c =
