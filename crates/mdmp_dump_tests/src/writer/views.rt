@@ -25,15 +25,11 @@ struct Calls {
 }
 
 impl Calls {
-    /// Another call.
-    fn count(&mut self) -> Result<(), ViewFault> {
+    /// Another call: whether it fails.
+    fn fails(&mut self) -> bool {
         let call = self.made;
         self.made = call.saturating_add(1);
-        if call == self.fail_at {
-            Err(FAULT)
-        } else {
-            Ok(())
-        }
+        call == self.fail_at
     }
 }
 
@@ -124,27 +120,30 @@ impl<V: DumpView> DumpView for WatchedView<V> {
 
     fn rewind(&mut self, stream: u64) -> Result<(), ViewFault> {
         self.begun.count(stream);
-        let answer = match self.calls.count() {
-            Ok(()) => self.inner.rewind(stream),
-            Err(fault) => Err(fault),
+        let answer = if self.calls.fails() {
+            Err(FAULT)
+        } else {
+            self.inner.rewind(stream)
         };
         self.last = answer.err();
         answer
     }
 
     fn next_record(&mut self) -> Result<Fields, ViewFault> {
-        let answer = match self.calls.count() {
-            Ok(()) => self.inner.next_record(),
-            Err(fault) => Err(fault),
+        let answer = if self.calls.fails() {
+            Err(FAULT)
+        } else {
+            self.inner.next_record()
         };
         self.last = answer.err();
         answer
     }
 
     fn part(&mut self, which: usize, at: u64, out: &mut [u8]) -> Result<(), ViewFault> {
-        let answer = match self.calls.count() {
-            Ok(()) => self.inner.part(which, at, out),
-            Err(fault) => Err(fault),
+        let answer = if self.calls.fails() {
+            Err(FAULT)
+        } else {
+            self.inner.part(which, at, out)
         };
         self.last = answer.err();
         answer
