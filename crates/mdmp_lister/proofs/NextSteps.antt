@@ -23,7 +23,7 @@ use Rattle.mdmp_lister.specs.declared.walk.Walk.{Walk}
 use Rattle.mdmp_lister.specs.Fault.{fault_of_fetch}
 use Rattle.mdmp_lister.specs.Fetching.{IsHeadTried, IsNameTried, IsRecordFetch, IsRecordTried, TriesHead, TriesHold}
 use Rattle.mdmp_lister.specs.Fetching as fetching
-use Rattle.mdmp_lister.specs.Following.{IsBegun, Standing, given_by, mapped, standing_by}
+use Rattle.mdmp_lister.specs.Following.{IsBegun, Standing, records_given, mapped, standing_by}
 use Rattle.mdmp_lister.specs.Following as following
 use Rattle.mdmp_lister.specs.Format.Kind.{form_of, kind_of, record_size}
 use Rattle.mdmp_lister.specs.Format.Numbers.{maybe_name}
@@ -193,11 +193,11 @@ sub_zero : (n : ℕ) → n - 0 ≡ n
 sub_zero n = omega arith
 
 -- no record was given of an entry whose head was read
-given_shaped : (s : Standing) (offset : ℕ) (r : Result Shape Fault) → Ok s ≡ mapped (standing_by offset) r → given_by s ≡ 0
+given_shaped : (s : Standing) (offset : ℕ) (r : Result Shape Fault) → Ok s ≡ mapped (standing_by offset) r → records_given s ≡ 0
 given_shaped s offset (Ok shape) is = let same : s ≡ standing_by offset shape = cc in rw same refl
 given_shaped s offset (Err fault) is = absurd (cc)
 
-given_begun : (z : ℕ) (e : Entry) (s : Standing) → IsBegun z e (Ok s) → given_by s ≡ 0
+given_begun : (z : ℕ) (e : Entry) (s : Standing) → IsBegun z e (Ok s) → records_given s ≡ 0
 given_begun z e s (following.outside fault is bad) = absurd (cc)
 given_begun z e s (following.opaque whole none is) = let same : s ≡ following.through = cc in rw same refl
 given_begun z e s (following.shaped whole kind of shape some offset is) = given_shaped s offset shape is
@@ -260,8 +260,8 @@ module _ {S A : Type 0} (old new : Walk S A) where
     record_next _ offset size tried = tt
 
 module _ {S A : Type 0} (old mid : Walk S A) (head : HeadRead old mid) (at : old.stage ≡ stage.Head) where
-  none_given : given_by (standing_of mid.stage) ≡ given_by (standing_of old.stage)
-  none_given = given_begun _ _ (standing_of mid.stage) head.begins ∙ sym (ap (λ (s : Stage). given_by (standing_of s)) at)
+  none_given : records_given (standing_of mid.stage) ≡ records_given (standing_of old.stage)
+  none_given = given_begun _ _ (standing_of mid.stage) head.begins ∙ sym (ap (λ (s : Stage). records_given (standing_of s)) at)
 
   -- what was fetched of the head is no longer unread
   behind_head : (kind : StreamKind) (place : ℕ) → kind_of old.current.stream_type ≡ Some kind

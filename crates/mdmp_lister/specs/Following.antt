@@ -48,9 +48,9 @@ records_by (within given left offset) = left
 records_by standing = 0
 
 -- how many were given
-abbrev pub given_by : Standing → ℕ
-given_by (within given left offset) = given
-given_by standing = 0
+abbrev pub records_given : Standing → ℕ
+records_given (within given left offset) = given
+records_given standing = 0
 
 -- the number of the first entry behind the current one, that entry, and how far it was given
 pub record Cursor : Type 0 where

@@ -19,7 +19,7 @@ use Rattle.mdmp_lister.specs.declared.fault.OpenFault.TheVariants.{Budget}
 use Rattle.mdmp_lister.specs.declared.kind.StreamKind.{StreamKind}
 use Rattle.mdmp_lister.specs.declared.limits.Limits.{Limits}
 use Rattle.mdmp_lister.specs.declared.shape.Shape.{Shape}
-use Rattle.mdmp_lister.specs.Following.{Standing, begun, given_by}
+use Rattle.mdmp_lister.specs.Following.{Standing, begun, records_given}
 use Rattle.mdmp_lister.specs.Format.Directory.{IsDirectory}
 use Rattle.mdmp_lister.specs.Format.Item.{record_at}
 use Rattle.mdmp_lister.specs.Format.Kind.{form_of, kind_of, record_size}
@@ -141,9 +141,9 @@ pub record IsNextRecord (s : Standpoint) (kind : StreamKind) (at : ℕ) : Type 0
   pub shape : Shape
   pub kind_is : kind_of s.entry.stream_type ≡ Some kind
   pub fits : FitsIn s.entry.location.size kind shape
-  pub left : given_by s.standing < shape.count
+  pub left : records_given s.standing < shape.count
   pub of_file : (file : List ℕ) → s.content ≡ Some file → shape_of file s.entry.location.rva s.entry.location.size kind ≡ Ok shape
-  pub at_is : at ≡ s.entry.location.rva + shape.first + given_by s.standing * shape.stride
+  pub at_is : at ≡ s.entry.location.rva + shape.first + records_given s.standing * shape.stride
 
 -- a window that slides over the current entry's stream takes this next, where so many of its bytes are unread
 abbrev pub IsStreamFetch : Standpoint → (unread at wanted offset size : ℕ) → Type 0
