@@ -66,10 +66,10 @@ fn read_range(file: &[u8], paint: &mut Paint, range: &Range, out: &mut [u8], kno
     }
 }
 
-/// Reads a block of addresses, at most 16384, by a look at one row after another.
+/// Reads a block of addresses, at most 32768, by a look at one row after another.
 fn read_block(file: &[u8], rows: &[RangeRow], address: u128, out: &mut [u8], known: &mut [bool])
     requires same { length out.old ≡ length known.old }
-    requires few { length out.old ≤ 16384 }
+    requires few { length out.old ≤ 32768 }
     ensures { ReadsCells (Some file.now) (kept_ranges (length file.now) rows.now) address out.new known.new }
 {
     out.fill(0);

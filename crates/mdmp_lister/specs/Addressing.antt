@@ -80,5 +80,5 @@ pub record HalvesAtMost (n count old new : ℕ) : Type 0 where
 pub record LooksUpAtMost (ranges : List Range) (count old new : ℕ) : Type 0 where
   -- while the ranges are sorted and fewer than 2^k, at most k looks for each address
   pub by_halves : AreSorted ranges → (k : ℕ) → length ranges < 2 ^ k → new ≤ old + k * count
-  -- else at most one look at each range for each block of 16384 addresses
-  pub by_blocks : (AreSorted ranges → ⊥) → new ≤ old + length ranges * (count / 16384 + 1)
+  -- else at most one look at each range for each block of 32768 addresses
+  pub by_blocks : (AreSorted ranges → ⊥) → new ≤ old + length ranges * (count / 32768 + 1)

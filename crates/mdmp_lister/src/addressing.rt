@@ -139,7 +139,7 @@ fn read_range<S: Store>(
     Ok(())
 }
 
-/// Reads a block of addresses, at most 16384, by a look at one range after another.
+/// Reads a block of addresses, at most 32768, by a look at one range after another.
 fn read_block<S: Store, A: Allocator, G: Ledger>(
     meter: &mut Meter<S>,
     map: &AddressMap<A>,
@@ -149,7 +149,7 @@ fn read_block<S: Store, A: Allocator, G: Ledger>(
     steps: &mut Steps<G>,
 ) -> Result<(), SourceFault>
     requires same { length out.old ≡ length known.old }
-    requires few { length out.old ≤ 16384 }
+    requires few { length out.old ≤ 32768 }
     requires inside { All (IsWithin meter.old.source.size) map.now.ranges }
     ensures reads { ReadsAddresses map.now.ranges address result out.new known.new meter.old meter.new }
     ensures looks { steps.new ≤ steps.old + length map.now.ranges }
@@ -179,7 +179,7 @@ fn read_blocks<S: Store, A: Allocator, G: Ledger>(
     requires same { length out.old ≡ length known.old }
     requires inside { All (IsWithin meter.old.source.size) map.now.ranges }
     ensures reads { ReadsAddresses map.now.ranges address result out.new known.new meter.old meter.new }
-    ensures looks { steps.new ≤ steps.old + length map.now.ranges * (length out.new / 16384 + 1) }
+    ensures looks { steps.new ≤ steps.old + length map.now.ranges * (length out.new / 32768 + 1) }
 {
     let mut done = 0;
     while done < out.len() {
@@ -234,7 +234,7 @@ fn read_stretches<S: Store, A: Allocator, G: Ledger>(
 /// Where one holds an address, its byte is put into `out`, and `known` is true there; else both are 0
 /// and false. After a fault they may hold anything. Each stretch of addresses is read by one fetch, or
 /// by none where no range holds it. While the ranges are sorted one search finds a stretch; else each
-/// range is looked at once for each block of 16384 addresses. The looks are counted.
+/// range is looked at once for each block of 32768 addresses. The looks are counted.
 pub(crate) fn read_addresses<S: Store, A: Allocator, G: Ledger>(
     meter: &mut Meter<S>,
     map: &AddressMap<A>,

@@ -349,7 +349,7 @@ impl<S: Store + Drop, A: Allocator + Copy> Lister<S, A> {
     /// Reads what `read_address` does, and counts a step for each range that it looks at. While the
     /// ranges are sorted one search by halves finds the addresses that stand together from one on, so
     /// there are at most as many searches as `out` has bytes; else each range is looked at once for each
-    /// 16384 of them.
+    /// 32768 of them.
     #[tactic(auto, using(crate::proofs::Fetches::told_caused, crate::proofs::Fetches::good_caused))]
     pub fn read_address_counted<G: Ledger>(
         &mut self,

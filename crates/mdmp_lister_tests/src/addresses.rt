@@ -266,17 +266,17 @@ fn read_long_range(rt: &impl Abort, alloc: Global) -> Read<4096> {
 
 /// Two ranges, of which the second lies lower: ABCD about the end of a block, and wxyz at its start.
 const APART: [u32; 14] = [
-    5, 36, 44, 2, 0x4ffe, 0, 4, 80, 0x1000, 0, 4, 84, 0x44434241, 0x7a797877,
+    5, 36, 44, 2, 0x8ffe, 0, 4, 80, 0x1000, 0, 4, 84, 0x44434241, 0x7a797877,
 ];
 
 /// What is read of them in two blocks: the first range is cut where a block ends.
-fn read_apart() -> Read<16388> {
-    let mut out = [0; 16388];
-    let mut known = [false; 16388];
+fn read_apart() -> Read<32772> {
+    let mut out = [0; 32772];
+    let mut known = [false; 32772];
     out[..4].copy_from_slice(b"wxyz");
     known[..4].fill(true);
-    out[0x3ffe..0x4002].copy_from_slice(b"ABCD");
-    known[0x3ffe..0x4002].fill(true);
+    out[0x7ffe..0x8002].copy_from_slice(b"ABCD");
+    known[0x7ffe..0x8002].fill(true);
     (out, known, 3)
 }
 

@@ -9,10 +9,10 @@ use crate::range::Range;
 use std::marker::Model;
 
 /// How many addresses a block has at most.
-pub const BLOCK: usize = 16384;
+pub const BLOCK: usize = 32768;
 
 /// One place more than a block has, which is never painted.
-const PLACES: usize = 16385;
+const PLACES: usize = 32769;
 
 /// Addresses of a block that follow each other, which one range is the first to hold.
 #[derive(Clone, Copy, Debug, PartialEq, Eq)]
@@ -35,7 +35,7 @@ pub struct Paint {
     count: usize,
     /// For each place one at or behind it before which all from it on are painted: itself, where it is
     /// not painted.
-    next: [u16; 16385],
+    next: [u16; 32769],
 }
 
 impl Model for Paint {
@@ -46,13 +46,13 @@ impl Model for Paint {
 
     ghost view = { λ p. record { start = p.start; count = p.count; painted = marks p.next p.count } };
 
-    ghost invariant = { λ p. (p.count ≤ 16384) × Skips p.next };
+    ghost invariant = { λ p. (p.count ≤ 32768) × Skips p.next };
 }
 
 impl Paint {
     /// So many addresses from this one on, none of which is painted. Those of 2^64 or more never are.
     pub fn over(start: u128, count: usize) -> Paint
-        requires { count ≤ 16384 }
+        requires { count ≤ 32768 }
         ensures start { result.start ≡ start }
         ensures count { result.count ≡ count }
         ensures free { (place : ℕ) → is_painted result place ≡ false }

@@ -30,7 +30,7 @@ loop-done-preserved g c =
     subst (λ x. ReadsCells x ranges (c.args.address + done) c.read_block.new.out c.read_block.new.known) before.books.fetches.same_content
     (subst (λ a. ReadsCells c.loop-done.meter.source.store.content ranges (a + done) c.read_block.new.out c.read_block.new.known) c.from.ensures c.in_ok-read_block.ensures.reads.cells) in
     let ahead : done < length c.args.out.now = omega (arith, c.loop-done-test.true, c.loop-done.auto) in
-    let blocks : (end + 16383) / 16384 ≡ (done + 16383) / 16384 + 1 = omega (arith, before.whole ahead, c.min.ensures, c.loop-done-test.true, c.loop-done.auto) in
+    let blocks : (end + 32767) / 32768 ≡ (done + 32767) / 32768 + 1 = omega (arith, before.whole ahead, c.min.ensures, c.loop-done-test.true, c.loop-done.auto) in
     record {
       within = omega (arith, c.min.ensures, c.loop-done.auto);
       whole = λ lt. omega (arith, lt, before.whole ahead, c.min.ensures, c.loop-done.auto);
@@ -39,5 +39,5 @@ loop-done-preserved g c =
       books = books_then done size c.args.meter.now c.loop-done.meter c.read_block.new.meter before.books booked;
       caused = IsCaused_later None done c.args.meter.now.source c.loop-done.meter.source c.read_block.new.meter.source before.books.fetches before.caused
           c.in_ok-read_block.ensures.reads.caused;
-      looks = rw blocks (omega (arith, before.looks, c.read_block.ensures.looks, mul-add (length ranges) ((done + 16383) / 16384) 1));
+      looks = rw blocks (omega (arith, before.looks, c.read_block.ensures.looks, mul-add (length ranges) ((done + 32767) / 32768) 1));
     }

@@ -8,11 +8,11 @@ use Rattle.mdmp_lister.proofs.addressing.read_blocks.Given as goal
 abbrev pub invariant-loop-done : goal.invariant-loop-done
 invariant-loop-done g l = record {
   within : l.done ≤ length l.initial.out;
-  whole : l.done < length l.initial.out → l.done % 16384 ≡ 0;
+  whole : l.done < length l.initial.out → l.done % 32768 ≡ 0;
   read : ReadsCells l.initial.meter.source.store.content l.map.ranges l.address (take l.done l.out) (take l.done l.known);
   books : BooksAside l.done l.done l.initial.meter l.meter;
   caused : IsCaused None l.initial.meter.source l.meter.source;
-  looks : l.steps ≤ l.initial.steps + length l.map.ranges * ((l.done + 16383) / 16384);
+  looks : l.steps ≤ l.initial.steps + length l.map.ranges * ((l.done + 32767) / 32768);
 }
 
 abbrev pub decreases-loop-done : goal.decreases-loop-done
