@@ -14,6 +14,7 @@ from tests import made  # noqa: E402
 FIRST = 0x10000000  # the first address of memory that a call asks for
 SPAN = 1 << 20  # how many addresses of it the files have ranges in
 THREADS, MODULES, MEMORY, EXCEPTION, REGIONS, NAMES = 3, 4, 5, 6, 16, 24
+RECORDS = (THREADS, MODULES, MEMORY, EXCEPTION, 7, 9, 14, REGIONS, NAMES)  # types of streams whose records are listed
 ENTRY = 12  # bytes of an entry of the directory
 
 
@@ -118,3 +119,11 @@ ATTACKS = [
     Attack("lists far apart in turn", _alternating),
     Attack("a name limit of 1 GiB", lambda size: made.many_modules(max(size // 180, 1)), name=1 << 30),
 ]
+
+
+def fetched(data: bytes, budget: int) -> int:
+    """About how many bytes a listing of a file fetches within a budget: 32 + 28s + n, without the names."""
+    count, directory = struct.unpack_from("<II", data, 8)
+    entries = struct.iter_unpack("<III", data[directory : directory + ENTRY * count])
+    listed = sum(size for kind, size, _ in entries if kind in RECORDS)
+    return min(32 + 28 * count + listed, budget)

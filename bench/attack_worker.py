@@ -235,7 +235,7 @@ def in_c(call: str, path: str, is_strangers: bool, name: int, address: int) -> t
         with Lent(file) as (place, size):
             calls = Calls(place, size, c_limits(is_strangers, name), address)
             status, given = calls.all()[call]()
-    return str(status), given, calls.own
+    return str(status), max(given, calls.own), calls.own
 
 
 def main() -> None:
