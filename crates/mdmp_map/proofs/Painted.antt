@@ -1,12 +1,12 @@
 -- Ranges that are painted onto the places of a block.
-use Rattle.std.proofs.Common.{◌≡◌, ◌≤◌, ◌<◌, ◌+◌, ◌∙◌, ◌∷◌, ◌++◌, [], ℕ, List, Option, None, Some, Bool, true, false, ap, arith, get_or, inl, inr, is_some, max, min, sym, refl}
-use Rattle.std.proofs.lemmas.Bool.{cases_Bool, cases_lt}
+use Rattle.std.proofs.Common.{◌≡◌, ◌≤◌, ◌<◌, ◌+◌, ◌-◌, ◌||◌, ◌∙◌, ◌∷◌, ◌++◌, [], ℕ, List, Option, None, Some, Bool, true, false, ap, arith, get_or, inl, inr, is_some, max, min, sym, refl, nat_le, nat_lt}
+use Rattle.std.proofs.lemmas.Bool.{cases_Bool, cases_lt, leb-true, ltb-true, or_cases}
 use Rattle.std.proofs.lemmas.Bool.Decides.{nat_tests}
 use Rattle.std.proofs.lemmas.List.{get_or_past}
 use Rattle.std.proofs.lemmas.List.FromFn.{get_or-map-range_with_len, length-map-range_with_len}
 use Rattle.mdmp_map.specs.declared.paint.PaintedRun.{PaintedRun}
 use Rattle.mdmp_map.specs.declared.range.Range.{Range}
-use Rattle.mdmp_map.specs.Painting.{HoldsFirst, IsPaintOf, IsPaintTo, IsPassed, IsRun, PaintState, Paints, is_held_at, is_marked, is_painted, marks}
+use Rattle.mdmp_map.specs.Painting.{HoldsFirst, IsAround, IsPaintOf, IsPaintTo, IsPassed, IsRun, PaintState, Paints, is_held_at, is_marked, is_painted, marks}
 use Rattle.mdmp_map.specs.RangeLaws.{first_range-behind, first_range-holds, first_range-more, first_range-passes, holds_parts}
 use Rattle.mdmp_map.specs.Ranges.{address_end, first_range, holds, range_end}
 
@@ -75,6 +75,20 @@ held_bounds s r from at low high top place below behind low_is top_is from_le wi
 pub bounds_held : (s : PaintState) (r : Range) (place top : ℕ) → r.start ≤ s.start + place → s.start + place < top → top ≡ min (range_end r) address_end
     → is_held_at s r place ≡ true
 bounds_held s r place top begun before is = grind (arith, nat_tests)
+
+-- none that begins behind all places, or ends before them
+pub missed : (s : PaintState) (r : Range) (first last gap : ℕ) → IsAround first last s.start s.count → gap ≡ first - r.start
+    → (nat_lt last r.start || nat_le r.length gap) ≡ true → (place : ℕ) → place < s.count → is_held_at s r place ≡ false
+missed s r first last gap around gap_is test place within = elim (cases_Bool (is_held_at s r place)) [
+  | inl held ↦
+      let parts = holds_parts (s.start + place) r held in
+      let below : s.start + place ≤ last = around.high (s.start + place) (omega arith) (omega (arith, within)) parts.0 in
+      elim (or_cases (nat_lt last r.start) (nat_le r.length gap) test) [
+        | inl behind ↦ absurd (omega (arith, below, parts.1, ltb-true last r.start behind))
+        | inr before ↦ absurd (omega (arith, parts.2, around.low, gap_is, leb-true r.length gap before))
+      ]
+  | inr none ↦ none
+]
 
 -- ---- ranges one after another
 

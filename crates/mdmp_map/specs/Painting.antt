@@ -3,7 +3,7 @@ use Rattle.std.specs.Prelude.{◌≡◌, ◌≤◌, ◌<◌, ◌+◌, ◌++◌, 
 use Rattle.std.specs.List.{range_with_len}
 use Rattle.mdmp_map.specs.declared.range.Range.{Range}
 use Rattle.mdmp_map.specs.declared.paint.PaintedRun.{PaintedRun}
-use Rattle.mdmp_map.specs.Ranges.{first_range, holds}
+use Rattle.mdmp_map.specs.Ranges.{address_end, first_range, holds}
 
 pub record PaintState : Type 0 where
   -- the address of the first place
@@ -56,6 +56,11 @@ pub record Paints (first end : ℕ) (old new : PaintState) : Type 0 where
   pub painted : (place : ℕ) → first ≤ place → place < end → is_painted new place ≡ true
   pub below : (place : ℕ) → place < first → is_painted new place ≡ is_painted old place
   pub behind : (place : ℕ) → end ≤ place → is_painted new place ≡ is_painted old place
+
+-- so many numbers from one on lie between these two, as far as they are addresses
+pub record IsAround (first last start count : ℕ) : Type 0 where
+  pub low : first ≤ start
+  pub high : (address : ℕ) → start ≤ address → address < start + count → address < address_end → address ≤ last
 
 -- ---- how places that are painted are passed
 

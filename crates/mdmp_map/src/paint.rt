@@ -1,7 +1,7 @@
 //! Ranges that are painted onto a block of addresses, one after another.
 ghost use Rattle.std.specs.Prelude.{◌≡◌, ◌≤◌, ◌<◌, ◌+◌, ◌++◌, ◌∷◌, ◌^◌, [], ℕ, IsTrue, List, MatchOption, Some, IfSome, false, length, replicate, slice_index, true};
 ghost use Rattle.mdmp_map.specs.declared.range.Range.{Range};
-ghost use Rattle.mdmp_map.specs.Painting.{HoldsFirst, IsPaintOf, IsPaintTo, IsPassed, IsRun, Paints, Skips, is_marked, is_painted};
+ghost use Rattle.mdmp_map.specs.Painting.{HoldsFirst, IsPaintOf, IsPaintTo, IsPassed, IsRun, Paints, Skips, is_held_at, is_marked, is_painted};
 ghost use Rattle.mdmp_map.specs.Ranges.{IsPlaced, address_end, first_range, range_end};
 
 use crate::found::ADDRESS_END;
@@ -33,6 +33,10 @@ pub struct Paint {
     start: u128,
     /// How many places there are.
     count: usize,
+    /// No place has an address below this one.
+    first: u64,
+    /// Nor one past this one.
+    last: u64,
     /// For each place one at or behind it before which all from it on are painted: itself, where it is
     /// not painted.
     next: [u16; 32769],
@@ -40,13 +44,13 @@ pub struct Paint {
 
 impl Model for Paint {
     ghost use Rattle.std.specs.Prelude.{◌≤◌};
-    ghost use Rattle.mdmp_map.specs.Painting.{PaintState, Skips, marks};
+    ghost use Rattle.mdmp_map.specs.Painting.{IsAround, PaintState, Skips, marks};
 
     ghost Value = { PaintState };
 
     ghost view = { λ p. record { start = p.start; count = p.count; painted = marks p.next p.count } };
 
-    ghost invariant = { λ p. (p.count ≤ 32768) × Skips p.next };
+    ghost invariant = { λ p. (p.count ≤ 32768) × IsAround p.first p.last p.start p.count × Skips p.next };
 }
 
 impl Paint {
@@ -58,9 +62,16 @@ impl Paint {
         ensures free { (place : ℕ) → is_painted result place ≡ false }
         ensures of_none { IsPaintOf [] result }
     {
+        let most = u128::from(u64::MAX);
         let mut next = [0; PLACES];
         number(&mut next);
-        Paint { start, count, next }
+        Paint {
+            start,
+            count,
+            first: start.min(most) as u64,
+            last: start.saturating_add(count as u128).min(most) as u64,
+            next,
+        }
     }
 
     /// Paints a range where it holds the first place from this one on that it holds and that is not
@@ -75,6 +86,32 @@ impl Paint {
 
         // Where ranges before it were painted, and itself up to this place: it is the first of them to
         // hold the addresses of the run, and in the end it is painted beside them.
+        ensures first { (seen : List Range) → IsPaintTo from seen range.now self.old → IfSome result (HoldsFirst self.old.start seen range.now) }
+        ensures goes_on { (seen : List Range) → IsPaintTo from seen range.now self.old
+            → MatchOption result (IsPaintOf (seen ++ range.now ∷ []) self.new) (λ run. IsPaintTo run.end seen range.now self.new) }
+    {
+        // Of many ranges nearly all lie elsewhere.
+        if self.misses(range) {
+            return None;
+        }
+        self.paint_near(range, from)
+    }
+
+    /// Whether the range begins behind the block, or ends before it: then it holds no place.
+    fn misses(&self, range: &Range) -> bool
+        ensures { IsTrue result → (place : ℕ) → place < self.now.count → is_held_at self.now range.now place ≡ false }
+    {
+        (range.start > self.last) | (self.first.saturating_sub(range.start) >= range.length)
+    }
+
+    /// Paints a range, as `paint` says.
+    fn paint_near(&mut self, range: &Range, from: usize) -> Option<PaintedRun>
+        requires placed { IsPlaced range.now }
+        requires from { from ≤ self.old.count }
+        ensures run { MatchOption result (IsPassed self.old range.now from self.old.count) (IsRun self.old range.now from) }
+        ensures painted { MatchOption result (self.new.painted ≡ self.old.painted) (λ run. Paints run.first run.end self.old self.new) }
+        ensures start { self.new.start ≡ self.old.start }
+        ensures count { self.new.count ≡ self.old.count }
         ensures first { (seen : List Range) → IsPaintTo from seen range.now self.old → IfSome result (HoldsFirst self.old.start seen range.now) }
         ensures goes_on { (seen : List Range) → IsPaintTo from seen range.now self.old
             → MatchOption result (IsPaintOf (seen ++ range.now ∷ []) self.new) (λ run. IsPaintTo run.end seen range.now self.new) }
