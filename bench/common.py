@@ -25,6 +25,13 @@ def program():
     return path
 
 
+def built_reference(folder):
+    """The program of bench/reference.c, built into a folder."""
+    path = os.path.join(folder, "reference")
+    subprocess.run([os.environ.get("CC", "cc"), "-O3", "-o", path, os.path.join(ROOT, "bench/reference.c")], check=True)
+    return path
+
+
 def header(stream_type, size):
     """The header of a dump with one stream of so many bytes, which stands behind it, and its directory."""
     return struct.pack("<4sIIIIIQ", b"MDMP", 0xA793, 1, 32, 0, 0, 0) + struct.pack("<III", stream_type, size, 44)
