@@ -56,3 +56,26 @@ fn addresses_end(rt: HostRuntime) {
     assert_same(&rt, paint.paint(&last, 4), None);
     assert!(rt; !paint.is_full());
 }
+
+/// Ranges that end where the block begins or before it, or begin where it ends or behind it: starts and lengths.
+const ELSEWHERE: [(u64, u64); 6] = [
+    (0xff0, 0x10),
+    (0xfef, 0x10),
+    (0, 1),
+    (0x1010, 1),
+    (0x1011, 1),
+    (u64::MAX, 8),
+];
+
+#[test]
+fn ranges_elsewhere_paint_nothing(rt: HostRuntime) {
+    let mut paint = Paint::over(0x1000, 16);
+    for &(start, length) in &ELSEWHERE {
+        let range = Range {
+            start,
+            length,
+            offset: 0,
+        };
+        assert_same(&rt, paint.paint(&range, 0), None);
+    }
+}
