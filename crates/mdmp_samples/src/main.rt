@@ -1,7 +1,6 @@
 //! Prints what the commands make of the real dumps of the folder data: their lists, whether their
-//! entries are good, the symbol files of their modules, their lines as objects of JSON, which for two
-//! dumps that were made are compared too, and copies of some
-//! of their streams; that small windows and the greatest list the same, and that each entry that is gone
+//! entries are good, the symbol files of their modules, the digests of their lines as objects of JSON, and
+//! copies of some of their streams; that small windows and the greatest list the same, and that each entry that is gone
 //! to gives what is listed of it; and how many items each has, how its value compares with its list, how
 //! that is written anew, and that views of its file are written as it; and what some command lines write
 //! to each of their outputs.
@@ -11,14 +10,11 @@ mod checks;
 mod commands;
 mod copies;
 mod digest;
-mod items;
 mod lists;
-mod members;
 mod objects;
 mod opening;
 mod outputs;
 mod symbols;
-mod told;
 mod value;
 mod walks;
 mod windows;
@@ -27,7 +23,7 @@ mod written;
 use crate::checks::tell_check;
 use crate::copies::{CHOSEN, tell_copy};
 use crate::lists::{list, tell_items};
-use crate::objects::{MADE, tell_made, tell_objects};
+use crate::objects::tell_objects;
 use crate::outputs::tell_outputs;
 use crate::symbols::tell_symbols;
 use crate::value::tell_totals;
@@ -97,9 +93,6 @@ fn tell_all(rt: &HostRuntime) -> Option<()> {
         for dump in &DUMPS {
             tell(rt, *aspect, dump)?;
         }
-    }
-    for made in &MADE {
-        tell_made(rt, *made)?;
     }
     for chosen in &CHOSEN {
         tell_copy(rt, chosen)?;

@@ -23,13 +23,6 @@ pub fn lister_of(rt: &HostRuntime, dump: &str) -> Option<DumpLister> {
     Lister::open(rt.alloc(), source, Limits::default(), Choice::All).ok()
 }
 
-/// The same, where names of at most so many bytes are read.
-pub fn limited_lister(rt: &HostRuntime, dump: &str, name: u32) -> Option<DumpLister> {
-    let source = source_of(rt, dump)?;
-    let limits = Limits::new(Limits::default().window, name)?;
-    Lister::open(rt.alloc(), source, limits, Choice::All).ok()
-}
-
 /// A walker over all entries of a dump.
 pub fn walker_of(rt: &HostRuntime, dump: &str) -> Option<DumpWalker> {
     let source = source_of(rt, dump)?;
