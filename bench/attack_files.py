@@ -14,7 +14,8 @@ from tests import made  # noqa: E402
 FIRST = 0x10000000  # the first address of memory that a call asks for
 SPAN = 1 << 20  # how many addresses of it the files have ranges in
 THREADS, MODULES, MEMORY, EXCEPTION, REGIONS, NAMES = 3, 4, 5, 6, 16, 24
-RECORDS = (THREADS, MODULES, MEMORY, EXCEPTION, 7, 9, 14, REGIONS, NAMES)  # types of streams whose records are listed
+RANGES = (MEMORY, 9)  # types of streams whose records are ranges of memory
+RECORDS = (*RANGES, THREADS, MODULES, EXCEPTION, 7, 14, REGIONS, NAMES)  # types of streams whose records are listed
 ENTRY = 12  # bytes of an entry of the directory
 
 
@@ -121,9 +122,13 @@ ATTACKS = [
 ]
 
 
-def fetched(data: bytes, budget: int) -> int:
-    """About how many bytes a listing of a file fetches within a budget: 32 + 28s + n, without the names."""
+def fetched(data: bytes, most: int) -> tuple[int, int]:
+    """About how many bytes are fetched for the directory of a file, and for a listing within a budget and a limit of memory of
+    so many bytes: 32 + 12s, and 32 + 28s + n without the names, or without n where the map of ranges passes the limit."""
     count, directory = struct.unpack_from("<II", data, 8)
-    entries = struct.iter_unpack("<III", data[directory : directory + ENTRY * count])
+    entries = list(struct.iter_unpack("<III", data[directory : directory + ENTRY * count]))
     listed = sum(size for kind, size, _ in entries if kind in RECORDS)
-    return min(32 + 28 * count + listed, budget)
+    ranges = sum(size // 16 for kind, size, _ in entries if kind in RANGES)
+    if 24 * ranges > most:
+        listed = 0
+    return 32 + ENTRY * count, min(32 + 28 * count + listed, most)
