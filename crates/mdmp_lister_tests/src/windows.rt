@@ -112,7 +112,7 @@ fn fill_that_fails_leaves_the_records_that_are_held(rt: HostRuntime) {
 }
 
 /// Asserts what a window of so many bytes gives of two modules that stand 1000 bytes apart, in a store that gives
-/// as many bytes a call as the caps say, in turn.
+/// as many bytes a call as the caps say, in turn. A name may have as many bytes as the window.
 fn assert_apart(rt: &impl Abort, alloc: Global, window: u32, caps: &[usize; 2]) {
     let script = [
         gives(stream(0, 14, 2012, 44)),
@@ -121,13 +121,13 @@ fn assert_apart(rt: &impl Abort, alloc: Global, window: u32, caps: &[usize; 2]) 
         ends(),
     ];
     let file = file_of(rt, alloc, 1, &apart_1000());
-    let limits = limits_of(rt, window, 0);
+    let limits = limits_of(rt, window, window);
     assert_plays_patchy(rt, alloc, limits, &file, caps, None, &script);
 }
 
 #[test]
 fn any_window_and_any_store_give_the_same_items(rt: HostRuntime) {
-    for window in [168, 169, 255, 1012, 65536] {
+    for window in [168, 169, 255, 1012, 65536, 1 << 20] {
         assert_apart(&rt, rt.alloc(), window, &[4096, 4096]);
         assert_apart(&rt, rt.alloc(), window, &[1, 1]);
         assert_apart(&rt, rt.alloc(), window, &[1, 3]);

@@ -291,6 +291,11 @@ fn assert_takes_once(rt: &impl Abort, alloc: Global) {
 }
 
 #[test]
+fn window_of_one_mebibyte_is_filled(rt: HostRuntime) {
+    assert_slides(&rt, rt.alloc(), 1 << 20, &FILLED, 1, 6);
+}
+
+#[test]
 fn window_takes_memory_once(rt: HostRuntime) {
     assert_takes_once(&rt, rt.alloc());
 }
