@@ -13,7 +13,8 @@ use std::marker::Model;
 /// the block has [`LINE_ROOM`] bytes of room or more; it is flushed where less is left of it, so that a
 /// block should have many times that.
 ///
-/// What it took is what the inner output took and what is pending. It refuses where the inner
+/// What fits into the block goes into it, and the inner output is not asked then. What it took is what the
+/// inner output took and what is pending. It refuses where the inner
 /// output refuses a block: nothing is lost then, and what is pending stays pending. `flush` before
 /// it goes out of scope, since what is pending then goes nowhere.
 #[derive(Drop)]
@@ -144,9 +145,22 @@ impl<O: Out, A: Allocator> BlockOut<O, A> {
 }
 
 impl<O: Out, A: Allocator> Out for BlockOut<O, A> {
+    ghost use Rattle.std.specs.Prelude.{◌≡◌, ◌≤◌, ◌||◌, IfOk, OnErr, is_err, length, take};
+    ghost use Rattle.mdmp_source.specs.Blocks.{FillsBlock, FillsByLine, output_state};
+    ghost use Rattle.mdmp_source.specs.Output.{Keeps, Puts, Takes, refused_if, text_if_taken};
+    ghost use Rattle.mdmp_source.specs.Store.{is_empty_answer};
+
     ghost state = { output_state };
 
-    fn write(&mut self, bytes: &[u8]) -> Result<usize, OutFailed> {
+    fn write(&mut self, bytes: &[u8]) -> Result<usize, OutFailed>
+        ensures bound { IfOk result (λ k. k ≤ length bytes.now) }
+        ensures took { IfOk result (λ k. Takes (output_state self.old).taken (take k bytes.now) (output_state self.new).taken) }
+        ensures none { OnErr result (Keeps (output_state self.old).taken (output_state self.new).taken) }
+        ensures failures { (output_state self.new).failures
+            ≡ refused_if (is_err result || is_empty_answer result (length bytes.now)) (output_state self.old).failures }
+        // What this output says beside any other.
+        ensures fills { FillsBlock self.old bytes.now result self.new }
+    {
         if self.left() == 0 {
             self.flush()?;
         }
@@ -155,7 +169,11 @@ impl<O: Out, A: Allocator> Out for BlockOut<O, A> {
         Ok(count)
     }
 
-    fn take_line<L: Line>(&mut self, line: &L) -> Result<bool, OutFailed> {
+    fn take_line<L: Line>(&mut self, line: &L) -> Result<bool, OutFailed>
+        ensures puts { Puts result (output_state self.old) (text_if_taken result (L.text line.now)) (output_state self.new) }
+        // What this output says beside any other.
+        ensures fills { FillsByLine self.old (L.text line.now) result self.new }
+    {
         if self.left() < LINE_ROOM && !self.make_room()? {
             return Ok(false);
         }
