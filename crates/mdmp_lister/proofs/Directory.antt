@@ -168,8 +168,8 @@ module _ {at count number here : ℕ} {old mid : MeterState} {w : WindowState} (
       )
 
 -- none was made over a directory that was not begun
-pub filling_none : (at count room : ℕ) (m : MeterState) → IsFilling at count 0 (record { place = at; end = at + 12 * count; room = room; held = [] }) m m
-filling_none at count room m = record { fills = 0; behind = omega arith; counted = omega arith; reaches = omega arith }
+pub filling_none : (at count room touched : ℕ) (m : MeterState) → IsFilling at count 0 (record { place = at; end = at + 12 * count; room = room; touched = touched; held = [] }) m m
+filling_none at count room touched m = record { fills = 0; behind = omega arith; counted = omega arith; reaches = omega arith }
 
 -- all of it was fetched, if all entries were passed
 pub filling_whole : (at count : ℕ) (w : WindowState) (old new : MeterState) → IsFilling at count count w old new → new.fetched ≡ raised old.fetched (12 * count)
@@ -183,24 +183,24 @@ each-more f [] x each is (suc i) d lt = absurd (omega (arith, lt))
 each-more f (y ∷ ys) x each is zero d lt = each 0 d (omega arith)
 each-more f (y ∷ ys) x each is (suc i) d lt = each-more (λ k. f (suc k)) ys x (λ k e below. each (suc k) e (omega (arith, below))) is i d (omega (arith, lt))
 
-held_none : (content : Option (List ℕ)) (at end room : ℕ) → IsHeldOf content (record { place = at; end = end; room = room; held = [] })
-held_none None at end room = tt
-held_none (Some file) at end room = refl
+held_none : (content : Option (List ℕ)) (at end room touched : ℕ) → IsHeldOf content (record { place = at; end = end; room = room; touched = touched; held = [] })
+held_none None at end room touched = tt
+held_none (Some file) at end room touched = refl
 
 -- none was passed
-pub passes_begun : (at count room : ℕ) (m : MeterState) → Passes at count 0 m (record { place = at; end = at + 12 * count; room = room; held = [] }) m
-passes_begun at count room m =
+pub passes_begun : (at count room touched : ℕ) (m : MeterState) → Passes at count 0 m (record { place = at; end = at + 12 * count; room = room; touched = touched; held = [] }) m
+passes_begun at count room touched m =
     let left : at + 12 * count - (at + 0) ≡ 12 * count = omega arith in
     let step : room + 1 - 12 ≡ room - 11 = omega arith in
     record {
       place = omega arith;
       end = refl;
-      held = held_none m.source.store.content at (at + 12 * count) room;
+      held = held_none m.source.store.content at (at + 12 * count) room touched;
       taken = 0;
       called = 0;
       books = Books_none 0 0 m;
       bytes = omega arith;
       calls = rw (left, step) (omega arith);
       caused = IsCaused_none m.source;
-      filling = filling_none at count room m;
+      filling = filling_none at count room touched m;
     }

@@ -20,6 +20,7 @@ pub FetchesAtMost-none : (a : SourceState) → FetchesAtMost 0 a a
 FetchesAtMost-none a = record {
   same_content = refl;
   same_reliable = refl;
+  same_least = refl;
   same_size = refl;
   same_store_size = refl;
   failures = omega arith;
@@ -34,6 +35,7 @@ pub FetchesAtMost-within : (m n : ℕ) (a b : SourceState) → m ≤ n → Fetch
 FetchesAtMost-within m n a b le f = record {
   same_content = f.same_content;
   same_reliable = f.same_reliable;
+  same_least = f.same_least;
   same_size = f.same_size;
   same_store_size = f.same_store_size;
   failures = f.failures;

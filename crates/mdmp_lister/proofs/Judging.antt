@@ -35,7 +35,7 @@ use Rattle.mdmp_lister.specs.Walk.Checking.{EntryJudged, FaultRead, ItemsRead, M
 use Rattle.mdmp_lister.specs.Walk.Mapping.{IsMapped}
 use Rattle.mdmp_lister.specs.Walk.Owing.{HasRoom}
 use Rattle.mdmp_lister.specs.Walk.Paying.{unread_bytes}
-use Rattle.mdmp_lister.specs.Walk.Requests.{Answered, HeadRead, StepTaken}
+use Rattle.mdmp_lister.specs.Walk.Requests.{Answered, HeadRead, StepTaken, standpoint_of}
 use Rattle.mdmp_lister.proofs.Classes.{step-told}
 use Rattle.mdmp_lister.proofs.Cursors.{follows_read, may_none, may_then}
 use Rattle.mdmp_lister.proofs.Fetches.{FetchesAtMost-within, told_in_later}
@@ -45,6 +45,7 @@ use Rattle.mdmp_lister.proofs.Paying.{bounded_then}
 use Rattle.mdmp_lister.proofs.Requests.{Moves-none, stage-through}
 use Rattle.mdmp_lister.proofs.Soundness.{IsGood-after}
 use Rattle.mdmp_lister.proofs.Costs.{item_cost-step}
+use Rattle.mdmp_lister.proofs.Standpoints.{some_fetch}
 use Rattle.mdmp_lister.proofs.Summary.{begins_as}
 use Rattle.mdmp_lister.proofs.Spending.{HasCost-none, HasCost-one, HasCost-then}
 
@@ -388,6 +389,7 @@ module _ {S A : Type 0} (items : List Item) (a b : Walk S A) (m n : MapState) (r
             stage = e.stage;
             told = rw here.current (told_in_later b.current f _ a.meter.source b.meter.source c.meter.source k told.told);
             number = told.number ∙ sym here.next;
+            next = some_fetch (standpoint_of b) (standpoint_of c) f.kind f.offset f.size _ e.fetches.same_content e.fetches.same_size e.same.window e.same.name here.current told.next;
             unreliable = λ file good. e.good file (IsGood-after _ a.meter.source b.meter.source file k good);
           };
           rests = omega (arith, read.rests, e.rests);

@@ -50,6 +50,7 @@ pub mod SomeNames
 pub mod Sliding
 pub mod Soundness
 pub mod Spending
+pub mod Standpoints
 pub mod Stretches
 pub mod Summary
 pub mod Unchanged

@@ -29,11 +29,12 @@ use Rattle.mdmp_lister.specs.Following as following
 use Rattle.mdmp_lister.specs.Format.Listing.{Numbered, Run, entry_body, chosen, chosen_from, entries_from, entry_count, entry_listing, listing_from, nothing, only_chosen, only_fault, stream_item, verdicts}
 use Rattle.mdmp_lister.specs.Format.Numbers.{maybe_name, names_of}
 use Rattle.mdmp_lister.specs.Format.Ranges.{ranges_of}
-use Rattle.mdmp_lister.specs.Lister.{ListerState}
+use Rattle.mdmp_lister.specs.Lister.{ListerState, standpoint_in}
+use Rattle.mdmp_lister.specs.NextFetch.{Standpoint, TellsSomeFetch}
 use Rattle.mdmp_lister.specs.Costs.{bad_name_cost, item_cost, items_cost, stream_begun}
 use Rattle.mdmp_lister.specs.Format.Summary.{summary_of}
 use Rattle.mdmp_lister.specs.Meter.{MeterState, Moves, counts_of, IsUnmade}
-use Rattle.mdmp_lister.specs.Sink.{Taken, TakenToStop, names_of_all}
+use Rattle.mdmp_lister.specs.Sink.{Taken, TakenToStop, TellsRunFetch, names_of_all}
 use Rattle.mdmp_lister.specs.Stage.{standing_of, stop_after_run, stop_of}
 use Rattle.mdmp_lister.specs.Walk.{IsSound, IsStaged, left_of, SameRoom, current_of, cursor_of, left_of_entry, work_of}
 use Rattle.mdmp_lister.specs.Walk.Checking.{EntriesChecked, EntryBegun, EntryJudged, FailedIn, IsStageChecked, JudgesFirst, NoneLeft, judged_cost, verdict_on}
@@ -41,7 +42,7 @@ use Rattle.mdmp_lister.specs.Walk.Mapping.{IsMapped}
 use Rattle.mdmp_lister.specs.Walk.Owing.{HasRoom, count_told}
 use Rattle.mdmp_lister.specs.Walk.Paying.{owed_of, unread_bytes}
 use Rattle.mdmp_lister.specs.Listed.{entry_cost}
-use Rattle.mdmp_lister.specs.Walk.Requests.{EntrySkipped, StepTaken}
+use Rattle.mdmp_lister.specs.Walk.Requests.{EntrySkipped, StepTaken, standpoint_of}
 use Rattle.mdmp_lister.proofs.Costs.{stopped-unread}
 use Rattle.mdmp_lister.proofs.Ending.{left_of-ended, left_of-fault}
 use Rattle.mdmp_lister.proofs.Fetches.{FetchesAtMost-none, FetchesAtMost-within, told_in_later}
@@ -322,6 +323,7 @@ module _ {S A : Type 0} (verdicts : List Verdict) (items : List Item) (old w ns 
               stage = failed.stage;
               told = told_in_later j.current f _ old.meter.source w.meter.source j.meter.source fetches (rw begun.meter at failed.told);
               number = failed.number;
+              next = failed.next;
               unreliable = λ file good. (rw begun.meter at failed.unreliable) file (IsGood-after _ old.meter.source w.meter.source file fetches good);
             });
         rests = omega (arith, so_far.rests, taken.answered.rests, judged.rests);
@@ -458,6 +460,15 @@ module _ {S A K : Type 0} (sink : K → Verdict → Result (Unit {0}) Stopped �
       → IfErr result (λ r. (f : ListFault) → r ≡ run.At f → IsOfStore f.kind → ⊥)
   good_checked (Ok done) checked file good = tt
   good_checked (Err r) checked file good = λ f is. (checked.failed f is).unreliable file good
+
+  pub next_checked : (result : Result (Unit {0}) RunFault) (v : ListerState) → EntriesChecked sink old m k result new n l → standpoint_in v ≡ standpoint_of new → v.counts.fetched ≡ new.meter.fetched
+      → TellsRunFetch result v
+  next_checked (Ok done) v checked stands fetched = tt
+  next_checked (Err run.Stopped) v checked stands fetched = tt
+  next_checked (Err (run.At f)) v checked stands fetched =
+      let failed = checked.failed f refl in
+      subst (λ (s : Standpoint). TellsSomeFetch s f.kind f.offset f.size v.counts.fetched) (sym stands)
+      (subst (λ n. TellsSomeFetch (standpoint_of new) f.kind f.offset f.size n) (sym fetched) failed.next)
 
 -- by the stage behind it
 module _ {S A : Type 0} (w : Walk S A) where

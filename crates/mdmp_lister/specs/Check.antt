@@ -18,7 +18,7 @@ use Rattle.mdmp_lister.specs.Format.Numbers.{faulty_name, maybe_name}
 use Rattle.mdmp_lister.specs.Format.Ranges.{ranges_of}
 use Rattle.mdmp_lister.specs.Lister.{IsSameLister, ListerState, listing_behind}
 use Rattle.mdmp_lister.specs.Meter.{Moves}
-use Rattle.mdmp_lister.specs.Sink.{ComeNext, Handed, names_of_all}
+use Rattle.mdmp_lister.specs.Sink.{ComeNext, Handed, TellsRunFetch, names_of_all}
 use Rattle.mdmp_lister.specs.Stage.{stop_after_run}
 
 -- the items of some entries, of each those before its fault
@@ -177,3 +177,5 @@ pub record CheckLeaves {K : Type 0} (step : K → Verdict → Result (Unit {0}) 
   pub ends : EndsBehind old.choice old.entries old.source.size old.limit (behind_judged judged old.passed) result
   -- behind a sink that wanted no more nothing is left of the entry that was judged last
   pub standing : result ≡ Err run.Stopped → new.standing ≡ through
+  -- a fault that tells the budget is of a fetch that came next in the entry in which the check ended
+  pub next : TellsRunFetch result new

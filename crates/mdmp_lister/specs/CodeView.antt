@@ -28,10 +28,14 @@ pub record AreFetched (at : Location) (room : ℕ) (head : List ℕ) (rest size 
   pub zeros : drop (min at.size 24) head ≡ replicate (24 - at.size) 0
   pub rest_is : rest ≡ fetched_behind (take (min at.size 24) head) at.size room
 
+-- the first bytes of a record are fetched by one call, and those behind them, where there are any, by a second one
+abbrev pub codeview_fetches : ℕ → ℕ
+codeview_fetches rest = 1 + min 1 rest
+
 -- those bytes were fetched, whatever they are, and nothing else
 pub record FetchesCodeView (at : Location) (room : ℕ) (read : CodeViewRead) (old new : MeterState) : Type 0 where
   pub fetched : AreFetched at room read.head read.rest read.size
-  pub books : BooksAside 2 (min at.size 24 + read.rest) old new
+  pub books : BooksAside (codeview_fetches read.rest) (min at.size 24 + read.rest) old new
 
 -- the bytes of a record of so many that are fetched at most: its first 24, and behind them as many as there is room for
 abbrev pub codeview_most : Location → ℕ → ℕ
@@ -41,6 +45,11 @@ codeview_most at room = min at.size (24 + room)
 abbrev pub codeview_cost : Location → ℕ → Result CodeViewBytes SourceFault → ℕ
 codeview_cost at room (Ok bytes) = min at.size 24 + length bytes.rest.now
 codeview_cost at room (Err fault) = codeview_most at room
+
+-- and by how many calls; if the store fails, by at most two
+abbrev pub codeview_calls : Result CodeViewBytes SourceFault → ℕ
+codeview_calls (Ok bytes) = codeview_fetches (length bytes.rest.now)
+codeview_calls (Err fault) = 2
 
 -- the record at a location was read, its end into a buffer of so many bytes
 pub record ReadsCodeView (at : Location) (room : ℕ) (buffer : List ℕ) (result : Result CodeViewRead SourceFault) (old new : MeterState) : Type 0 where

@@ -27,7 +27,7 @@ pub record ComesTo (at : ℕ) (content : Option (List ℕ)) (old new : WindowSta
 
 -- a window that was started over a stream
 abbrev pub started : Location → WindowState → WindowState
-started at w = record { place = at.rva; end = at.rva + at.size; room = w.room; held = [] }
+started at w = record w { place = at.rva; end = at.rva + at.size; held = [] }
 
 -- a window that was moved to `at`: behind the bytes held it holds nothing
 abbrev pub reached : ℕ → WindowState → WindowState

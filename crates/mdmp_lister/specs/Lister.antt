@@ -246,6 +246,23 @@ pub record IsSameLister (old new : ListerState) : Type 0 where
   pub start : new.counts.start ≡ old.counts.start
   pub budget : new.counts.budget ≡ old.counts.budget
 
+-- a call that drops what is left of an entry: what comes next are the chosen entries behind it, and no fault stands
+pub record SkipsEntry (old new : ListerState) : Type 0 where
+  pub left : new.left ≡ listing_behind old old.passed
+  pub stop : new.stop ≡ None
+  pub unread : new.unread ≡ 0
+  pub standing : new.standing ≡ through
+
+-- and it gives nothing: what was read, counted and given so far stays, and no more is left to do than was
+pub record KeepsGiven (old new : ListerState) : Type 0 where
+  pub same : IsSameLister old new
+  pub source : new.source ≡ old.source
+  pub counts : new.counts ≡ old.counts
+  pub passed : new.passed ≡ old.passed
+  pub current : new.current ≡ old.current
+  pub ranges : new.ranges ≡ old.ranges
+  pub rests : new.work ≤ old.work
+
 -- what a request for the next item fetches and counts
 pub record NextSpends (old : ListerState) (result : Result (Option Item) ListFault) (new : ListerState) : Type 0 where
   -- what came off the unread bytes of the current entry's stream, and the name of the item

@@ -180,3 +180,9 @@ pub data IsNextFetch (s : Standpoint) (fetched offset size : ℕ) : Type 0 where
 abbrev pub TellsNextFetch : Standpoint → FaultKind → (offset size fetched : ℕ) → Type 0
 TellsNextFetch s kind.Budget offset size fetched = IsNextFetch s fetched offset size
 TellsNextFetch s kind offset size fetched = Unit {0}
+
+-- or, of a listing that came further in its current entry, of a fetch that came next there: it was given so far then, so many bytes
+-- of its stream were unread, and so many had been fetched
+abbrev pub TellsSomeFetch : Standpoint → FaultKind → (offset size fetched : ℕ) → Type 0
+TellsSomeFetch s kind offset size fetched = (standing : Standing) × (unread : ℕ) × (before : ℕ)
+    × TellsNextFetch (record s { standing = standing; unread = unread; fetched = before }) kind offset size fetched

@@ -1,5 +1,5 @@
 -- What a run hands to a sink.
-use Rattle.std.specs.Prelude.{◌≡◌, ◌≤◌, ◌+◌, ◌-◌, ◌⊎◌, sum_by, ℕ, List, [], ◌∷◌, ◌++◌, None, Some, Result, Ok, Err}
+use Rattle.std.specs.Prelude.{◌≡◌, ◌≤◌, ◌<◌, ◌+◌, ◌-◌, ◌⊎◌, sum_by, ℕ, List, [], ◌∷◌, ◌++◌, None, Some, Result, Ok, Err}
 use Rattle.mdmp_source.specs.Source.{FetchesAtMost}
 use Rattle.mdmp_wire.specs.declared.entry.Entry.{Entry}
 use Rattle.mdmp_lister.specs.declared.choice.Choice.{Choice}
@@ -12,11 +12,12 @@ use Rattle.mdmp_lister.specs.declared.sink.Stopped.{Stopped}
 use Rattle.mdmp_lister.specs.Format.Classes.{IsClassed}
 use Rattle.mdmp_lister.specs.Costs.{end_cost, items_cost}
 use Rattle.mdmp_lister.specs.Format.Numbers.{faulty_name, maybe_name, names_of}
-use Rattle.mdmp_lister.specs.Lister.{ListerState, current_after, cursor_in, passed_after}
+use Rattle.mdmp_lister.specs.Lister.{ListerState, current_after, cursor_in, passed_after, standpoint_in}
 use Rattle.mdmp_lister.specs.Format.Listing.{Run, nothing, only_fault}
 use Rattle.mdmp_lister.specs.Format.Ranges.{ranges_of}
 use Rattle.mdmp_lister.specs.Fault.{IsUnobtained}
 use Rattle.mdmp_lister.specs.Following.{Cursor, Follows}
+use Rattle.mdmp_lister.specs.NextFetch.{TellsSomeFetch}
 use Rattle.mdmp_lister.specs.Step.{TellsItem}
 
 -- these items, and then a run
@@ -106,6 +107,11 @@ module _ {K X : Type 0} (step : K → X → Result (Unit {0}) Stopped → K → 
   Handed k xs (Err (run.At f)) new = Taken k xs new
   Handed k xs (Err run.Stopped) new = TakenToStop k xs new
 
+-- a run that ends by its budget tells a fetch that came next in the entry that is the current one then
+abbrev pub TellsRunFetch : Result (Unit {0}) RunFault → ListerState → Type 0
+TellsRunFetch (Err (run.At f)) new = TellsSomeFetch (standpoint_in new) f.kind f.offset f.size new.counts.fetched
+TellsRunFetch result new = Unit {0}
+
 -- what a run leaves: a sink was handed some items, and the lister has given them
 pub record RunLeaves {K : Type 0} (step : K → Item → Result (Unit {0}) Stopped → K → Type 0) (old : ListerState) (k : K) (result : Result (Unit {0}) RunFault) (new : ListerState) (l : K) : Type 0 where
   pub items : List Item
@@ -121,6 +127,12 @@ pub record RunLeaves {K : Type 0} (step : K → Item → Result (Unit {0}) Stopp
   pub fetches : FetchesAtMost (old.unread + items_cost old.source.size items + end_cost old.limit result - new.unread) old.source new.source
   pub unread : new.unread ≤ old.unread + items_cost old.source.size items
   pub follows : old.stop ≡ None → RunFollows old.choice old.entries old.source.size old.limit (cursor_in old) items result (cursor_in new)
+  pub next : old.stop ≡ None → TellsRunFetch result new
+
+-- a run leaves no more to do than was, and less where it gave an item and the sink then stopped
+pub record WorkFalls (result : Result (Unit {0}) RunFault) (old new : ListerState) : Type 0 where
+  pub rests : new.work ≤ old.work
+  pub falls : result ≡ Err run.Stopped → new.work < old.work
 
 -- ---- a run for the ranges alone
 
@@ -128,8 +140,10 @@ abbrev pub run_answer : Result (Unit {0}) ListFault → Result (Unit {0}) RunFau
 run_answer (Ok done) = Ok done
 run_answer (Err f) = Err (run.At f)
 
--- some items may be given, whatever the file holds, and then the run end so; their ranges inside the file were kept
+-- some items may be given, whatever the file holds, and then the run end so; their ranges inside the file were kept, and a
+-- fault that tells the budget is of the fetch that came next
 pub record RangesFollow (old : ListerState) (result : Result (Unit {0}) ListFault) (new : ListerState) : Type 0 where
   pub items : List Item
   pub ranges : new.ranges ≡ old.ranges ++ ranges_of items
   pub follows : RunFollows old.choice old.entries old.source.size old.limit (cursor_in old) items (run_answer result) (cursor_in new)
+  pub next : TellsRunFetch (run_answer result) new

@@ -2,7 +2,7 @@
 ghost use Rattle.std.specs.Prelude.{◌≡◌, ◌≤◌, ◌+◌, IfOk, length, min, take};
 ghost use Rattle.mdmp_source.specs.Range.{IsInside};
 ghost use Rattle.mdmp_wire.specs.CodeView.{codeview_in, codeview_of};
-ghost use Rattle.mdmp_lister.specs.CodeView.{ReadsCodeView, codeview_most, fetched_behind};
+ghost use Rattle.mdmp_lister.specs.CodeView.{ReadsCodeView, codeview_fetches, codeview_most, fetched_behind};
 ghost use Rattle.mdmp_lister.specs.Fetching.{ReadsBeside};
 ghost use Rattle.mdmp_lister.specs.Meter.{BooksAside};
 
@@ -52,7 +52,7 @@ pub(crate) struct CodeViewRead {
 
 /// Fetches the first 24 bytes of a CodeView record into `head`, or all where it has fewer, and of a
 /// record of the kind RSDS as many of the bytes behind them into the front of `rest` as it has and
-/// `rest` holds. The answer is how many bytes of `rest` were fetched.
+/// `rest` holds; nothing more is fetched if those are none. The answer is how many bytes of `rest` were fetched.
 #[tactic(auto, unfolding(mdmp_wire::specs::Number::array_at))]
 fn fetch_codeview<S: Store, A: Allocator>(
     meter: &mut Meter<S>,
@@ -65,7 +65,7 @@ fn fetch_codeview<S: Store, A: Allocator>(
     ensures limit { rest.new.limit ≡ rest.old.limit }
     ensures holds { IfOk result (λ count. count ≤ length rest.new.items) }
     ensures room { IfOk result (λ count. count ≡ fetched_behind head.new location.size rest.new.limit) }
-    ensures books { IfOk result (λ count. BooksAside 2 (min location.size 24 + count) meter.old meter.new) }
+    ensures books { IfOk result (λ count. BooksAside (codeview_fetches count) (min location.size 24 + count) meter.old meter.new) }
     ensures reads { ReadsBeside 2 (codeview_most location rest.new.limit) (λ file count. codeview_in head.new (take count rest.new.items) location.size ≡ codeview_of file location rest.new.limit) result meter.old meter.new }
 {
     let at = u64::from(location.rva);
@@ -78,6 +78,9 @@ fn fetch_codeview<S: Store, A: Allocator>(
         return Ok(0);
     }
     let count = (location.size as usize - 24).min(rest.limit());
+    if count == 0 {
+        return Ok(0);
+    }
     rest.fetch_aside(meter, at + 24, count)?;
     Ok(count)
 }

@@ -5,7 +5,7 @@ ghost use Rattle.std.specs.Io.BufRead.{Rests};
 ghost use Rattle.mdmp_source.specs.Range.{IsInside, bytes_at};
 ghost use Rattle.mdmp_source.specs.Store.{IsGood, IsSizeOf};
 ghost use Rattle.mdmp_wire.specs.CodeView.{codeview_of};
-ghost use Rattle.mdmp_lister.specs.CodeView.{AreFetched, codeview_cost, codeview_told};
+ghost use Rattle.mdmp_lister.specs.CodeView.{AreFetched, codeview_calls, codeview_cost, codeview_told};
 ghost use Rattle.mdmp_lister.specs.NextFetch.{TellsNextOpening};
 ghost use Rattle.mdmp_lister.specs.Opening.{IsHandedBack, IsOpenRefusal, IsRefusalOf, IsUnread, IsUnreadFor, KeepsToBudget};
 ghost use Rattle.mdmp_lister.specs.Format.Refusal.{opening_fault};
@@ -14,7 +14,6 @@ ghost use Rattle.mdmp_source.specs.Source.{FetchesAtMost, FetchesSome};
 ghost use Rattle.mdmp_lister.specs.Addressing.{FetchesAside, LooksUpAtMost, ReadsCells, stretches_at};
 ghost use Rattle.mdmp_lister.specs.Meter.{IsBooked};
 ghost use Rattle.mdmp_lister.specs.Counts.{AreHeld, AreOfFile, AreSpent, numbers_of};
-ghost use Rattle.mdmp_lister.specs.Following.{through};
 ghost use Rattle.mdmp_lister.specs.Format.Listing.{Run};
 ghost use Rattle.mdmp_lister.specs.Format.Numbers.{range_count};
 ghost use Rattle.mdmp_lister.specs.Format.Ranges.{ranges_of};
@@ -93,8 +92,8 @@ impl<S: Store + Drop, A: Allocator + Copy> Lister<S, A> {
     ghost use Rattle.mdmp_lister.specs.contracts.lister.Lister.{the_row};
     ghost use Rattle.mdmp_lister.specs.Check.{CheckLeaves};
     ghost use Rattle.mdmp_lister.specs.Memory.{IsRefusalWithin, TellsMemory, opening_fault_within};
-    ghost use Rattle.mdmp_lister.specs.Sink.{RangesFollow, RunLeaves};
-    ghost use Rattle.mdmp_lister.specs.Lister.{Gives, IsNewLister, IsRecordsLeft, IsRefusedIn, IsSameLister, ListerLeaves, ReadsAside, is_for_good, is_fresh, listing_behind};
+    ghost use Rattle.mdmp_lister.specs.Sink.{RangesFollow, RunLeaves, WorkFalls};
+    ghost use Rattle.mdmp_lister.specs.Lister.{Gives, IsNewLister, IsRecordsLeft, IsRefusedIn, IsSameLister, KeepsGiven, ListerLeaves, ReadsAside, SkipsEntry, is_for_good, is_fresh};
 
     /// Opens a file. Its header is read; memory is taken for the directory, the window and a name; the
     /// directory is read, and the ranges of the chosen memory lists are counted by their heads; then
@@ -235,16 +234,10 @@ impl<S: Store + Drop, A: Allocator + Copy> Lister<S, A> {
     /// Drops what is left of the entry whose Stream item was given last. Before the first one, behind
     /// the end and after a fault of the store or of the budget it changes nothing.
     pub fn skip_entry(&mut self)
-        ensures skips { is_for_good self.old.stop ≡ false
-            → (self.new.left ≡ listing_behind self.old self.old.passed) × (self.new.stop ≡ None) × (self.new.unread ≡ 0) × (self.new.standing ≡ through) }
+        ensures skips { is_for_good self.old.stop ≡ false → SkipsEntry self.old self.new }
         ensures stays { IsTrue (is_for_good self.old.stop) → self.new ≡ self.old }
         ensures unbegun { self.old.passed ≡ 0 → self.new ≡ self.old }
-        ensures source { (self.new.source ≡ self.old.source) × (self.new.counts ≡ self.old.counts) }
-        ensures same { IsSameLister self.old self.new }
-        ensures passed { self.new.passed ≡ self.old.passed }
-        ensures current { self.new.current ≡ self.old.current }
-        ensures ranges { self.new.ranges ≡ self.old.ranges }
-        ensures rests { self.new.work ≤ self.old.work }
+        ensures keeps { KeepsGiven self.old self.new }
     {
         self.walk.skip_entry();
     }
@@ -257,8 +250,7 @@ impl<S: Store + Drop, A: Allocator + Copy> Lister<S, A> {
         ensures stop { self.new.stop ≡ stop_after_run result }
         ensures repeats { (stop : _) → self.old.stop ≡ Some stop
             → (self.new ≡ self.old) × ((stop_after_run result ≡ Some stop) × (sink.new ≡ sink.old)) }
-        ensures falls { result ≡ Err RunFault.Stopped → self.new.work < self.old.work }
-        ensures rests { self.new.work ≤ self.old.work }
+        ensures work { WorkFalls result self.old self.new }
         ensures same { IsSameLister self.old self.new }
         ensures told { self.old.stop ≡ None
             → IfErr result (λ r. (fault : _) → r ≡ RunFault.At fault
@@ -400,13 +392,13 @@ impl<S: Store + Drop, A: Allocator + Copy> Lister<S, A> {
 
     /// Fetches the CodeView record of a module, which its `CvRecord` locates and which lies inside the
     /// file: [`CodeViewBytes::read`] says what it tells. At most 24 bytes are fetched and, of a record of
-    /// the kind RSDS, as many of those behind them as the limit on names: they are lent until the next
-    /// call. After a fault of the store what is listed stays as it was.
+    /// the kind RSDS, as many of those behind them as the limit on names, by a second call if there are any:
+    /// they are lent until the next call. After a fault of the store what is listed stays as it was.
     pub fn codeview(&mut self, location: Location) -> Result<CodeViewBytes<'_>, SourceFault>
         requires { IsInside location.rva location.size self.old.source.size }
         ensures value { (file : List ℕ) → self.old.source.store.content ≡ Some file → IfOk result (λ bytes. codeview_told bytes ≡ codeview_of file location self.old.limit) }
         ensures fetched { IfOk result (λ bytes. AreFetched location self.old.limit bytes.head (length bytes.rest.now) bytes.size) }
-        ensures* reads { sem 𝓛 (Rests (the_row S.row A.row S.Store A.Allocator) self.entry (ReadsAside 2 (codeview_cost location self.old.limit result) result self.old)) }
+        ensures* reads { sem 𝓛 (Rests (the_row S.row A.row S.Store A.Allocator) self.entry (ReadsAside (codeview_calls result) (codeview_cost location self.old.limit result) result self.old)) }
         ensures good { (file : List ℕ) → IsGood self.old.source.store file → IsOk result }
     {
         let read = self.walk.fetch_codeview(location)?;

@@ -141,7 +141,7 @@ impl<S: Store> Meter<S> {
     pub(crate) fn fill<A: Allocator>(&mut self, window: &mut Window<A>) -> Result<(), FetchFault>
         requires { window.old.end ≤ self.old.source.size }
         ensures filled { OnOk result (IsFilled self.old.source.store.content window.old window.new) }
-        ensures kept { OnErr result (window.new ≡ window.old) }
+        ensures kept { OnErr result (window.new ≡ record window.old { touched = window.new.touched }) }
         ensures books { Books (min 1 (next_len_of window.old)) (next_len_of window.old) self.old self.new }
         ensures caused { IsCaused (store_fault_of result) self.old.source self.new.source }
         ensures refused { RefusesFetch (window.old.place + length window.old.held) (next_len_of window.old) result self.old self.new }

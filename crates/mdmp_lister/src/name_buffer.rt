@@ -26,7 +26,7 @@ impl<A: Allocator> Model for NameBuffer<A> {
 }
 
 impl<A: Allocator> NameBuffer<A> {
-    ghost use Rattle.std.specs.Prelude.{◌≡◌, ◌≤◌, [], IfOk, length, take};
+    ghost use Rattle.std.specs.Prelude.{◌≡◌, ◌≤◌, [], IfOk, length, max, take};
     ghost use Rattle.mdmp_source.specs.Range.{IsInside, bytes_at};
     ghost use Rattle.mdmp_lister.specs.Fetching.{Reads, ReadsBeside};
     ghost use Rattle.mdmp_lister.specs.Meter.{Books, TriesFetch};
@@ -54,7 +54,7 @@ impl<A: Allocator> NameBuffer<A> {
         &self.bytes
     }
 
-    /// Fetches `count` bytes at `at` into the front.
+    /// Fetches `count` bytes at `at` into the front. No memory behind them is touched.
     pub(crate) fn fetch<S: Store>(
         &mut self,
         meter: &mut Meter<S>,
@@ -65,6 +65,7 @@ impl<A: Allocator> NameBuffer<A> {
         requires inside { IsInside at count meter.old.source.size }
         ensures limit { self.new.limit ≡ self.old.limit }
         ensures holds { count ≤ length self.new.items }
+        ensures grows { length self.new.items ≤ max (length self.old.items) count }
         ensures reads { Reads count (Books 1 count) (λ file _. take count self.new.items ≡ bytes_at file at count) result meter.old meter.new }
         ensures tries { TriesFetch at count result meter.old meter.new }
     {
@@ -83,6 +84,7 @@ impl<A: Allocator> NameBuffer<A> {
         requires inside { IsInside at count meter.old.source.size }
         ensures limit { self.new.limit ≡ self.old.limit }
         ensures holds { count ≤ length self.new.items }
+        ensures grows { length self.new.items ≤ max (length self.old.items) count }
         ensures reads { ReadsBeside 1 count (λ file _. take count self.new.items ≡ bytes_at file at count) result meter.old meter.new }
     {
         lengthen(&mut self.bytes, count);

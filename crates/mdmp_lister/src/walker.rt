@@ -16,7 +16,6 @@ ghost use Rattle.mdmp_lister.specs.HeldStep.{AnswerHasItsBytes, answer_told};
 ghost use Rattle.mdmp_lister.specs.Meter.{IsBooked, counts_of};
 ghost use Rattle.mdmp_lister.specs.NextFetch.{TellsNextOpening};
 ghost use Rattle.mdmp_lister.specs.Opening.{IsBareRefusal, IsDirectoryRefusal, IsHandedBackBare, IsUnread, IsUnreadFor, KeepsToBudget};
-ghost use Rattle.mdmp_lister.specs.Following.{through};
 ghost use Rattle.mdmp_lister.specs.Stage.{StaysUnchanged, stop_after};
 ghost use Rattle.mdmp_lister.specs.Walk.{IsSound};
 ghost use Rattle.mdmp_lister.specs.Walk.Positions.{AnsweredFrom, IsPositioned, IsWalked, mark_by, position_by};
@@ -90,7 +89,7 @@ impl<S: Store + Drop, A: Allocator + Copy> Model for Walker<S, A> {
 impl<S: Store + Drop, A: Allocator + Copy> Walker<S, A> {
     ghost use Rattle.mdmp_lister.specs.contracts.walker.Walker.{the_row};
     ghost use Rattle.mdmp_lister.specs.Memory.{IsWalkRefusal, TellsWalkMemory, walk_fault};
-    ghost use Rattle.mdmp_lister.specs.Lister.{Gives, IsRefusedIn, IsSameLister, ReadsAside, is_for_good, listing_behind};
+    ghost use Rattle.mdmp_lister.specs.Lister.{Gives, IsRefusedIn, KeepsGiven, ReadsAside, SkipsEntry, is_for_good};
     ghost use Rattle.mdmp_lister.specs.Walker.{CountsRecords, GivesEntry, IsNewWalker, IsSought, StepLeaves, WalkerLeaves, is_begun, is_failed, is_sought, records_answer};
 
     /// Opens a file. Its header is read; memory is taken for the directory, the window and a name; the
@@ -238,17 +237,13 @@ impl<S: Store + Drop, A: Allocator + Copy> Walker<S, A> {
     /// nothing that will be given.
     pub fn skip_entry(&mut self)
         ensures skips { is_for_good self.old.list.stop ≡ false → is_sought self.old ≡ false
-            → (self.new.list.left ≡ listing_behind self.old.list self.old.list.passed) × (self.new.list.stop ≡ None) × (self.new.list.unread ≡ 0) × (self.new.list.standing ≡ through) }
+            → SkipsEntry self.old.list self.new.list }
         ensures stays { IsTrue (is_for_good self.old.list.stop) → self.new.list ≡ self.old.list }
         ensures sought { IsTrue (is_sought self.old) → self.new ≡ self.old }
         ensures position { (is_sought self.new ≡ is_sought self.old) × (is_begun self.new ≡ false) }
         ensures unbegun { self.old.list.passed ≡ 0 → self.new.list ≡ self.old.list }
-        ensures source { (self.new.list.source ≡ self.old.list.source) × (self.new.list.counts ≡ self.old.list.counts) }
-        ensures same { IsSameLister self.old.list self.new.list }
-        ensures passed { self.new.list.passed ≡ self.old.list.passed }
-        ensures current { self.new.list.current ≡ self.old.list.current }
+        ensures keeps { KeepsGiven self.old.list self.new.list }
         ensures mark { self.new.mark ≡ self.old.mark }
-        ensures rests { self.new.list.work ≤ self.old.list.work }
     {
         match self.position {
             Position::Sought(_) => {}

@@ -1,5 +1,5 @@
 -- The part of a buffer that a window holds.
-use Rattle.std.proofs.Common.{◌≡◌, ◌≤◌, ◌+◌, ◌-◌, ◌++◌, ◌∙◌, ℕ, List, Option, take, drop, length, ap, sym, subst, arith}
+use Rattle.std.proofs.Common.{◌≡◌, ◌≤◌, ◌+◌, ◌-◌, ◌++◌, ◌∙◌, ℕ, List, Option, max, take, drop, length, ap, sym, subst, arith}
 use Rattle.std.specs.Prelude.{IfSome, Vec, vec_len}
 use Rattle.std.specs.Vec.{with_items}
 use Rattle.std.proofs.lemmas.List.{drop-drop, drop-take, length-take-le, length-drop, with_items_is}
@@ -9,8 +9,8 @@ use Rattle.mdmp_source.specs.Window.{WindowState, next_len_of, IsFilled}
 use borrow.Rule.Slice.PartMut.{put_mid, same_len_mid}
 
 -- a window with these bytes
-abbrev pub window_of : ℕ → ℕ → ℕ → List ℕ → WindowState
-window_of place end room held = record { place = place; end = end; room = room; held = held }
+abbrev pub window_of : (place end room touched : ℕ) → List ℕ → WindowState
+window_of place end room touched held = record { place = place; end = end; room = room; touched = touched; held = held }
 
 -- as many bytes as the window counts
 pub length-held : (items : List ℕ) (first len : ℕ) → first + len ≤ length items → length (take len (drop first items)) ≡ len
@@ -27,9 +27,9 @@ held_less items first len count few =
     ∙ ap (λ rest. take (len - count) rest) (drop-drop count first items))
 
 -- a window has room for what its next fill fetches
-pub next_fits : (place end room len count : ℕ) (held : List ℕ) → length held ≡ len → len ≤ room → count ≡ next_len_of (window_of place end room held)
+pub next_fits : (place end room touched len count : ℕ) (held : List ℕ) → length held ≡ len → len ≤ room → count ≡ next_len_of (window_of place end room touched held)
     → len + count ≤ room
-next_fits place end room len count held held_len in_range next = omega (arith, held_len, in_range, next)
+next_fits place end room touched len count held held_len in_range next = omega (arith, held_len, in_range, next)
 
 -- a buffer that holds these bytes at its front, and behind which others were written
 pub record WrittenBehind (held bytes : List ℕ) (len count : ℕ) (items : List ℕ) : Type 0 where
@@ -56,18 +56,18 @@ written_behind v items bytes held len count n same count_is bytes_len held_is ro
     }
 
 -- a window whose fill failed is as it was
-pub is_kept : (place end room len count : ℕ) (held bytes items : List ℕ) → WrittenBehind held bytes len count items
-    → window_of place end room (take len items) ≡ window_of place end room held
-is_kept place end room len count held bytes items written = ap (window_of place end room) written.kept
+pub is_kept : (place end room touched len count : ℕ) (held bytes items : List ℕ) → WrittenBehind held bytes len count items
+    → window_of place end room touched (take len items) ≡ window_of place end room touched held
+is_kept place end room touched len count held bytes items written = ap (window_of place end room touched) written.kept
 
 -- and one whose fill succeeded has more
-pub is_filled : (content : Option (List ℕ)) (place end room len count : ℕ) (held bytes items : List ℕ) → WrittenBehind held bytes len count items
-    → length held ≡ len → count ≡ next_len_of (window_of place end room held)
+pub is_filled : (content : Option (List ℕ)) (place end room touched len count : ℕ) (held bytes items : List ℕ) → WrittenBehind held bytes len count items
+    → length held ≡ len → count ≡ next_len_of (window_of place end room touched held)
     → IfSome content (λ file. bytes ≡ bytes_at file (place + len) (length bytes))
-    → IsFilled content (window_of place end room held) (window_of place end room (take (len + count) items))
-is_filled content place end room len count held bytes items written held_len next known = record {
+    → IsFilled content (window_of place end room touched held) (window_of place end room (max touched (len + count)) (take (len + count) items))
+is_filled content place end room touched len count held bytes items written held_len next known = record {
   more = bytes;
   more_len = written.all ∙ next;
-  appended = ap (window_of place end room) written.more;
+  appended = rw (← next, held_len) (ap (window_of place end room (max touched (len + count))) written.more);
   known = subst (λ k. IfSome content (λ file. bytes ≡ bytes_at file (place + k) (length bytes))) (sym held_len) known;
 }

@@ -17,6 +17,7 @@ patchy_state s = record {
   content = Some s.bytes;
   size = length s.bytes;
   is_reliable = is_none s.fail_at && list_all (λ cap. nat_lt 0 cap) s.caps;
+  least = 0;
   counts = s.counts;
 }
 

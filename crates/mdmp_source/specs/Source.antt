@@ -1,5 +1,5 @@
 -- What a source is, and what a fetch does to it.
-use Rattle.std.specs.Prelude.{◌≡◌, ◌≤◌, ◌+◌, ℕ, None, Option, Some, Result, Ok, Err}
+use Rattle.std.specs.Prelude.{◌≡◌, ◌≤◌, ◌<◌, ◌+◌, ◌-◌, ◌*◌, ℕ, None, Option, Some, Result, Ok, Err}
 use Rattle.mdmp_source.specs.Count.{raised, HasRisen}
 use Rattle.mdmp_source.specs.Store.{StoreState}
 use Rattle.mdmp_source.specs.Fault.{HasFetchCause, fault_at}
@@ -21,6 +21,7 @@ pub record SourceState : Type 0 where
 pub record FetchesAtMost (n : ℕ) (old new : SourceState) : Type 0 where
   pub same_content : new.store.content ≡ old.store.content
   pub same_reliable : new.store.is_reliable ≡ old.store.is_reliable
+  pub same_least : new.store.least ≡ old.store.least
   pub same_size : new.size ≡ old.size
   pub same_store_size : new.store.size ≡ old.store.size
   pub failures : old.store.counts.failures ≤ new.store.counts.failures
@@ -50,6 +51,22 @@ pub record IsTold (fault : SourceFault) (old new : SourceState) : Type 0 where
   pub cause : HasFetchCause fault
       (HasRisen old.store.counts.failures new.store.counts.failures)
       (HasRisen old.store.counts.empties new.store.counts.empties)
+
+-- the same, and it names one of the n bytes at this offset
+pub record IsToldAmong (at n : ℕ) (fault : SourceFault) (old new : SourceState) : Type 0 where
+  pub told : IsTold fault old new
+  pub from : at ≤ fault_at fault
+  pub before : fault_at fault < at + n
+
+-- a store was called for n bytes: each call but the last gave as many as a call gives at least, and n bytes were not given yet
+abbrev pub CallsFew : (n : ℕ) → StoreState → StoreState → Type 0
+CallsFew n old new = old.counts.calls < new.counts.calls → (new.counts.calls - old.counts.calls - 1) * old.least < n
+
+-- so many calls of `fetch`, of n bytes together, are counted, and the store was called no oftener than that takes
+pub record CountsBytes (calls n : ℕ) (old new : SourceState) : Type 0 where
+  pub bytes : new.fetched ≡ raised old.fetched n
+  pub fetches : new.calls ≡ raised old.calls calls
+  pub store_calls : CallsFew n old.store new.store
 
 -- some fetches later, of however many bytes
 pub record FetchesSome (old new : SourceState) : Type 0 where

@@ -11,6 +11,7 @@ pub fetches_then : (m n : ℕ) (a b c : SourceState) → FetchesAtMost m a b →
 fetches_then m n a b c first then = record {
   same_content = then.same_content ∙ first.same_content;
   same_reliable = then.same_reliable ∙ first.same_reliable;
+  same_least = then.same_least ∙ first.same_least;
   same_size = then.same_size ∙ first.same_size;
   same_store_size = then.same_store_size ∙ first.same_store_size;
   failures = omega (arith, first.failures, then.failures);

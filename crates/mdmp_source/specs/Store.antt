@@ -1,5 +1,5 @@
 -- What a store is, and what its calls say.
-use Rattle.std.specs.Prelude.{◌≡◌, ◌≢◌, ◌<◌, ◌^◌, ◌&&◌, ◌==◌, ℕ, Bool, false, List, Option, Result, Some, Ok, Err, IsTrue, length, take, IfOk, IfSome, is_err, nat_lt, if◌then◌else◌, slice_index}
+use Rattle.std.specs.Prelude.{◌≡◌, ◌≢◌, ◌≤◌, ◌<◌, ◌-◌, ◌^◌, ◌&&◌, ◌==◌, ℕ, Bool, false, List, Option, Result, Some, Ok, Err, IsTrue, length, min, take, IfOk, IfSome, is_err, nat_lt, if◌then◌else◌, slice_index}
 use Rattle.mdmp_source.specs.Count.{raised, raised_if}
 use Rattle.mdmp_source.specs.Range.{bytes_at}
 use Rattle.mdmp_source.specs.declared.store.Tally.{Tally}
@@ -12,6 +12,8 @@ pub record StoreState : Type 0 where
   pub size : ℕ
   -- it never fails, and gives at least one byte where one inside the content is asked for
   pub is_reliable : Bool
+  -- a call that does not fail gives at least so many bytes, if as many are asked for and there; 0 where that is not known
+  pub least : ℕ
   -- its calls so far
   pub counts : Tally
 
@@ -45,6 +47,10 @@ GivesContent content at result out = IfOk result (λ k. IfSome content (λ file.
 -- a call at a place inside a known content gave some of it
 abbrev pub GivesSome : {E : Type 0} → Option (List ℕ) → ℕ → Result ℕ E → Type 0
 GivesSome content at result = IfSome content (λ file. at < length file → result ≢ Ok 0)
+
+-- a call for so many bytes at a place gave as many as a call of this store gives at least, or all that were asked for and are there
+abbrev pub GivesLeast : {E : Type 0} → StoreState → ℕ → ℕ → Result ℕ E → Type 0
+GivesLeast store at asked result = IfOk result (λ k. min store.least (min asked (store.size - at)) ≤ k)
 
 -- whether a call answered no bytes where some were asked for
 abbrev pub is_empty_answer : {E : Type 0} → Result ℕ E → ℕ → Bool

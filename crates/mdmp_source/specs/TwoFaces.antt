@@ -10,12 +10,13 @@ pub record TwoFacesState : Type 0 where
   pub turn : ℕ
   pub counts : Tally
 
--- the same as any store: it never fails, and no content is known
+-- the same as any store: it never fails, gives all that it is asked for, and no content is known
 abbrev pub two_faces_state : TwoFacesState → StoreState
 two_faces_state s = record {
   content = None;
   size = length s.first;
   is_reliable = true;
+  least = length s.first;
   counts = s.counts;
 }
 

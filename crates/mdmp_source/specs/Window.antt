@@ -1,5 +1,5 @@
 -- A window that slides over a stretch of a file, and what a fill does to it.
-use Rattle.std.specs.Prelude.{◌≡◌, ◌+◌, ◌-◌, ◌++◌, ℕ, List, Option, length, min, IfSome}
+use Rattle.std.specs.Prelude.{◌≡◌, ◌+◌, ◌-◌, ◌++◌, ℕ, List, Option, length, max, min, IfSome}
 use Rattle.mdmp_source.specs.Range.{bytes_at}
 
 -- a window as its callers see it: the bytes held from `place` on, at most `room`, of a stretch that goes up to `end`
@@ -7,6 +7,8 @@ pub record WindowState : Type 0 where
   pub place : ℕ
   pub end : ℕ
   pub room : ℕ
+  -- so many bytes of its memory were ever written to
+  pub touched : ℕ
   pub held : List ℕ
 
 -- the offset of the byte behind those that are held
@@ -17,9 +19,17 @@ behind_of w = w.place + length w.held
 abbrev pub next_len_of : WindowState → ℕ
 next_len_of w = min (w.room - length w.held) (w.end - behind_of w)
 
+-- a window after so many bytes of its memory were written to
+abbrev pub touched_by : ℕ → WindowState → WindowState
+touched_by n w = record w { touched = max w.touched n }
+
+-- a fill writes no further than to the end of what it holds then
+abbrev pub touched_after : WindowState → WindowState
+touched_after w = touched_by (length w.held + next_len_of w) w
+
 -- a fill appended the next bytes of the file
 pub record IsFilled (content : Option (List ℕ)) (old new : WindowState) : Type 0 where
   pub more : List ℕ
   pub more_len : length more ≡ next_len_of old
-  pub appended : new ≡ record old { held = old.held ++ more }
+  pub appended : new ≡ record (touched_after old) { held = old.held ++ more }
   pub known : IfSome content (λ file. more ≡ bytes_at file (behind_of old) (length more))

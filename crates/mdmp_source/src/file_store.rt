@@ -100,6 +100,7 @@ impl<F: Read + Seek, A: Allocator> Store for FileStore<F, A> {
       content = None;
       size = s.size;
       is_reliable = false;
+      least = 0;
       counts = s.tally;
     } };
 

@@ -5,7 +5,8 @@ ghost use Rattle.mdmp_source.specs.Store.{AreBytes};
 
 use crate::store::{Store, StoreFailed, Tally};
 
-/// A file in memory, which the store borrows. It never fails.
+/// A file in memory, which the store borrows. It never fails, and a call gives all bytes that it is asked for
+/// and that are there.
 #[derive(Drop)]
 pub struct MemoryStore<'a> {
     bytes: &'a [u8],
@@ -36,6 +37,7 @@ impl Store for MemoryStore<'_> {
       content = Some s.bytes.now;
       size = length s.bytes.now;
       is_reliable = true;
+      least = length s.bytes.now;
       counts = s.tally;
     } };
 

@@ -55,7 +55,7 @@ impl<'a> PatchyStore<'a> {
 
 impl Store for PatchyStore<'_> {
     ghost use Rattle.std.specs.Prelude.{◌≡◌, ◌≤◌, ◌<◌, Some, IfOk, IsOk, IsTrue, is_err, length};
-    ghost use Rattle.mdmp_source.specs.Store.{GivesContent, GivesSome, tally_after};
+    ghost use Rattle.mdmp_source.specs.Store.{GivesContent, GivesLeast, GivesSome, tally_after};
     ghost use Rattle.mdmp_source.specs.Patchy.{patchy_state, is_failing_call, given_count};
 
     ghost state = { patchy_state };
@@ -70,6 +70,7 @@ impl Store for PatchyStore<'_> {
         ensures state { self.new ≡ record self.old { counts = tally_after self.old.counts result at (length out.new) } }
         ensures never_fails { IsTrue (patchy_state self.old).is_reliable → IsOk result }
         ensures gives { IsTrue (patchy_state self.old).is_reliable → 0 < length out.new → GivesSome (Some self.old.bytes) at result }
+        ensures least { GivesLeast (patchy_state self.old) at (length out.new) result }
         // What this store says beside any other.
         ensures fails { is_err result ≡ is_failing_call self.old.fail_at self.old.counts.calls }
         ensures count { IfOk result (λ k. k ≡ given_count self.old at (length out.new)) }

@@ -1,9 +1,9 @@
 //! Whole fetches from a store, counted.
 ghost use Rattle.std.specs.Prelude.{◌≡◌, ◌≤◌, ◌<◌, ◌+◌, ◌^◌, None, List, ℕ, length, IfSome, IfErr, IsOk, IsTrue, OnOk};
-ghost use Rattle.mdmp_source.specs.Count.{raised, HasRisen};
+ghost use Rattle.mdmp_source.specs.Count.{HasRisen};
 ghost use Rattle.mdmp_source.specs.Range.{IsInside, IsObtained, bytes_at};
 ghost use Rattle.mdmp_source.specs.Store.{IsSizeOf, IsGood, IsOfBytes};
-ghost use Rattle.mdmp_source.specs.Source.{SourceState, FailsOnce, FetchesAtMost, IsTold, fault_of};
+ghost use Rattle.mdmp_source.specs.Source.{CallsFew, CountsBytes, SourceState, FailsOnce, FetchesAtMost, IsToldAmong, fault_of};
 ghost use Rattle.mdmp_source.specs.Fault.{fault_at, HasFetchCause};
 
 use crate::fault::SourceFault;
@@ -35,7 +35,7 @@ impl<S: Store> Model for Source<S> {
       fault = s.fault;
     } };
 
-    ghost invariant = { λ s. IsSizeOf (S.state s.store).content s.size × IsOfBytes (S.state s.store).content };
+    ghost invariant = { λ s. IsSizeOf (S.state s.store).content s.size × IsOfBytes (S.state s.store).content × (s.size ≡ (S.state s.store).size) };
 }
 
 impl<S: Store> Source<S> {
@@ -94,8 +94,9 @@ impl<S: Store> Source<S> {
         store
     }
 
-    /// Fills `out` with the bytes at the offset `at`. After a fault `out` holds the bytes before the
-    /// first that was not obtained, and behind them any.
+    /// Fills `out` with the bytes at the offset `at`. The store is asked for all of them at once, and again
+    /// for the rest only if it gave fewer. After a fault `out` holds the bytes before the first that was not
+    /// obtained, and behind them any.
     pub fn fetch(&mut self, at: u64, out: &mut [u8]) -> Result<(), SourceFault>
         requires { IsInside at (length out.old) self.old.size }
 
@@ -104,15 +105,13 @@ impl<S: Store> Source<S> {
 
         // Each fault has its cause in this call, and says which byte was not obtained.
         ensures last { self.new.fault ≡ fault_of result }
-        ensures told { IfErr result (λ fault. IsTold fault self.old self.new) }
-        ensures fault_at { IfErr result (λ fault. (at ≤ fault_at fault) × (fault_at fault < at + length out.new)) }
+        ensures told { IfErr result (λ fault. IsToldAmong at (length out.new) fault self.old self.new) }
         ensures obtained { IfErr result (λ fault. IsObtained self.old.store.content at (fault_at fault) out.new) }
 
         ensures once { FailsOnce result self.old.store.counts self.new.store.counts }
 
         ensures fetches { FetchesAtMost (length out.new) self.old self.new }
-        ensures fetched { self.new.fetched ≡ raised self.old.fetched (length out.new) }
-        ensures calls { self.new.calls ≡ raised self.old.calls 1 }
+        ensures counts { CountsBytes 1 (length out.new) self.old self.new }
     {
         self.calls = self.calls.saturating_add(1);
         self.fetched = self.fetched.saturating_add(out.len() as u128);
@@ -126,7 +125,8 @@ impl<S: Store> Source<S> {
 
 /// Fills `out` with the bytes at `at`, by as many calls as the store takes.
 fn fill<S: Store>(store: &mut S, at: u64, out: &mut [u8]) -> Result<(), SourceFault>
-    requires { at + length out.old < 2 ^ 64 }
+    requires fits { at + length out.old < 2 ^ 64 }
+    requires inside { IsInside at (length out.old) (S.state store.old).size }
     ensures bytes { OnOk result (IfSome (S.state store.old).content (λ file. out.new ≡ bytes_at file at (length out.new))) }
     ensures cause { IfErr result (λ fault. HasFetchCause fault
         (HasRisen (S.state store.old).counts.failures (S.state store.new).counts.failures)
@@ -138,10 +138,12 @@ fn fill<S: Store>(store: &mut S, at: u64, out: &mut [u8]) -> Result<(), SourceFa
     ensures content { (S.state store.new).content ≡ (S.state store.old).content }
     ensures reliable { (S.state store.new).is_reliable ≡ (S.state store.old).is_reliable }
     ensures size { (S.state store.new).size ≡ (S.state store.old).size }
+    ensures least { (S.state store.new).least ≡ (S.state store.old).least }
     ensures no_fewer_calls { (S.state store.old).counts.calls ≤ (S.state store.new).counts.calls }
     ensures no_fewer { ((S.state store.old).counts.failures ≤ (S.state store.new).counts.failures)
         × ((S.state store.old).counts.empties ≤ (S.state store.new).counts.empties) }
     ensures calls { (S.state store.new).counts.calls ≤ (S.state store.old).counts.calls + length out.new }
+    ensures few_calls { CallsFew (length out.new) (S.state store.old) (S.state store.new) }
     ensures always { IsTrue (S.state store.old).is_reliable → IfSome (S.state store.old).content (λ file. IsInside at (length out.new) (length file) → IsOk result) }
 {
     let mut filled = 0;

@@ -61,9 +61,10 @@ impl Tally {
 /// what they answer for every store, and what more for a good one.
 // A slice of the whole file would be simpler, and would hold the whole file.
 pub trait Store {
-    ghost use Rattle.mdmp_source.specs.Store.{IsOfBytes, StoreState, IsSizeOf, GivesContent, GivesSome, after_call};
+    ghost use Rattle.mdmp_source.specs.Store.{IsOfBytes, StoreState, IsSizeOf, GivesContent, GivesLeast, GivesSome, after_call};
 
-    /// Its content where that is known, its calls so far, and whether it never fails.
+    /// Its content where that is known, its calls so far, whether it never fails, and how many bytes a call
+    /// gives at least.
     ghost state: { Self → StoreState };
 
     /// The number of bytes in the file.
@@ -78,7 +79,8 @@ pub trait Store {
         ensures bytes { GivesContent (state self.old).content at result out.new }
         ensures state { state self.new ≡ after_call (state self.old) result at (length out.new) }
         ensures never_fails { IsTrue (state self.old).is_reliable → IsOk result }
-        ensures gives { IsTrue (state self.old).is_reliable → 0 < length out.new → GivesSome (state self.old).content at result };
+        ensures gives { IsTrue (state self.old).is_reliable → 0 < length out.new → GivesSome (state self.old).content at result }
+        ensures least { GivesLeast (state self.old) at (length out.new) result };
 }
 
 /// A store that is lent is one too, so that its owner has it back, counts and all.

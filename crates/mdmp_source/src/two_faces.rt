@@ -61,7 +61,7 @@ impl<'a> TwoFaces<'a> {
 impl Store for TwoFaces<'_> {
     ghost use Rattle.std.specs.Prelude.{◌≡◌, ◌≤◌, ◌-◌, IfOk, IsOk, length, min, take};
     ghost use Rattle.mdmp_source.specs.Range.{bytes_at};
-    ghost use Rattle.mdmp_source.specs.Store.{GivesContent, tally_after};
+    ghost use Rattle.mdmp_source.specs.Store.{GivesContent, GivesLeast, tally_after};
     ghost use Rattle.mdmp_source.specs.TwoFaces.{two_faces_state, face_of};
 
     ghost state = { two_faces_state };
@@ -75,6 +75,7 @@ impl Store for TwoFaces<'_> {
         ensures bytes { GivesContent (two_faces_state self.old).content at result out.new }
         ensures state { self.new ≡ record self.old { counts = tally_after self.old.counts result at (length out.new) } }
         ensures never_fails { IsOk result }
+        ensures least { GivesLeast (two_faces_state self.old) at (length out.new) result }
         // What this store says beside any other.
         ensures count { IfOk result (λ k. k ≡ min (length out.new) (length self.old.first - at)) }
         ensures face { IfOk result (λ k. take k out.new ≡ bytes_at (face_of self.old) at k) }

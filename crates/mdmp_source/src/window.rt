@@ -1,10 +1,8 @@
 //! A window that slides over a stretch of a file.
-ghost use Rattle.std.specs.Prelude.{◌≡◌, ◌≤◌, ◌<◌, ◌+◌, [], ℕ, List, IfErr, IfOk, IsOk, OnErr, OnOk, drop, length, max, nat_lt, take, vec_capacity, vec_len};
-ghost use Rattle.mdmp_source.specs.Count.{raised, raised_if};
-ghost use Rattle.mdmp_source.specs.Fault.{fault_at};
-ghost use Rattle.mdmp_source.specs.Source.{FailsOnce, FetchesAtMost, IsTold};
+ghost use Rattle.std.specs.Prelude.{◌≡◌, ◌≤◌, ◌+◌, [], ℕ, List, IfErr, IfOk, IsOk, OnErr, OnOk, drop, length, max, min, take, vec_capacity, vec_len};
+ghost use Rattle.mdmp_source.specs.Source.{CountsBytes, FailsOnce, FetchesAtMost, IsToldAmong};
 ghost use Rattle.mdmp_source.specs.Store.{IsGood};
-ghost use Rattle.mdmp_source.specs.Window.{IsFilled, WindowState, behind_of, next_len_of};
+ghost use Rattle.mdmp_source.specs.Window.{IsFilled, WindowState, behind_of, next_len_of, touched_after};
 
 use crate::fault::SourceFault;
 use crate::source::Source;
@@ -23,7 +21,7 @@ use std::marker::Model;
 // read in place.
 #[derive(Drop)]
 pub struct Window<A: Allocator> {
-    /// As many bytes as were ever wanted at once: a short file touches little of a great window.
+    /// As many bytes as were ever held or wanted at once: a short file touches little of a great window.
     buffer: Vec<u8, A>,
     /// Where in the buffer the bytes held begin.
     first: usize,
@@ -40,6 +38,7 @@ impl<A: Allocator> Model for Window<A> {
       place = w.place;
       end = w.end;
       room = vec_capacity w.buffer;
+      touched = vec_len w.buffer;
       held = take w.len (drop w.first w.buffer.items);
     } };
 
@@ -50,7 +49,7 @@ impl<A: Allocator> Window<A> {
     /// A window of the empty stretch at 0, with room for that many bytes. The memory for them is
     /// taken here, and no later call takes any.
     pub fn with_room(alloc: A, room: usize) -> Result<Self, AllocError>
-        ensures { IfOk result (λ w. w ≡ record { place = 0; end = 0; room = room; held = [] }) }
+        ensures { IfOk result (λ w. w ≡ record { place = 0; end = 0; room = room; touched = 0; held = [] }) }
     {
         Ok(Window {
             buffer: Vec::with_capacity(alloc, room)?,
@@ -65,7 +64,7 @@ impl<A: Allocator> Window<A> {
     /// fetched.
     pub fn start(&mut self, at: u64, end: u64)
         requires { at ≤ end }
-        ensures { self.new ≡ record { place = at; end = end; room = self.old.room; held = [] } }
+        ensures { self.new ≡ record self.old { place = at; end = end; held = [] } }
     {
         self.first = 0;
         self.len = 0;
@@ -126,23 +125,21 @@ impl<A: Allocator> Window<A> {
     }
 
     /// Appends the bytes that come next, as many as `next_len` tells, by one fetch, and by none
-    /// where those are none. After a fault the window is as it was before.
+    /// where those are none. Its memory is written to as far as it then holds bytes. After a fault the
+    /// window holds what it held before.
     pub fn fill<S: Store>(&mut self, source: &mut Source<S>) -> Result<(), SourceFault>
         requires { self.old.end ≤ source.old.size }
 
         ensures filled { OnOk result (IsFilled source.old.store.content self.old self.new) }
-        ensures err { OnErr result (self.new ≡ self.old) }
+        ensures err { OnErr result (self.new ≡ touched_after self.old) }
         ensures good { (file : List ℕ) → IsGood source.old.store file → IsOk result }
 
         // Each fault has its cause in this call, and says which byte was not obtained.
-        ensures told { IfErr result (λ fault. IsTold fault source.old source.new) }
-        ensures fault_at { IfErr result (λ fault. (behind_of self.old ≤ fault_at fault)
-            × (fault_at fault < behind_of self.old + next_len_of self.old)) }
+        ensures told { IfErr result (λ fault. IsToldAmong (behind_of self.old) (next_len_of self.old) fault source.old source.new) }
         ensures once { FailsOnce result source.old.store.counts source.new.store.counts }
 
         ensures fetches { FetchesAtMost (next_len_of self.old) source.old source.new }
-        ensures fetched { source.new.fetched ≡ raised source.old.fetched (next_len_of self.old) }
-        ensures calls { source.new.calls ≡ raised_if (nat_lt 0 (next_len_of self.old)) source.old.calls }
+        ensures counts { CountsBytes (min 1 (next_len_of self.old)) (next_len_of self.old) source.old source.new }
     {
         let count = self.next_len();
         if count == 0 {

@@ -25,13 +25,14 @@ use Rattle.mdmp_lister.specs.Format.Listing.{Numbered, Run, chosen_from, entry_l
 use Rattle.mdmp_lister.specs.Format.Numbers.{maybe_name}
 use Rattle.mdmp_lister.specs.Format.Ranges.{ranges_of}
 use Rattle.mdmp_lister.specs.Meter.{Moves, counts_of}
+use Rattle.mdmp_lister.specs.NextFetch.{TellsSomeFetch}
 use Rattle.mdmp_lister.specs.Sink.{ComeNext, Handed, give_all, names_of_all}
 use Rattle.mdmp_lister.specs.Stage.{ends, fault_stage}
 use Rattle.mdmp_lister.specs.Step.{step_item}
 use Rattle.mdmp_lister.specs.Walk.{IsListing, IsThrough, SameEntry, SameRoom, current_of, cursor_of, work_of}
 use Rattle.mdmp_lister.specs.Walk.Mapping.{IsMapped}
 use Rattle.mdmp_lister.specs.Walk.Paying.{unread_bytes}
-use Rattle.mdmp_lister.specs.Walk.Requests.{Answered, StepTaken}
+use Rattle.mdmp_lister.specs.Walk.Requests.{Answered, StepTaken, standpoint_of}
 
 -- these items may come next, and then the head of the stream is read, or nothing is
 pub record MayCome (choice : Choice) (entries : List Entry) (z limit : ℕ) (c : Cursor) (xs : List Item) (d : Cursor) : Type 0 where
@@ -161,6 +162,8 @@ module _ {S A : Type 0} where
     pub stage : new.stage ≡ fault_stage f
     pub told : IsToldIn new.current f old.meter.source new.meter.source
     pub number : f.entry + 1 ≡ new.next
+    -- one that tells the budget is of a fetch that came next in it
+    pub next : TellsSomeFetch (standpoint_of new) f.kind f.offset f.size new.meter.fetched
     pub unreliable : (file : List ℕ) → IsGood old.meter.source.store file → IsOfStore f.kind → ⊥
 
   abbrev pub JudgeEnds : Walk S A → Result (Option ListFault) ListFault → Walk S A → Type 0

@@ -13,7 +13,8 @@ returns-in_err-fill-clause-reads g c =
 
 pub returns-in_err-fill-clause-comes : goal.returns-in_err-fill-clause-comes
 returns-in_err-fill-clause-comes g c =
-    rw c.in_err-fill.ensures.kept (comes_moved c.requires c.reach.ensures)
+    let moved = comes_moved c.requires c.reach.ensures in
+    rw c.in_err-fill.ensures.kept (record { place = moved.place; end = moved.end; room = moved.room; held = moved.held })
 
 pub returns-in_err-fill-clause-slides : goal.returns-in_err-fill-clause-slides
 returns-in_err-fill-clause-slides g c =

@@ -1,7 +1,7 @@
 use Rattle.std.proofs.Common.{◌≡◌, ap, refl, rules}
 use Rattle.mdmp_map.specs.Map.{MapState}
 use Rattle.mdmp_lister.proofs.Advancing.{same_entries, same_rooms}
-use Rattle.mdmp_lister.proofs.Verdicts.{good_checked, items_of_file, left_told, standing_checked, stop_checked, unread_checked, verdicts_of_file, refused_checked}
+use Rattle.mdmp_lister.proofs.Verdicts.{good_checked, items_of_file, left_told, next_checked, standing_checked, stop_checked, unread_checked, verdicts_of_file, refused_checked}
 use Rattle.mdmp_lister.proofs.lister.Lister.check_into.Goals as goal
 
 pub returns-clause-checks : goal.returns-clause-checks
@@ -34,6 +34,7 @@ returns-clause-checks g c =
       follow = e.follow;
       ends = e.ends;
       standing = standing_checked n result e.stage;
+      next = next_checked step w n m c.check_entries.new.map c.args.sink.now c.check_entries.new.sink result _ e refl refl;
     })
 
 pub returns-clause-good : goal.returns-clause-good

@@ -1,5 +1,6 @@
 use Rattle.std.proofs.Common.{◌≡◌, ◌+◌, ◌∙◌, Err, ap, length, min, refl, rules, subst, sym}
 use Rattle.std.proofs.lemmas.List.{length-take-le}
+use Rattle.mdmp_lister.specs.CodeView.{codeview_fetches}
 use Rattle.mdmp_lister.specs.Meter.{BooksAside}
 use Rattle.mdmp_lister.proofs.CodeViews.{lent_fetched, lent_told}
 use Rattle.mdmp_lister.proofs.Asides.{codeview_unread, codeview_left, codeview_mapped, state_aside, viewed}
@@ -44,7 +45,7 @@ returns g c =
     let bytes = c.codeview.result in
     let of = c.codeview.ensures in
     let long : length bytes.rest.now ≡ read.rest = ap length of.rest ∙ length-take-le read.rest n.name.items e.read.lent in
-    let books = subst (λ count. BooksAside 2 (min c.args.location.size 24 + count) w.meter n.meter) (sym long) e.read.fetches.books in
+    let books = subst (λ count. BooksAside (codeview_fetches count) (min c.args.location.size 24 + count) w.meter n.meter) (sym long) e.read.fetches.books in
     rw (← c.self.view_is) (
       (
         refl,

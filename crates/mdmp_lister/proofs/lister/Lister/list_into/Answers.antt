@@ -8,6 +8,7 @@ use Rattle.mdmp_lister.specs.Fault.{IsOfStore}
 use Rattle.mdmp_lister.specs.Format.Item.{plain}
 use Rattle.mdmp_lister.specs.Sink.{give_all}
 use Rattle.mdmp_lister.specs.Lister.{ListerState, tail}
+use Rattle.mdmp_lister.proofs.Standpoints.{run_fetch}
 use Rattle.mdmp_lister.specs.Format.Listing.{nothing, only_fault}
 use Rattle.mdmp_lister.proofs.Advancing.{current_after-plain, passed_after-plain}
 use Rattle.mdmp_lister.proofs.Cursors.{ComeNext-more}
@@ -77,6 +78,7 @@ returns-in-Err-take-clause-runs g c =
             come = ComeNext-more _ _ _ _ _ _ _ run.items (plain x) (run.come going) (item_comes c.args.self.now c.loop-item.self _ c.loop-item.invariant.same run.cost.fetches.same_size x next);
             ends = refl;
           };
+      next = λ going. tt;
     }
 
 pub loop-item-preserved : goal.loop-item-preserved
@@ -141,6 +143,9 @@ returns-in-Err-clause-runs g c =
       follows = λ going.
           let next = rw c.in-Err.is at (leaves.follows (so_far.going going)) in
           record { behind = _; come = run.come going; ends = fault_comes c.args.self.now c.loop-item.self _ so_far.same run.cost.fetches.same_size f next };
+      next = λ going.
+          run_fetch c.loop-item.self _ f holds.same holds.spends.fetches.same_content holds.spends.fetches.same_size (rw c.in-Err.is at holds.places.current)
+          (rw c.in-Err.is at (holds.next (so_far.going going)));
     }
 
 pub returns-in-Ok-None-clause-runs : goal.returns-in-Ok-None-clause-runs
@@ -167,6 +172,7 @@ returns-in-Ok-None-clause-runs g c =
       follows = λ going.
           let next = rw (c.in-Ok-None.is, c.in-Ok-None.field-0-is) at (leaves.follows (c.loop-item.invariant.going going)) in
           record { behind = _; come = run.come going; ends = end_comes c.args.self.now c.loop-item.self _ c.loop-item.invariant.same run.cost.fetches.same_size next };
+      next = λ going. tt;
     }
 
 pub returns-in-Err-clause-good : goal.returns-in-Err-clause-good

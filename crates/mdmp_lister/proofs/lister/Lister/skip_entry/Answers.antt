@@ -9,10 +9,18 @@ pub returns-clause-skips : goal.returns-clause-skips
 returns-clause-skips g c =
     let w = c.self.inside.walk in
     let moved : is_for_good (stop_of w.stage) ≡ false → c.skip_entry.new.self ≡ record w { stage = Between } = search rules in
-    rw (← c.self.view_is) (λ going. rw (moved going) (search rules, refl, refl, refl))
+    rw (← c.self.view_is) (λ going. rw (moved going) (record { left = search rules; stop = refl; unread = refl; standing = refl }))
 
-pub returns-clause-rests : goal.returns-clause-rests
-returns-clause-rests g c = rw (← c.self.view_is) c.skip_entry.ensures.rests
+pub returns-clause-keeps : goal.returns-clause-keeps
+returns-clause-keeps g c = rw (← c.self.view_is) (record {
+  same = search rules;
+  source = search rules;
+  counts = search rules;
+  passed = search rules;
+  current = search rules;
+  ranges = refl;
+  rests = c.skip_entry.ensures.rests;
+})
 
 pub invariant_of-self : goal.invariant_of-self
 invariant_of-self g c =

@@ -1,7 +1,7 @@
-use Rattle.std.proofs.Common.{◌+◌, ◌-◌, ◌≤◌, ◌∙◌, ap, sym, subst, arith, take, drop, vec_len, vec_capacity}
+use Rattle.std.proofs.Common.{◌≡◌, ◌+◌, ◌-◌, ◌≤◌, ◌∙◌, ap, sym, subst, arith, length, max, take, drop, vec_len, vec_capacity}
 use Rattle.std.specs.Prelude.{OnErr, Result, Ok, Err}
 use Rattle.std.specs.Vec.{with_items}
-use Rattle.mdmp_source.specs.Window.{IsFilled, WindowState, next_len_of}
+use Rattle.mdmp_source.specs.Window.{IsFilled, WindowState, next_len_of, touched_after}
 use Rattle.mdmp_source.proofs.Held.{is_filled, is_kept, length-held, window_of, written_behind}
 use borrow.Rule.Slice.PartMut.{put_mid}
 use Rattle.mdmp_source.proofs.window.Window.fill.Goals as goal
@@ -25,8 +25,13 @@ returns-in_err-fetch-clause-err g c =
     let written = written_behind long.new.buffer c.deref_mut.result.now c.fetch.new.out held w.len count n
     c.deref_mut.ensures.value (omega arith) c.fetch.auto.out kept fits in
     let room = long.ensures.capacity ∙ moved.ensures.capacity in
+    let touched : vec_len long.new.buffer ≡ max (vec_len w.buffer) (length held + next_len_of (window_of w.place w.end (vec_capacity w.buffer) (vec_len w.buffer) held)) =
+    rw (← next, held_len) (long.ensures.len ∙ ap (λ n. max n (w.len + count)) moved.ensures.len) in
     on_err c.from_residual.result
-    (is_kept w.place w.end (vec_capacity long.new.buffer) w.len count held c.fetch.new.out _ written ∙ ap (λ n. window_of w.place w.end n held) room ∙ c.self.view_is)
+    (is_kept w.place w.end (vec_capacity long.new.buffer) (vec_len long.new.buffer) w.len count held c.fetch.new.out _ written
+    ∙ ap (λ n. window_of w.place w.end n (vec_len long.new.buffer) held) room
+    ∙ ap (λ n. window_of w.place w.end (vec_capacity w.buffer) n held) touched
+    ∙ ap touched_after c.self.view_is)
 
 pub returns-clause-filled : goal.returns-clause-filled
 returns-clause-filled g c =
@@ -44,7 +49,9 @@ returns-clause-filled g c =
     let written = written_behind long.new.buffer c.deref_mut.result.now c.fetch.new.out held w.len count n
     c.deref_mut.ensures.value (omega arith) c.fetch.auto.out kept fits in
     let room = long.ensures.capacity ∙ moved.ensures.capacity in
-    let filled = is_filled content w.place w.end (vec_capacity w.buffer) w.len count held c.fetch.new.out _ written held_len next c.in_ok-fetch.ensures.bytes in
+    let touched : vec_len long.new.buffer ≡ max (vec_len w.buffer) (w.len + count) = long.ensures.len ∙ ap (λ n. max n (w.len + count)) moved.ensures.len in
+    let filled = is_filled content w.place w.end (vec_capacity w.buffer) (vec_len w.buffer) w.len count held c.fetch.new.out _ written held_len next c.in_ok-fetch.ensures.bytes in
     let items = (with_items long.new.buffer (put_mid w.len n c.deref_mut.result.now c.fetch.new.out)).items in
-    subst (λ (old : WindowState). IsFilled content old (window_of w.place w.end (vec_capacity long.new.buffer) (take (w.len + count) items))) c.self.view_is
-    (subst (λ n. IsFilled content (window_of w.place w.end (vec_capacity w.buffer) held) (window_of w.place w.end n (take (w.len + count) items))) (sym room) filled)
+    subst (λ (old : WindowState). IsFilled content old (window_of w.place w.end (vec_capacity long.new.buffer) (vec_len long.new.buffer) (take (w.len + count) items))) c.self.view_is
+    (subst (λ n. IsFilled content (window_of w.place w.end (vec_capacity w.buffer) (vec_len w.buffer) held) (window_of w.place w.end n (vec_len long.new.buffer) (take (w.len + count) items))) (sym room)
+    (subst (λ n. IsFilled content (window_of w.place w.end (vec_capacity w.buffer) (vec_len w.buffer) held) (window_of w.place w.end (vec_capacity w.buffer) n (take (w.len + count) items))) (sym touched) filled))
