@@ -15,7 +15,7 @@ use Rattle.mdmp_c.specs.ToolFault.{copy_answer}
 pub IsCopyTold-of : (Z : Type 0) (F : List ℕ) (size : ℕ) (types given : List ℕ) (plain : PlainLimits) (limits : Limits) (content : Option (List ℕ)) (before after : OutState) (bytes : List ℕ)
     (answer : Result ℕ ToolFault) (told : PlainFault) → content ≡ Some F → size ≡ length F → given ≡ types → AreGiven plain limits → before.taken ≡ Some [] → after.taken ≡ Some bytes
     → IsNoSourceFault answer → told ≡ copy_answer answer → Copies Z content size given limits.name before answer after
-    → TellsCopyBudget Z given limits.budget content answer → TellsCopyMemory limits content answer → IsCopyTold Z F types plain told bytes
+    → TellsCopyBudget Z given limits.budget limits.window content answer → TellsCopyMemory limits content answer → IsCopyTold Z F types plain told bytes
 IsCopyTold-of Z F size types given plain limits content before after bytes answer told known sized same fits none wrote good is copies budget memory = record {
   limits = limits;
   given = fits;
@@ -32,7 +32,7 @@ IsCopyTold-of Z F size types given plain limits content before after bytes answe
       (subst (λ (c : Option (List ℕ)). Copies Z c size given limits.name before answer after) known copies)));
   good = good;
   budget =
-      subst (λ (ts : List ℕ). TellsCopyBudget Z ts limits.budget (Some F) answer) same
-      (subst (λ (c : Option (List ℕ)). TellsCopyBudget Z given limits.budget c answer) known budget);
+      subst (λ (ts : List ℕ). TellsCopyBudget Z ts limits.budget limits.window (Some F) answer) same
+      (subst (λ (c : Option (List ℕ)). TellsCopyBudget Z given limits.budget limits.window c answer) known budget);
   memory = subst (λ (c : Option (List ℕ)). TellsCopyMemory limits c answer) known memory;
 }

@@ -26,8 +26,8 @@ pub record IsCopyTold (Z : Type 0) (F : List ℕ) (types : List ℕ) (plain : Pl
   pub after : OutState
   pub wrote : after.taken ≡ Some bytes
   pub copies : Copies Z (Some F) (length F) types plain.name before answer after
-  -- a limit is told only if there is one, and it was reached
-  pub budget : TellsCopyBudget Z types limits.budget (Some F) answer
+  -- a limit is told only if there is one, and it was reached: the budget of what it has no room for, or of how much a copy needs
+  pub budget : TellsCopyBudget Z types limits.budget limits.window (Some F) answer
   pub memory : TellsCopyMemory limits (Some F) answer
   -- the store is memory, which does not fail
   pub good : IsNoSourceFault answer

@@ -1,5 +1,5 @@
 -- Budgets of an opening, and the faults that tell them.
-use Rattle.std.proofs.Common.{◌≡◌, ◌≤◌, ℕ, Option, Some, None, false, arith, refl}
+use Rattle.std.proofs.Common.{◌≡◌, ◌≤◌, ◌∙◌, ◌+◌, ℕ, Bool, List, Ok, Option, Some, None, false, true, if◌then◌else◌, ap, arith, refl, subst, sym}
 use Rattle.std.proofs.lemmas.Bool.Decides.{nat_tests}
 use Rattle.std.specs.Prelude.{IsTrue}
 use Rattle.mdmp_source.specs.declared.fault.SourceFault.{SourceFault}
@@ -7,11 +7,15 @@ use Rattle.mdmp_lister.specs.declared.fault.FaultKind.{FaultKind}
 use Rattle.mdmp_lister.specs.declared.fault.FaultKind.TheVariants as kinds
 use Rattle.mdmp_lister.specs.declared.fault.OpenFault.TheVariants as opening
 use Rattle.mdmp_lister.specs.Fault.{IsUnobtained}
+use Rattle.mdmp_lister.specs.Format.Listing.{Numbered}
+use Rattle.mdmp_lister.specs.Format.Shape.{record_count}
+use Rattle.mdmp_wire.specs.declared.entry.Entry.{Entry}
 use Rattle.mdmp_lister.specs.Meter.{KeepsTo, is_passed}
 use Rattle.mdmp_dump.specs.declared.fault.ReadFault.{ReadFault}
 use Rattle.mdmp_dump.specs.declared.fault.ReadFault.TheVariants as faults
 use Rattle.mdmp_dump.specs.FileRefusal.{IsOfOpening, IsOfWalk}
-use Rattle.mdmp_dump.specs.FileView.{IsShortAt}
+use Rattle.mdmp_dump.specs.EntryWalk.{listed, pass_cost}
+use Rattle.mdmp_dump.specs.FileView.{IsShortAt, TellsStream, count_in, pass_cost_in}
 use Rattle.mdmp_dump.specs.Reading.{IsOwn, IsWanting, store_fault_in}
 
 -- what is within a budget is so with less
@@ -28,6 +32,39 @@ over_more (Some most) m n more over = grind (arith, nat_tests, more, over)
 pub over_walk : (budget : Option ℕ) (bound : ℕ) (fault : ReadFault) → IsOfWalk fault → IsShortAt budget bound fault
 over_walk budget bound (faults.Opening fault) of_walk = absurd of_walk
 over_walk budget bound fault of_walk = tt
+
+-- where the first stream is that has no room
+pub place_walk : (budget : Option ℕ) (before : ℕ) (F : List ℕ) (x : Numbered) (fault : ReadFault) → IsOfWalk fault → TellsStream budget before F x fault
+place_walk budget before F x (faults.Opening fault) of_walk = absurd of_walk
+place_walk budget before F x fault of_walk = tt
+
+own_size : (e : Entry) → pass_cost e 0 ≡ listed e
+own_size e = omega arith
+
+-- its own bytes have none
+pub place_own : (budget : Option ℕ) (before : ℕ) (F : List ℕ) (x : Numbered) (e : Entry) (fault : ReadFault) → e ≡ x.entry → fault ≡ faults.Opening (opening.Budget e.location.rva (pass_cost e 0))
+    → IsTrue (is_passed budget (before + pass_cost e 0)) → TellsStream budget before F x fault
+place_own budget before F x e fault same is over =
+    let own : pass_cost e 0 ≡ listed x.entry = own_size e ∙ ap (λ (y : Entry). listed y) same in
+    let passes : is_passed budget (before + listed x.entry) ≡ true = subst (λ (n : ℕ). is_passed budget (before + n) ≡ true) own over in
+    rw is (record {
+      offset_is = ap (λ (y : Entry). y.location.rva) same;
+      size_is = own ∙ ap (λ (b : Bool). if b then listed x.entry else pass_cost_in F x) (sym passes);
+      passes = over;
+    })
+
+-- they have, but a pass over its records has none
+pub place_pass : (budget : Option ℕ) (before : ℕ) (F : List ℕ) (x : Numbered) (e : Entry) (count : ℕ) (fault : ReadFault) → e ≡ x.entry → record_count F x.entry ≡ Ok count
+    → KeepsTo budget (before + pass_cost e 0) → fault ≡ faults.Opening (opening.Budget e.location.rva (pass_cost e count)) → IsTrue (is_passed budget (before + pass_cost e count)) → TellsStream budget before F x fault
+place_pass budget before F x e count fault same counted kept is over =
+    let own : pass_cost e 0 ≡ listed x.entry = own_size e ∙ ap (λ (y : Entry). listed y) same in
+    let keeps : is_passed budget (before + listed x.entry) ≡ false = subst (λ (n : ℕ). is_passed budget (before + n) ≡ false) own kept in
+    let whole : pass_cost e count ≡ pass_cost_in F x = ap (λ (y : Entry). pass_cost y count) same ∙ ap (λ r. pass_cost x.entry (count_in r)) (sym counted) in
+    rw is (record {
+      offset_is = ap (λ (y : Entry). y.location.rva) same;
+      size_is = whole ∙ ap (λ (b : Bool). if b then listed x.entry else pass_cost_in F x) (sym keeps);
+      passes = over;
+    })
 
 pub walk_opens : (budget : Option ℕ) (fault : ReadFault) → IsOfWalk fault → IsOfOpening budget fault
 walk_opens budget (faults.Opening fault) of_walk = absurd of_walk

@@ -1,5 +1,5 @@
 -- What the passes over the streams of a file cost.
-use Rattle.std.proofs.Common.{◌≡◌, ◌∙◌, ◌<◌, ◌≤◌, ◌+◌, ◌*◌, ◌++◌, ℕ, Option, None, Some, suc, List, [], ◌∷◌, Ok, ap, arith, false, inl, inr, is_some, length, map, refl, sum, sym, true}
+use Rattle.std.proofs.Common.{◌≡◌, ◌∙◌, ◌<◌, ◌≤◌, ◌+◌, ◌*◌, ◌++◌, ℕ, Option, None, Some, suc, List, [], ◌∷◌, Ok, ap, arith, false, inl, inr, is_some, length, map, refl, sum, sym, take, true}
 use Rattle.std.proofs.Math.Nat.{mul-le-mul_right}
 use Rattle.std.proofs.lemmas.List.Sums.{sum_by-cons}
 use Rattle.std.proofs.lemmas.Grind.{common_steps}
@@ -93,6 +93,16 @@ module _ (F : List ℕ) where
       λ i. head i ∷ rest i
   costs_are [] (n ∷ ns) same counted = absurd (omega (arith, same))
   costs_are (x ∷ xs) [] same counted = absurd (omega (arith, same))
+
+  -- so do the first of them
+  pub costs_first : (xs : List Numbered) (ns : List ℕ) → length ns ≤ length xs → ((k : ℕ) → k < length ns → record_count F (get_or xs k no_entry).entry ≡ Ok (get_or ns k 0)) → costs_in xs ns ≡ map (pass_cost_in F) (take (length ns) xs)
+  unfolding costs_in
+  costs_first xs [] few counted = none_cost xs
+  costs_first [] (n ∷ ns) few counted = absurd (omega (arith, few))
+  costs_first (x ∷ xs) (n ∷ ns) few counted =
+      let head : pass_cost x.entry n ≡ pass_cost_in F x = ap (λ r. pass_cost x.entry (count_in r)) (sym (counted 0 (omega arith))) in
+      let rest : costs_in xs ns ≡ map (pass_cost_in F) (take (length ns) xs) = costs_first xs ns (omega (arith, few)) (λ k inside. counted (suc k) (omega (arith, inside))) in
+      λ i. head i ∷ rest i
 
   -- those that were reached cost no more: of each stream no more records than it has
   pub costs_most : (xs : List Numbered) (ns : List ℕ) → ((k : ℕ) → k < length ns → get_or ns k 0 ≤ count_in (record_count F (get_or xs k no_entry).entry)) → sum (costs_in xs ns) ≤ sum (map (pass_cost_in F) xs)

@@ -19,7 +19,12 @@ use Rattle.mdmp_lister.specs.Opening.{IsBareRefusal, IsDirectoryRefusal, IsOpenR
 use Rattle.std.proofs.lemmas.Bool.Decides.{nat_tests}
 use Rattle.mdmp_lister.specs.Format.Bounds.{held_bound}
 use Rattle.mdmp_lister.specs.Memory.{IsWalkRefusal, TellsWalkMemory, is_within, memory_fault, walk_fault}
-use Rattle.mdmp_dump.specs.Opening.{FetchesWithin, IsLimited, IsNameless, IsShortOf, copy_fault, copy_held, half_of, opening_bound}
+use Rattle.mdmp_dump.specs.FileView.{IsShortAt}
+use Rattle.mdmp_dump.specs.Opening.{EndsOpening, FetchesWithin, IsLimited, IsNameless, TellsOpeningEnd, copy_fault, copy_held, half_of, opening_bound}
+use Rattle.mdmp_lister.specs.Meter.{KeepsTo, is_passed}
+use Rattle.mdmp_lister.specs.NextFetch.{IsDirectoryFetch, IsOpeningFetch, TellsNextOpening}
+use Rattle.mdmp_wire.specs.declared.header.Header.{Header}
+use Rattle.std.proofs.lemmas.Option.{none-some}
 use Rattle.mdmp_dump.proofs.Budgets.{over_more}
 use Rattle.mdmp_lister.specs.declared.limits.Limits.{Limits}
 use Rattle.mdmp_dump.specs.FileRefusal.{view_refusal}
@@ -170,13 +175,31 @@ kept_fetches limits old fault new kept most is =
     omega (arith, ltb-false most kept.fetched within, kept.spent)
 
 pub opening_short : (limits : Limits) (old : SourceState) (fault : OpenFault) (new : SourceState) → KeepsToBudget limits old fault new → (F : List ℕ) (choice : Choice) → old.store.content ≡ Some F
-    → IsShortOf limits.budget F choice (refusal_of (copy_fault fault))
+    → IsShortAt limits.budget (opening_bound F choice + 16 * entry_count F) (refusal_of (copy_fault fault))
 opening_short limits old (opening.Budget offset size) new kept F choice known =
     let over = kept.over in
     over_more limits.budget (raised kept.fetched size) (opening_bound F choice + 16 * entry_count F) (omega (arith, over.bound, over.known F known)) over.passes
 opening_short limits old opening.Memory new kept F choice known = tt
 opening_short limits old (opening.MemoryLimit held) new kept F choice known = tt
 opening_short limits old fault new kept F choice known = tt
+
+-- the header's fetch was not made, or one of the directory
+head_ends : (limits : Limits) (old : SourceState) (fetched offset size : ℕ) (F : List ℕ) (choice : Choice) → old.store.content ≡ Some F → KeepsTo limits.budget fetched → IsTrue (is_passed limits.budget (raised fetched size))
+    → IsOpeningFetch None limits.window old fetched offset size → EndsOpening limits.budget limits.window F choice offset size
+head_ends limits old fetched offset size F choice known kept passes (IsOpeningFetch.of_header none at few) =
+    let all : raised fetched size ≡ 32 = omega (arith, none, few) in
+    EndsOpening.at_header at few (subst (λ (n : ℕ). IsTrue (is_passed limits.budget n)) all passes)
+head_ends limits old fetched offset size F choice known kept passes (IsOpeningFetch.of_directory header read fetch) =
+    let of = read.of_file F known in
+    EndsOpening.at_directory of.0 fetched (subst (λ (h : Header). IsDirectoryFetch limits.window h fetched offset size) of.1 fetch) kept passes
+head_ends limits old fetched offset size F choice known kept passes (IsOpeningFetch.of_head header read entries all of is fetch) = absurd (none-some of is)
+
+pub opening_ends : (limits : Limits) (old : SourceState) (fault : OpenFault) (new : SourceState) → TellsNextOpening None limits old fault new → (F : List ℕ) (choice : Choice) → old.store.content ≡ Some F
+    → TellsOpeningEnd limits.budget limits.window F choice (refusal_of (copy_fault fault))
+opening_ends limits old (opening.Budget offset size) new next F choice known = head_ends limits old next.fetched offset size F choice known next.kept next.passes next.next
+opening_ends limits old opening.Memory new next F choice known = tt
+opening_ends limits old (opening.MemoryLimit held) new next F choice known = tt
+opening_ends limits old fault new next F choice known = tt
 
 -- of which a fault of the store is told as such
 pub opening-fetches : {T : Type 0} (n : ℕ) (fault : OpenFault) (old new : SourceState) → FetchesAtMost n old new → IsUnreadFor fault old new

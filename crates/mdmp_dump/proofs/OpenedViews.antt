@@ -17,10 +17,10 @@ use Rattle.mdmp_dump.specs.declared.fault.ReadFault.{ReadFault}
 use Rattle.mdmp_dump.specs.declared.fault.ReadFault.TheVariants as faults
 use Rattle.mdmp_dump.specs.EntryWalk.{IsOpenedWalk, LiesInside, MayCount, WalkState, chosen_entry, kind_by, no_entry}
 use Rattle.mdmp_dump.specs.FileRefusal.{IsOfOpening, run_told, view_refusal}
-use Rattle.mdmp_dump.specs.FileView.{AreBare, AreCounted, AreWalked, IsShortAt, IsViewPaid, IsView, IsViewed, KeepsAll, PaysAll, PaysSome, asks_in, costs_in, file_shape, inside_cost_in, kind_at, opening_cost, pass_cost_in, room_told, shape_by}
+use Rattle.mdmp_dump.specs.FileView.{AreBare, AreCounted, AreWalked, IsShortAt, IsViewPaid, IsView, IsViewed, KeepsAll, PaysAll, PaysSome, TellsFirst, asks_in, costs_in, file_shape, inside_cost_in, kind_at, opening_cost, pass_cost_in, room_told, shape_by}
 use Rattle.mdmp_dump.specs.InFile.{dump_in, stream_named}
 use Rattle.mdmp_dump.specs.Left.{run_of}
-use Rattle.mdmp_dump.specs.Opening.{HasSpentOpening, IsLimited, IsShortOf, copy_bound, opening_bound}
+use Rattle.mdmp_dump.specs.Opening.{EndsOpening, HasSpentOpening, IsLimited, TellsOpeningEnd, copy_bound, opening_bound}
 use Rattle.mdmp_dump.specs.Shape.{GivesNone, IsViewOf}
 use Rattle.mdmp_dump.proofs.Budgets.{over_tells}
 use Rattle.mdmp_dump.proofs.Costs.{costs_are}
@@ -235,13 +235,26 @@ module _ (source : SourceState) (window : ℕ) (choice : Choice) (w v : WalkStat
           ]
     ]
 
--- a budget that ends the walk has no room for what the opening may fetch
+-- a budget that ends the walk has no room for what the opening may fetch, and tells the first stream that it has no room for
 pub walk_short : (source : SourceState) (window : ℕ) (choice : Choice) (w : WalkState) → IsOpenedWalk source window choice w → (budget : Option ℕ) (F : List ℕ) → source.store.content ≡ Some F → (fault : ReadFault)
-    → IsShortAt budget (32 + 12 * w.header.number_of_streams + sum (map (pass_cost_in F) w.chosen)) fault → IsShortOf budget F choice fault
+    → IsShortAt budget (32 + 12 * w.header.number_of_streams + sum (map (pass_cost_in F) w.chosen)) fault → IsShortAt budget (opening_bound F choice + 16 * entry_count F) fault
 walk_short source window choice w opened budget F known fault over =
     let entries : w.header.number_of_streams ≡ entry_count F = ap (λ h. h.number_of_streams) (opened.header_is F known) in
     let passes : sum (map (pass_cost_in F) w.chosen) ≡ sum (map (pass_cost_in F) (chosen F choice)) = ap (λ (xs : List Numbered). sum (map (pass_cost_in F) xs)) (opened.chosen_are F known) in
     over_tells budget (32 + 12 * w.header.number_of_streams + sum (map (pass_cost_in F) w.chosen)) (opening_bound F choice + 16 * entry_count F) fault (omega (arith, entries, passes)) over
+
+first_ends : (budget : Option ℕ) (window : ℕ) (F : List ℕ) (choice : Choice) (fault : ReadFault) → directory_refusal F ≡ None → TellsFirst budget F (entry_count F) (chosen F choice) fault
+    → TellsOpeningEnd budget window F choice fault
+first_ends budget window F choice (faults.Opening (opening.Budget offset size)) opens first = EndsOpening.at_stream opens first
+first_ends budget window F choice fault opens first = tt
+
+pub walk_ends : (source : SourceState) (window : ℕ) (choice : Choice) (w : WalkState) → IsOpenedWalk source window choice w → (budget : Option ℕ) (F : List ℕ) → source.store.content ≡ Some F → directory_refusal F ≡ None
+    → (fault : ReadFault) → TellsFirst budget F w.header.number_of_streams w.chosen fault → TellsOpeningEnd budget window F choice fault
+walk_ends source window choice w opened budget F known opens fault first =
+    let entries : w.header.number_of_streams ≡ entry_count F = ap (λ h. h.number_of_streams) (opened.header_is F known) in
+    first_ends budget window F choice fault opens
+    (subst (λ (xs : List Numbered). TellsFirst budget F (entry_count F) xs fault) (opened.chosen_are F known)
+    (subst (λ (n : ℕ). TellsFirst budget F n w.chosen fault) entries first))
 
 -- the limit of memory is not told of a walk
 pub walk_limited : (limits : Limits) (content : Option (List ℕ)) (budget : Option ℕ) (fault : ReadFault) → IsOfOpening budget fault → IsLimited limits content fault

@@ -21,7 +21,7 @@ use Rattle.mdmp_dump.specs.declared.view.Kind.TheVariants.{Known}
 use Rattle.mdmp_dump.specs.EntryWalk.{Begins, FindsRow, GivesNext, IsSameWalk, LiesInside, MayCount, Pays, WalkState, chosen_entry, kind_by, listed, name_cost, no_entry, pass_cost, raw_part}
 use Rattle.mdmp_dump.specs.FileRefusal.{body_told, entry_told, run_told}
 use Rattle.mdmp_dump.specs.Left.{run_of}
-use Rattle.mdmp_dump.specs.FileView.{AreBare, AreCounted, AreInside, AreWalked, HasWalked, IsShortAt, KeepsAll, KeepsUpTo, PaysAll, PaysSome, PaysUpTo, costs_in, count_in, kind_at, opening_cost, pass_cost_in, room_told, stream_asks, stream_of}
+use Rattle.mdmp_dump.specs.FileView.{AreBare, AreCounted, AreInside, AreWalked, HasWalked, IsShortAt, IsStreamOver, KeepsAll, KeepsUpTo, PaysAll, PaysSome, PaysUpTo, TellsFirst, TellsStream, cost_before, costs_in, count_in, kind_at, opening_cost, pass_cost_in, room_told, stream_asks, stream_of}
 use Rattle.mdmp_dump.specs.FoundRecord.{fields_of}
 use Rattle.mdmp_dump.specs.InFile.{stream_named}
 use Rattle.mdmp_dump.specs.Placed.{far_room, fields_bytes, fields_room, size_in}
@@ -30,7 +30,7 @@ use Rattle.mdmp_dump.specs.Seen.{Seen, nothing_seen}
 use Rattle.mdmp_dump.specs.Shape.{GivesNone, all_bytes, parts_in, seen_record, told, type_told}
 use Rattle.mdmp_dump.specs.View.{kind_in, raw_in, records_seen}
 use Rattle.mdmp_dump.proofs.Budgets.{budget_wants, kept_less, over_tells, wanting_own}
-use Rattle.mdmp_dump.proofs.Costs.{costs_inside, costs_most, costs_push, may_listed, may_none}
+use Rattle.mdmp_dump.proofs.Costs.{costs_first, costs_inside, costs_most, costs_push, may_listed, may_none}
 use Rattle.mdmp_dump.proofs.Refusals.{count_refused, entry_begins, one_told, row_passed, row_refused, rows_passed}
 use Rattle.mdmp_dump.proofs.Taking.{FetchesSome_none, FetchesSome_then, fetches_err}
 use Rattle.mdmp_dump.proofs.Viewed.{raw_sized, records_are, rooms_all, rooms_none, rooms_step, row_seen}
@@ -291,6 +291,7 @@ pub record AreSummed (Z : Type 0) (budget : Option ℕ) (old now : WalkState) (c
   pub asks_few : asks < 2 ^ 128
   pub asks_are : (F : List ℕ) → old.source.store.content ≡ Some F → asks ≡ raised 0 (sum_by (λ (x : Numbered). stream_asks (stream_named {Z = Z} F x.entry)) (take k old.chosen))
   pub keeps : (now ≡ old) ⊎ KeepsTo budget (opening_cost old counts)
+  pub kept : 0 < k → KeepsTo budget (opening_cost old counts)
 
 bare_push : (kind : ℕ → Kind) (ns rs : List ℕ) (n r : ℕ) → length rs ≡ length ns → AreBare kind ns rs → (GivesNone (kind (length ns)) n → r ≡ 0) → AreBare kind (ns ++ n ∷ []) (rs ++ r ∷ [])
 bare_push kind [] [] n r same each last zero = last
@@ -341,6 +342,7 @@ all_summed Z budget old = record {
   asks_few = omega arith;
   asks_are = λ F known. refl;
   keeps = inl refl;
+  kept = λ some. absurd (omega (arith, some));
 }
 
 module _ (Z : Type 0) (limit : ℕ) (old : WalkState) where
@@ -483,7 +485,28 @@ module _ (Z : Type 0) (limit : ℕ) (old : WalkState) where
         (subst (λ (x : Numbered). n ≤ count_in (record_count F x.entry)) entry_here (omega arith))) in
         omega (arith, all, spent_more n)
 
+    -- what may be fetched of a known file before this stream
+    spent_file : (F : List ℕ) → old.source.store.content ≡ Some F → opening_cost old counts ≡ cost_before F old.header.number_of_streams old.chosen k
+    spent_file F known =
+        let firsts = costs_first F old.chosen counts (omega (arith, inside, walking.counted)) (walking.of_file F known).counted in
+        let sums : sum (costs_in old.chosen counts) ≡ sum (map (pass_cost_in F) (take k old.chosen)) =
+        ap sum firsts ∙ ap (λ (n : ℕ). sum (map (pass_cost_in F) (take n old.chosen))) walking.counted in
+        ap (λ (n : ℕ). 32 + 12 * old.header.number_of_streams + n) sums
+
     module _ (budget : Option ℕ) (costs asks : ℕ) (summed : AreSummed Z budget old now counts k costs asks) where
+      -- the budget has no room for it
+      pub one_place : (F : List ℕ) → old.source.store.content ≡ Some F → (fault : ReadFault) → TellsStream budget (opening_cost old counts) F (chosen_entry now k) fault
+          → TellsFirst budget F old.header.number_of_streams old.chosen fault
+      one_place F known (faults.Opening (opening.Budget offset size)) over = record {
+        stream = k;
+        within = inside;
+        kept = λ some. subst (KeepsTo budget) (spent_file F known) (summed.kept some);
+        over =
+            subst (λ (n : ℕ). IsStreamOver budget n F (get_or old.chosen k no_entry) offset size) (spent_file F known)
+            (subst (λ (x : Numbered). IsStreamOver budget (opening_cost old counts) F x offset size) entry_now over);
+      }
+      one_place F known fault over = tt
+
       -- one stream more was walked over
       pub one_summed : (n cost more : ℕ) → cost ≡ pass_cost (chosen_entry now k).entry n → cost ≤ 2 ^ 64 → KeepsTo budget (opening_cost old counts + pass_cost (chosen_entry now k).entry n)
           → ((F : List ℕ) → now.source.store.content ≡ Some F → more ≡ stream_asks (stream_of {Z = Z} F now k)) → (counts_new : List ℕ) → counts_new ≡ counts ++ n ∷ []
@@ -502,6 +525,7 @@ module _ (Z : Type 0) (limit : ℕ) (old : WalkState) where
             let one : more ≡ f (get_or old.chosen k no_entry) = asks_of F (file_now F known) ∙ ap f entry_now in
             omega (arith, taken, one, sum_is, summed.asks_are F known);
         keeps = inr (subst (KeepsTo budget) (sym (ap (opening_cost old) pushed ∙ spent_more n)) kept);
+        kept = λ some. subst (KeepsTo budget) (sym (ap (opening_cost old) pushed ∙ spent_more n)) kept;
       }
 
       -- or it was not

@@ -295,6 +295,36 @@ abbrev pub IsShortAt : Option ℕ → ℕ → ReadFault → Type 0
 IsShortAt budget bound (faults.Opening (opening.Budget offset size)) = IsTrue (is_passed budget bound)
 IsShortAt budget bound fault = Unit {0}
 
+-- what is told of a stream of F, if so many bytes may be fetched before it: its own size, if the budget has no room for those, and else
+-- what a pass over it costs
+abbrev pub size_told : Option ℕ → ℕ → List ℕ → Numbered → ℕ
+size_told budget before F x = if is_passed budget (before + listed x.entry) then listed x.entry else pass_cost_in F x
+
+-- the budget has no room for this stream of F: it is told where it stands, and how much would pass the budget
+pub record IsStreamOver (budget : Option ℕ) (before : ℕ) (F : List ℕ) (x : Numbered) (offset size : ℕ) : Type 0 where
+  pub offset_is : offset ≡ x.entry.location.rva
+  pub size_is : size ≡ size_told budget before F x
+  pub passes : IsTrue (is_passed budget (before + size))
+
+abbrev pub TellsStream : Option ℕ → ℕ → List ℕ → Numbered → ReadFault → Type 0
+TellsStream budget before F x (faults.Opening (opening.Budget offset size)) = IsStreamOver budget before F x offset size
+TellsStream budget before F x fault = Unit {0}
+
+-- what may be fetched for a directory of so many entries, and a pass over each of the first k of these streams of F
+abbrev pub cost_before : List ℕ → (entries : ℕ) → List Numbered → ℕ → ℕ
+cost_before F entries xs k = 32 + 12 * entries + sum (map (pass_cost_in F) (take k xs))
+
+-- it is the first of these streams that the budget has no room for
+pub record IsFirstOver (budget : Option ℕ) (F : List ℕ) (entries : ℕ) (xs : List Numbered) (offset size : ℕ) : Type 0 where
+  pub stream : ℕ
+  pub within : stream < length xs
+  pub kept : 0 < stream → KeepsTo budget (cost_before F entries xs stream)
+  pub over : IsStreamOver budget (cost_before F entries xs stream) F (get_or xs stream no_entry) offset size
+
+abbrev pub TellsFirst : Option ℕ → List ℕ → (entries : ℕ) → List Numbered → ReadFault → Type 0
+TellsFirst budget F entries xs (faults.Opening (opening.Budget offset size)) = IsFirstOver budget F entries xs offset size
+TellsFirst budget F entries xs fault = Unit {0}
+
 -- each of the streams of a walk over a file of z bytes has as many records as what was read of its head counts
 abbrev pub AreCounted : ℕ → WalkState → List ℕ → Type 0
 AreCounted z w counts = (k : ℕ) → k < length counts → MayCount z (chosen_entry w k).entry (get_or counts k 0)

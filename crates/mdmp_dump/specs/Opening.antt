@@ -1,5 +1,5 @@
 -- A view of a file as those see it who open it.
-use Rattle.std.specs.Prelude.{◌≡◌, ◌≤◌, ◌+◌, ◌*◌, ◌/◌, ℕ, List, Option, None, Some, false, true, length, map, sum, vec_capacity}
+use Rattle.std.specs.Prelude.{◌≡◌, ◌≤◌, ◌+◌, ◌*◌, ◌/◌, ℕ, IsTrue, List, Option, None, Some, false, true, length, map, sum, vec_capacity}
 use Rattle.mdmp_source.specs.Count.{raised}
 use Rattle.mdmp_source.specs.Source.{SourceState, FetchesSome}
 use Rattle.mdmp_source.specs.declared.store.Store.{Ghosts}
@@ -10,10 +10,13 @@ use Rattle.mdmp_lister.specs.declared.limits.Limits.{Limits}
 use Rattle.mdmp_lister.specs.Format.Listing.{Numbered, chosen, entry_count}
 use Rattle.mdmp_lister.specs.Format.Refusal.{directory_refusal}
 use Rattle.mdmp_lister.specs.Memory.{is_within}
+use Rattle.mdmp_lister.specs.Meter.{KeepsTo, is_passed}
+use Rattle.mdmp_lister.specs.NextFetch.{IsDirectoryFetch}
+use Rattle.mdmp_wire.specs.Header.{header_at}
 use Rattle.mdmp_dump.specs.declared.file_view.FileView.{FileView}
 use Rattle.mdmp_dump.specs.declared.fault.ReadFault.{ReadFault}
 use Rattle.mdmp_dump.specs.declared.fault.ReadFault.TheVariants as faults
-use Rattle.mdmp_dump.specs.FileView.{AreCounted, AreInside, IsShortAt, asks_in, costs_in, inside_cost_in, opening_cost, pass_cost_in}
+use Rattle.mdmp_dump.specs.FileView.{AreCounted, AreInside, IsFirstOver, IsShortAt, asks_in, costs_in, inside_cost_in, opening_cost, pass_cost_in}
 
 -- ---- what a known file costs
 
@@ -64,10 +67,23 @@ IsLimited limits content (faults.Opening (opening.MemoryLimit held)) =
     (is_within limits.memory held ≡ false) × ((file : List ℕ) → content ≡ Some file → (directory_refusal file ≡ None) × (held ≡ copy_held limits.window (entry_count file)))
 IsLimited limits content fault = Unit {0}
 
+-- where a budget ends the opening of a view of F: at the header; at the directory, of which the window takes so much next; or at the
+-- first stream that the budget has no room for
+pub data EndsOpening (budget : Option ℕ) (window : ℕ) (F : List ℕ) (choice : Choice) (offset size : ℕ) : Type 0 where
+  at_header : offset ≡ 0 → size ≡ 32 → IsTrue (is_passed budget 32) → EndsOpening budget window F choice offset size
+  at_directory : directory_refusal F ≡ None → (fetched : ℕ) → IsDirectoryFetch window (header_at F 0) fetched offset size → KeepsTo budget fetched
+      → IsTrue (is_passed budget (raised fetched size)) → EndsOpening budget window F choice offset size
+  at_stream : directory_refusal F ≡ None → IsFirstOver budget F (entry_count F) (chosen F choice) offset size → EndsOpening budget window F choice offset size
+
+abbrev pub TellsOpeningEnd : Option ℕ → (window : ℕ) → List ℕ → Choice → ReadFault → Type 0
+TellsOpeningEnd budget window F choice (faults.Opening (opening.Budget offset size)) = EndsOpening budget window F choice offset size
+TellsOpeningEnd budget window F choice fault = Unit {0}
+
 -- where a budget ends the opening of a view, it has less room than the opening may fetch; of the directory that is known with
--- 16 bytes more for each entry
-abbrev pub IsShortOf : Option ℕ → List ℕ → Choice → ReadFault → Type 0
-IsShortOf budget F choice fault = IsShortAt budget (opening_bound F choice + 16 * entry_count F) fault
+-- 16 bytes more for each entry. And it is told what it has no room for.
+pub record IsShortOf (budget : Option ℕ) (window : ℕ) (F : List ℕ) (choice : Choice) (fault : ReadFault) : Type 0 where
+  pub short : IsShortAt budget (opening_bound F choice + 16 * entry_count F) fault
+  pub place : TellsOpeningEnd budget window F choice fault
 
 -- ---- what a file costs that gives no view
 

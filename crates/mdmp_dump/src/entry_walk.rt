@@ -82,7 +82,7 @@ impl<S: Store + Drop, A: Allocator + Copy> EntryWalk<S, A> {
         ensures cause { IfErr result (λ refused. Fetches {T = Unit {0}} (Err refused.fault) source refused.source) }
         ensures refusal { IfErr result (λ refused. IsViewRefusal limits.budget source.size refused.fault) }
         ensures within { IfErr result (λ refused. FetchesWithin limits.budget source refused.source) }
-        ensures over { (file : List ℕ) → source.store.content ≡ Some file → IfErr result (λ refused. IsShortOf limits.budget file choice refused.fault) }
+        ensures over { (file : List ℕ) → source.store.content ≡ Some file → IfErr result (λ refused. IsShortOf limits.budget limits.window file choice refused.fault) }
         ensures limited { IfErr result (λ refused. IsLimited limits source.store.content refused.fault) }
         ensures short { source.size < 32 → MatchResult result (λ _. ⊥) (λ refused. refused.fault ≡ ReadFault.Opening (OpenFault.TooShort source.size)) }
         ensures spends { IfErr result (λ refused. HasSpentOpening choice source refused.source) }

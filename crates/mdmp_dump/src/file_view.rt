@@ -66,7 +66,7 @@ impl<S: Store + Drop, A: Allocator + Copy> FileView<S, A> {
         ensures cost { (file : List ℕ) → source.store.content ≡ Some file → IfOk result (λ view. opened_by view ≡ opening_bound file choice) }
         ensures needs { (file : List ℕ) → source.store.content ≡ Some file → IfOk result (λ view. needed_by view ≡ raised 0 (copy_bound A file choice)) }
         ensures kept { (most : ℕ) → limits.budget ≡ Some most → IfOk result (λ view. fetched_by view ≤ most) }
-        ensures over { (file : List ℕ) → source.store.content ≡ Some file → IfErr result (IsShortOf limits.budget file choice) }
+        ensures over { (file : List ℕ) → source.store.content ≡ Some file → IfErr result (IsShortOf limits.budget limits.window file choice) }
         ensures reliable { (file : List ℕ) → IsGood source.store file → IfOk result (λ view. IsTrue (⟦<FileView<S, A> as DumpView>⟧.shape view).is_reliable) }
         ensures tells { IfErr result (TellsOf source.store.content) }
         ensures limited { IfErr result (IsLimited limits source.store.content) }
@@ -97,7 +97,7 @@ impl<S: Store + Drop, A: Allocator + Copy> FileView<S, A> {
         ensures spends { IfErr result (λ refused. HasSpentOpening choice source refused.source) }
         ensures kept { (most : ℕ) → limits.budget ≡ Some most → IfOk result (λ view. fetched_by view ≤ most) }
         ensures within { IfErr result (λ refused. FetchesWithin limits.budget source refused.source) }
-        ensures over { (file : List ℕ) → source.store.content ≡ Some file → IfErr result (λ refused. IsShortOf limits.budget file choice refused.fault) }
+        ensures over { (file : List ℕ) → source.store.content ≡ Some file → IfErr result (λ refused. IsShortOf limits.budget limits.window file choice refused.fault) }
         ensures reliable { (file : List ℕ) → IsGood source.store file → IfOk result (λ view. IsTrue (⟦<FileView<S, A> as DumpView>⟧.shape view).is_reliable) }
         ensures tells { IfErr result (λ refused. TellsOf source.store.content refused.fault) }
         ensures limited { IfErr result (λ refused. IsLimited limits source.store.content refused.fault) }

@@ -3,7 +3,7 @@ ghost use Rattle.std.specs.Prelude.{◌≡◌, ◌≤◌, ◌<◌, ◌+◌, ◌*
 ghost use Rattle.mdmp_source.specs.Count.{raised};
 ghost use Rattle.mdmp_lister.specs.Meter.{KeepsTo, is_passed};
 ghost use Rattle.mdmp_dump.specs.EntryWalk.{MayCount, Pays, chosen_entry, listed, name_cost, pass_cost};
-ghost use Rattle.mdmp_dump.specs.FileView.{AreBare, AreCounted, AreWalked, HasWalked, IsShortAt, KeepsAll, KeepsUpTo, PaysAll, PaysSome, PaysUpTo, asks_in, costs_in, kind_at, pass_cost_in};
+ghost use Rattle.mdmp_dump.specs.FileView.{AreBare, AreCounted, AreWalked, HasWalked, IsShortAt, KeepsAll, KeepsUpTo, PaysAll, PaysSome, PaysUpTo, TellsFirst, TellsStream, asks_in, costs_in, kind_at, pass_cost_in};
 ghost use Rattle.mdmp_dump.specs.Shape.{GivesNone};
 ghost use Rattle.mdmp_dump.specs.FileRefusal.{IsOfOpening, run_told};
 ghost use Rattle.mdmp_dump.specs.Left.{run_of};
@@ -78,6 +78,7 @@ fn walk_stream<S: Store + Drop, A: Allocator + Copy>(
         (λ walked. KeepsTo spending.budget (spending.spent + pass_cost (chosen_entry walk.old stream).entry walked.count))
         (λ _. (walk.new ≡ walk.old) ⊎ KeepsUpTo spending.budget spending.spent stream walk.old walk.new) }
     ensures over { (file : List ℕ) → walk.old.source.store.content ≡ Some file → IfErr result (IsShortAt spending.budget (spending.spent + pass_cost_in file (chosen_entry walk.old stream))) }
+    ensures place { (file : List ℕ) → walk.old.source.store.content ≡ Some file → IfErr result (TellsStream spending.budget spending.spent file (chosen_entry walk.old stream)) }
     ensures of_file { (file : List ℕ) → walk.old.source.store.content ≡ Some file → HasWalked A file limit walk.old stream result }
     ensures fetches { Fetches result walk.old.source walk.new.source }
 {
@@ -146,6 +147,7 @@ pub(crate) fn walk_all<S: Store + Drop, A: Allocator + Copy>(
     ensures kept { (walk.new ≡ walk.old) ⊎ KeepsAll budget walk.old walk.new }
     ensures over { (file : List ℕ) → walk.old.source.store.content ≡ Some file
         → IfErr result (IsShortAt budget (32 + 12 * walk.old.header.number_of_streams + sum (map (pass_cost_in file) walk.old.chosen))) }
+    ensures place { (file : List ℕ) → walk.old.source.store.content ≡ Some file → IfErr result (TellsFirst budget file walk.old.header.number_of_streams walk.old.chosen) }
     ensures of_file { (file : List ℕ) → walk.old.source.store.content ≡ Some file
         → MatchResult result (λ kept. AreWalked A file limit walk.old kept.counts.items kept.rooms.items) (λ fault. (IsWanting fault → ⊥) → run_told file (run_of file limit walk.old.chosen) ≡ Some fault) }
     ensures fetches { Fetches result walk.old.source walk.new.source }

@@ -40,7 +40,7 @@ use Rattle.mdmp_writer.specs.Writing.{GoesOut}
 use Rattle.mdmp_tool.specs.declared.fault.ToolFault.{ToolFault}
 use Rattle.mdmp_tool.specs.declared.fault.ToolFault.TheVariants as tool
 use Rattle.mdmp_tool.specs.Causes.{HasOutCause, HasSourceCause, IsNoSourceFault, MayChange}
-use Rattle.mdmp_tool.specs.Copying.{Copies, EndsOf, IsCopy, IsCopyRefusal, IsDumpCopied, IsOfShape, IsOverCopy, IsQuietCopy, IsRefusedFirst, IsShapeCopied, IsToldByView, IsUnopened, IsWithinCopy, SpendsWithin, TellsCopyBudget, TellsCopyMemory, TellsNoBudget, first_not_copied, is_copied, refused_type}
+use Rattle.mdmp_tool.specs.Copying.{Copies, EndsOf, IsCopy, IsCopyRefusal, IsDumpCopied, IsOfShape, IsOverCopy, IsQuietCopy, IsRefusedFirst, IsShapeCopied, IsToldByView, IsUnopened, IsWithinCopy, SpendsWithin, TellsCopyBudget, TellsCopyMemory, TellsNoBudget, TellsPlace, first_not_copied, is_copied, refused_type}
 use Rattle.mdmp_tool.specs.Telling.{opening_told, reading_told, told_by}
 
 -- ---- the first type that is not copied
@@ -340,55 +340,56 @@ module _ (Z : Type 0) (content : Option (List ℕ)) (file_size : ℕ) (types : L
 
 -- ---- what is told of a budget
 
-module _ (Z : Type 0) (types : List ℕ) (budget : Option ℕ) (content : Option (List ℕ)) where
+module _ (Z : Type 0) (types : List ℕ) (budget : Option ℕ) (window : ℕ) (content : Option (List ℕ)) where
   -- none is
   abbrev IsPlain : Result ℕ ToolFault → Type 0
-  IsPlain answer = TellsNoBudget answer × IsOverCopy budget answer × ((all opened : ℕ) → IsWithinCopy budget all opened answer)
+  IsPlain answer = TellsNoBudget answer × IsOverCopy budget answer × ((all opened : ℕ) → IsWithinCopy budget all opened answer) × ((F : List ℕ) → TellsPlace budget window F types answer)
 
-  plain : (answer : Result ℕ ToolFault) → IsPlain answer → TellsCopyBudget Z types budget content answer
-  plain answer is = record { unlimited = λ none. is.0; over = is.1; of_file = λ F known. is.2 (copy_bound Z F (Types types)) (opening_bound F (Types types) + 16 * entry_count F) }
+  plain : (answer : Result ℕ ToolFault) → IsPlain answer → TellsCopyBudget Z types budget window content answer
+  plain answer is = record { unlimited = λ none. is.0; over = is.1; of_file = λ F known. is.2 (copy_bound Z F (Types types)) (opening_bound F (Types types) + 16 * entry_count F); place = λ F known. is.3 F }
 
-  pub budget_unread : (t : ℕ) → TellsCopyBudget Z types budget content (Err (tool.NotCopied t))
-  budget_unread t = plain (Err (tool.NotCopied t)) (tt, tt, λ all opened. tt)
+  pub budget_unread : (t : ℕ) → TellsCopyBudget Z types budget window content (Err (tool.NotCopied t))
+  budget_unread t = plain (Err (tool.NotCopied t)) (tt, tt, λ all opened. tt, λ F. tt)
 
   module _ (size : ℕ) where
-    budget_opened : (fault : OpenFault) → IsViewRefusal budget size (reads.Opening fault) → ((F : List ℕ) → content ≡ Some F → IsShortOf budget F (Types types) (reads.Opening fault))
-        → TellsCopyBudget Z types budget content (Err (opening_told fault))
-    budget_opened (opening.Budget offset len) refusal short = record { unlimited = refusal.0; over = tt; of_file = short }
-    budget_opened (opening.Source f) refusal short = plain (Err (tool.Source f)) (tt, tt, λ all opened. tt)
-    budget_opened opening.Memory refusal short = plain (Err tool.Memory) (tt, tt, λ all opened. tt)
-    budget_opened (opening.MemoryLimit held) refusal short = plain (Err (tool.MemoryLimit held)) (tt, tt, λ all opened. tt)
-    budget_opened fault refusal short = plain (Err (tool.Opening fault)) (tt, tt, λ all opened. tt)
+    budget_opened : (fault : OpenFault) → IsViewRefusal budget size (reads.Opening fault) → ((F : List ℕ) → content ≡ Some F → IsShortOf budget window F (Types types) (reads.Opening fault))
+        → TellsCopyBudget Z types budget window content (Err (opening_told fault))
+    budget_opened (opening.Budget offset len) refusal short = record { unlimited = refusal.0; over = tt; of_file = λ F known. (short F known).short; place = λ F known. (short F known).place }
+    budget_opened (opening.Source f) refusal short = plain (Err (tool.Source f)) (tt, tt, λ all opened. tt, λ F. tt)
+    budget_opened opening.Memory refusal short = plain (Err tool.Memory) (tt, tt, λ all opened. tt, λ F. tt)
+    budget_opened (opening.MemoryLimit held) refusal short = plain (Err (tool.MemoryLimit held)) (tt, tt, λ all opened. tt, λ F. tt)
+    budget_opened fault refusal short = plain (Err (tool.Opening fault)) (tt, tt, λ all opened. tt, λ F. tt)
 
-    budget_listed : (kind : FaultKind) (fault : ListFault) → IsUnbudgeted kind → TellsCopyBudget Z types budget content (Err (told_by kind fault))
-    budget_listed (kinds.Source f) fault is = plain (Err (tool.Source f)) (tt, tt, λ all opened. tt)
+    budget_listed : (kind : FaultKind) (fault : ListFault) → IsUnbudgeted kind → TellsCopyBudget Z types budget window content (Err (told_by kind fault))
+    budget_listed (kinds.Source f) fault is = plain (Err (tool.Source f)) (tt, tt, λ all opened. tt, λ F. tt)
     budget_listed kinds.Budget fault is = absurd is
-    budget_listed kind fault is = plain (Err (tool.List fault)) (tt, tt, λ all opened. tt)
+    budget_listed kind fault is = plain (Err (tool.List fault)) (tt, tt, λ all opened. tt, λ F. tt)
 
     -- where the file gives no view
-    pub budget_refused : (fault : ReadFault) → IsViewRefusal budget size fault → ((F : List ℕ) → content ≡ Some F → IsShortOf budget F (Types types) fault) → TellsCopyBudget Z types budget content (Err (reading_told fault))
+    pub budget_refused : (fault : ReadFault) → IsViewRefusal budget size fault → ((F : List ℕ) → content ≡ Some F → IsShortOf budget window F (Types types) fault) → TellsCopyBudget Z types budget window content (Err (reading_told fault))
     budget_refused (reads.Opening fault) refusal short = budget_opened fault refusal short
     budget_refused (reads.List fault) refusal short = budget_listed fault.kind fault refusal.1
     budget_refused (reads.PartsTooLarge e k) refusal short = absurd refusal
-    budget_refused reads.Memory refusal short = plain (Err tool.Memory) (tt, tt, λ all opened. tt)
-    budget_refused (reads.Source fault) refusal short = plain (Err (tool.Source fault)) (tt, tt, λ all opened. tt)
-    budget_refused fault refusal short = plain (Err (tool.Reading fault)) (tt, tt, λ all opened. tt)
+    budget_refused reads.Memory refusal short = plain (Err tool.Memory) (tt, tt, λ all opened. tt, λ F. tt)
+    budget_refused (reads.Source fault) refusal short = plain (Err (tool.Source fault)) (tt, tt, λ all opened. tt, λ F. tt)
+    budget_refused fault refusal short = plain (Err (tool.Reading fault)) (tt, tt, λ all opened. tt, λ F. tt)
 
   -- where a view of it was written
   pub budget_written : (shape : ViewShape) (before after : OutState) (r : Result ℕ ToolFault) → IsShapeCopied shape before r after → ((F : List ℕ) → content ≡ Some F → KeepsTo budget (copy_bound Z F (Types types)))
-      → TellsCopyBudget Z types budget content r
-  budget_written shape before after (Ok size) ends kept = record { unlimited = λ none. tt; over = tt; of_file = kept }
-  budget_written shape before after (Err (tool.Layout fault)) ends kept = record { unlimited = λ none. tt; over = tt; of_file = kept }
-  budget_written shape before after (Err tool.Out) ends kept = record { unlimited = λ none. tt; over = tt; of_file = kept }
-  budget_written shape before after (Err (tool.Source fault)) ends kept = plain (Err (tool.Source fault)) (tt, tt, λ all opened. tt)
+      → TellsCopyBudget Z types budget window content r
+  budget_written shape before after (Ok size) ends kept = record { unlimited = λ none. tt; over = tt; of_file = kept; place = λ F known. tt }
+  budget_written shape before after (Err (tool.Layout fault)) ends kept = record { unlimited = λ none. tt; over = tt; of_file = kept; place = λ F known. tt }
+  budget_written shape before after (Err tool.Out) ends kept = record { unlimited = λ none. tt; over = tt; of_file = kept; place = λ F known. tt }
+  budget_written shape before after (Err (tool.Source fault)) ends kept = plain (Err (tool.Source fault)) (tt, tt, λ all opened. tt, λ F. tt)
   budget_written shape before after (Err fault) ends kept = absurd ends
 
   -- and where it needs more than the budget
-  pub budget_over : (needed : ℕ) → IsTrue (is_passed budget needed) → ((F : List ℕ) → content ≡ Some F → IsTrue (is_passed budget (copy_bound Z F (Types types)))) → TellsCopyBudget Z types budget content (Err (tool.CopyBudget needed))
+  pub budget_over : (needed : ℕ) → IsTrue (is_passed budget needed) → ((F : List ℕ) → content ≡ Some F → IsTrue (is_passed budget (copy_bound Z F (Types types)))) → TellsCopyBudget Z types budget window content (Err (tool.CopyBudget needed))
   budget_over needed passes of_file = record {
     unlimited = λ none. let never : IsTrue false = rw none at passes in cc never;
     over = passes;
     of_file = of_file;
+    place = λ F known. tt;
   }
 
 -- ---- what is spent of it

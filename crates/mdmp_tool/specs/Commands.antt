@@ -61,6 +61,6 @@ pub record HasCopied (Z : Type 0) (types : List ℕ) (limits : Limits) (old : So
   pub reads : ReadsSource old answer new
   pub unread : (t : ℕ) → first_not_copied types ≡ Some t → new ≡ old
   pub spends : SpendsCopy Z types limits.window old answer new
-  pub budget : TellsCopyBudget Z types limits.budget old.store.content answer
+  pub budget : TellsCopyBudget Z types limits.budget limits.window old.store.content answer
   pub within : SpendsWithin limits.budget old answer new
   pub memory : TellsCopyMemory limits old.store.content answer

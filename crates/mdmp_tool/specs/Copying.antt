@@ -21,7 +21,7 @@ use Rattle.mdmp_dump.specs.EntryWalk.{WalkState}
 use Rattle.mdmp_dump.specs.FileRefusal.{view_refusal}
 use Rattle.mdmp_dump.specs.InFile.{dump_in}
 use Rattle.mdmp_dump.specs.LaysOut.{LaysOut}
-use Rattle.mdmp_dump.specs.Opening.{FetchesWithin, HasSpentOpening, IsLimited, copy_bound, opening_bound}
+use Rattle.mdmp_dump.specs.Opening.{EndsOpening, FetchesWithin, HasSpentOpening, IsLimited, copy_bound, opening_bound}
 use Rattle.mdmp_dump.specs.Shape.{IsViewOf, ViewShape}
 use Rattle.mdmp_writer.specs.Layout.{layout_fault, shape_fault, size_answer, written_size}
 use Rattle.mdmp_writer.specs.Passes.{all_asks, all_costs}
@@ -169,12 +169,18 @@ IsWithinCopy budget all opened (Err (tool.CopyBudget needed)) = IsTrue (is_passe
 IsWithinCopy budget all opened (Err (tool.Budget offset size)) = IsTrue (is_passed budget opened)
 IsWithinCopy budget all opened answer = Unit {0}
 
--- what is told of a budget; the opening of a known file is refused for it only if it has no room for that, and for 16 bytes
--- more for each entry
-pub record TellsCopyBudget (Z : Type 0) (types : List ℕ) (budget : Option ℕ) (content : Option (List ℕ)) (answer : Result ℕ ToolFault) : Type 0 where
+-- where the budget ends the opening of a view of F, it is told what it has no room for: the header, the directory, or the first stream
+abbrev pub TellsPlace : Option ℕ → (window : ℕ) → List ℕ → List ℕ → Result ℕ ToolFault → Type 0
+TellsPlace budget window F types (Err (tool.Budget offset size)) = EndsOpening budget window F (Types types) offset size
+TellsPlace budget window F types answer = Unit {0}
+
+-- what is told of a budget, if the file is read through a window of so many bytes; the opening of a known file is refused for it only
+-- if it has no room for that, and for 16 bytes more for each entry
+pub record TellsCopyBudget (Z : Type 0) (types : List ℕ) (budget : Option ℕ) (window : ℕ) (content : Option (List ℕ)) (answer : Result ℕ ToolFault) : Type 0 where
   pub unlimited : budget ≡ None → TellsNoBudget answer
   pub over : IsOverCopy budget answer
   pub of_file : (file : List ℕ) → content ≡ Some file → IsWithinCopy budget (copy_bound Z file (Types types)) (opening_bound file (Types types) + 16 * entry_count file) answer
+  pub place : (file : List ℕ) → content ≡ Some file → TellsPlace budget window file types answer
 
 -- the limit of memory is told only where a copy would hold more
 abbrev pub TellsCopyMemory : Limits → Option (List ℕ) → Result ℕ ToolFault → Type 0

@@ -72,7 +72,7 @@ pub fn run_copy<S: Store + Drop, A: Allocator + Copy, O: Out>(
 ) -> Result<u64, ToolFault>
     ensures copies { Copies A (S.state store).content (S.state store).size types limits.name (O.state out.old) result (O.state out.new) }
     ensures good { (file : List ℕ) → IsGood (S.state store) file → IsNoSourceFault result }
-    ensures budget { TellsCopyBudget A types limits.budget (S.state store).content result }
+    ensures budget { TellsCopyBudget A types limits.budget limits.window (S.state store).content result }
     ensures memory { TellsCopyMemory limits (S.state store).content result }
 {
     if let Some(stream_type) = first_not_copied(types.types()) {
@@ -95,7 +95,7 @@ pub fn copy_source<S: Store + Drop, A: Allocator + Copy, O: Out>(
     ensures reads { ReadsSource source result.answer result.source }
     ensures unread { (t : ℕ) → first_not_copied types ≡ Some t → result.source ≡ source }
     ensures spends { SpendsCopy A types limits.window source result.answer result.source }
-    ensures budget { TellsCopyBudget A types limits.budget source.store.content result.answer }
+    ensures budget { TellsCopyBudget A types limits.budget limits.window source.store.content result.answer }
     ensures within { SpendsWithin limits.budget source result.answer result.source }
     ensures memory { TellsCopyMemory limits source.store.content result.answer }
 {
@@ -171,7 +171,7 @@ fn open_copy<S: Store + Drop, A: Allocator + Copy>(
     ensures needs { (file : List ℕ) → source.store.content ≡ Some file → IfOk result (λ copying. needed_by copying.view ≡ raised 0 (copy_bound A file (Types types))) }
     ensures kept { (most : ℕ) → limits.budget ≡ Some most → IfOk result (λ copying. fetched_by copying.view ≤ most) }
     ensures within { IfErr result (λ refused. FetchesWithin limits.budget source refused.source) }
-    ensures over { (file : List ℕ) → source.store.content ≡ Some file → IfErr result (λ refused. IsShortOf limits.budget file (Types types) refused.fault) }
+    ensures over { (file : List ℕ) → source.store.content ≡ Some file → IfErr result (λ refused. IsShortOf limits.budget limits.window file (Types types) refused.fault) }
     ensures tells { IfErr result (λ refused. TellsOf source.store.content refused.fault) }
     ensures limited { IfErr result (λ refused. IsLimited limits source.store.content refused.fault) }
 {

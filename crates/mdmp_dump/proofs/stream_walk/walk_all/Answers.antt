@@ -4,9 +4,9 @@ use Rattle.mdmp_source.specs.Count.{raised}
 use Rattle.mdmp_lister.specs.Format.Listing.{Numbered}
 use Rattle.mdmp_lister.specs.Meter.{KeepsTo}
 use Rattle.mdmp_dump.specs.EntryWalk.{chosen_entry, pass_cost}
-use Rattle.mdmp_dump.specs.FileView.{IsShortAt, KeepsUpTo, asks_in, costs_in, opening_cost, pass_cost_in}
+use Rattle.mdmp_dump.specs.FileView.{IsShortAt, KeepsUpTo, TellsStream, asks_in, costs_in, opening_cost, pass_cost_in}
 use Rattle.mdmp_wire.specs.declared.header.Header.{Header}
-use Rattle.mdmp_dump.proofs.WalkedOver.{AreSummed, all_begin, all_summed, none_paid, one_fetches, one_keeps, one_over, one_paid, one_refused, one_summed, one_walked}
+use Rattle.mdmp_dump.proofs.WalkedOver.{AreSummed, all_begin, all_summed, none_paid, one_fetches, one_keeps, one_over, one_paid, one_place, one_refused, one_summed, one_walked}
 use Rattle.mdmp_dump.proofs.stream_walk.walk_all.Goals as goal
 
 -- a loop through so many has come to their end
@@ -113,6 +113,16 @@ returns-in-Err-clause-over g c = λ F known.
     one_over g.row.A.Denot c.args.limit c.args.walk.now c.loop-stream.walk c.loop-stream.counts.items c.loop-stream.rooms.items c.loop-stream.stream c.loop-stream.invariant.walking inside c.walk_stream.new.walk c.args.budget c.loop-stream.costs c.loop-stream.asks
     c.loop-stream.invariant.summed F known c.in-Err.fault
     (subst (λ (m : ℕ). IsShortAt c.args.budget (m + pass_cost_in F (chosen_entry c.loop-stream.walk c.loop-stream.stream)) c.in-Err.fault) spent (c.in-Err.ensures.over F (c.loop-stream.invariant.walking.pays.same.fetches.fetches.same_content ∙ known)))
+
+pub returns-in-Err-clause-place : goal.returns-in-Err-clause-place
+returns-in-Err-clause-place g c = λ F known.
+    let inside : c.loop-stream.stream < length c.args.walk.now.chosen = omega (arith, c.loop-stream-test.true, c.streams-streams.ensures) in
+    let header = ap (λ (h : Header). h.number_of_streams) c.header.ensures in
+    let whole : opening_cost c.args.walk.now c.loop-stream.counts.items ≡ 32 + 12 * c.args.walk.now.header.number_of_streams + sum (costs_in c.args.walk.now.chosen c.loop-stream.counts.items) = refl in
+    let spent : 32 + 12 * c.from.result + c.loop-stream.costs ≡ opening_cost c.args.walk.now c.loop-stream.counts.items = omega (arith, whole, c.from.ensures, header, c.loop-stream.invariant.summed.costs_are) in
+    one_place g.row.A.Denot c.args.limit c.args.walk.now c.loop-stream.walk c.loop-stream.counts.items c.loop-stream.rooms.items c.loop-stream.stream c.loop-stream.invariant.walking inside c.walk_stream.new.walk c.args.budget c.loop-stream.costs c.loop-stream.asks
+    c.loop-stream.invariant.summed F known c.in-Err.fault
+    (subst (λ (m : ℕ). TellsStream c.args.budget m F (chosen_entry c.loop-stream.walk c.loop-stream.stream) c.in-Err.fault) spent (c.in-Err.ensures.place F (c.loop-stream.invariant.walking.pays.same.fetches.fetches.same_content ∙ known)))
 
 pub returns-clause-kept : goal.returns-clause-kept
 returns-clause-kept g c = elim c.loop-stream.invariant.summed.keeps [ inl same ↦ inl same | inr kept ↦ inr (record { reached = c.loop-stream.counts.items; pays = c.loop-stream.invariant.walking.pays; kept = kept }) ]

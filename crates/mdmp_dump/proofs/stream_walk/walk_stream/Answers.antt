@@ -8,7 +8,7 @@ use Rattle.mdmp_dump.specs.FileView.{PaysUpTo, kind_at}
 use Rattle.mdmp_dump.specs.Placed.{size_in}
 use Rattle.mdmp_dump.specs.Reading.{Fetches}
 use Rattle.mdmp_dump.specs.Shape.{GivesNone}
-use Rattle.mdmp_dump.proofs.Budgets.{budget_told, walk_opens}
+use Rattle.mdmp_dump.proofs.Budgets.{budget_told, place_own, place_pass, place_walk, walk_opens}
 use Rattle.mdmp_dump.proofs.Taking.{FetchesSome_none, Fetches_as, Fetches_only}
 use Rattle.mdmp_dump.proofs.WalkedOver.{budget_fetches, budget_refuses, untouched_paid, walking_begins, walking_ends, walking_fetches, walking_goes, walking_keeps, walking_paid, walking_refused, walking_unbegun}
 use Rattle.mdmp_dump.proofs.stream_walk.walk_stream.Goals as goal
@@ -43,7 +43,20 @@ returns-in-Err-clause-fetches g c =
     subst (λ (v : WalkState). Fetches {T = Walked} (Err c.in-Err.fault) c.args.walk.now.source v.source) (sym c.entry-entry.ensures.same)
     (budget_fetches g.row.A.Denot c.args.limit c.args.walk.now c.args.stream {T = Walked} c.in-Err.fault _ _ c.args.walk.now c.in-Err.ensures.told c.requires.long (FetchesSome_none c.args.walk.now.source))
 
+pub returns-in-Err-clause-place : goal.returns-in-Err-clause-place
+returns-in-Err-clause-place g c = λ F known.
+    place_own c.args.spending.budget c.args.spending.spent F (chosen_entry c.args.walk.now c.args.stream) c.entry-entry.result c.in-Err.fault c.entry-entry.ensures.value c.in-Err.ensures.told c.in-Err.ensures.kept
+
+pub returns-in-Err-keep_to_budget-clause-place : goal.returns-in-Err-keep_to_budget-clause-place
+returns-in-Err-keep_to_budget-clause-place g c = λ F known.
+    let begins = subst (λ (v : WalkState). Begins v c.args.stream (Ok c.in-Ok-begin.count) c.begin.new.self) c.entry-entry.ensures.same c.in-Ok-begin.ensures in
+    place_pass c.args.spending.budget c.args.spending.spent F (chosen_entry c.args.walk.now c.args.stream) c.entry-entry.result c.in-Ok-begin.count c.in-Err-keep_to_budget.fault c.entry-entry.ensures.value
+    (begins.of_file F known) c.in-Ok.ensures.kept c.in-Err-keep_to_budget.ensures.told c.in-Err-keep_to_budget.ensures.kept
+
 -- ---- a stream that is not begun
+
+pub returns-in-Err-begin-clause-place : goal.returns-in-Err-begin-clause-place
+returns-in-Err-begin-clause-place g c = λ F known. rw c.in-Err-begin.ensures.told.1.0 tt
 
 pub returns-in-Err-begin-clause-of_file : goal.returns-in-Err-begin-clause-of_file
 returns-in-Err-begin-clause-of_file g c =
@@ -71,6 +84,10 @@ returns-in-Err-next_record-clause-kept g c =
     let kept = subst (λ (e : Entry). KeepsTo c.args.spending.budget (c.args.spending.spent + pass_cost e c.in-Ok-begin.count)) c.entry-entry.ensures.value c.in-Ok-keep_to_budget.ensures.kept in
     inr (walking_keeps g.row.A.Denot c.args.limit c.args.walk.now c.args.stream c.in-Ok-begin.count c.loop-index.walk c.loop-index.index c.loop-index.room c.loop-index.asks c.loop-index.invariant c.next_record.new.self c.args.spending.budget c.args.spending.spent
     c.in-Err-next_record.fault c.in-Err-next_record.ensures c.loop-index-test.true kept)
+
+pub returns-in-Err-next_record-clause-place : goal.returns-in-Err-next_record-clause-place
+returns-in-Err-next_record-clause-place g c = λ F known.
+    place_walk c.args.spending.budget c.args.spending.spent F (chosen_entry c.args.walk.now c.args.stream) c.in-Err-next_record.fault c.in-Err-next_record.ensures.told
 
 pub returns-in-Err-next_record-clause-told : goal.returns-in-Err-next_record-clause-told
 returns-in-Err-next_record-clause-told g c = walk_opens c.args.spending.budget c.in-Err-next_record.fault c.in-Err-next_record.ensures.told

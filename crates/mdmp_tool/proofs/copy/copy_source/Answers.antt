@@ -85,7 +85,7 @@ returns-else-is_over-clause-spends g c =
 -- ---- budgets
 
 pub returns-in-Some-clause-budget : goal.returns-in-Some-clause-budget
-returns-in-Some-clause-budget g c = budget_unread g.row.A.Denot c.args.types c.args.limits.budget c.args.source.store.content c.in-Some.stream_type
+returns-in-Some-clause-budget g c = budget_unread g.row.A.Denot c.args.types c.args.limits.budget c.args.limits.window c.args.source.store.content c.in-Some.stream_type
 
 pub returns-in-Some-clause-within : goal.returns-in-Some-clause-within
 returns-in-Some-clause-within g c = within_refused c.args.limits.budget c.args.source c.args.source _ (within_unread c.args.limits.budget c.args.source)
@@ -93,7 +93,7 @@ returns-in-Some-clause-within g c = within_refused c.args.limits.budget c.args.s
 pub returns-in-Err-clause-budget : goal.returns-in-Err-clause-budget
 returns-in-Err-clause-budget g c =
     let of = c.in-Err.ensures in
-    rw c.told_reading.ensures (budget_refused g.row.A.Denot c.args.types c.args.limits.budget c.args.source.store.content c.args.source.size c.in-Err.field-0.fault of.refusal of.over)
+    rw c.told_reading.ensures (budget_refused g.row.A.Denot c.args.types c.args.limits.budget c.args.limits.window c.args.source.store.content c.args.source.size c.in-Err.field-0.fault of.refusal of.over)
 
 pub returns-in-Err-clause-within : goal.returns-in-Err-clause-within
 returns-in-Err-clause-within g c = within_refused c.args.limits.budget c.args.source c.in-Err.field-0.source _ c.in-Err.ensures.within
@@ -105,7 +105,7 @@ pub returns-else-is_over-clause-budget : goal.returns-else-is_over-clause-budget
 returns-else-is_over-clause-budget g c =
     let of = c.in-Ok.ensures in
     let view = c.in-Ok.field-0.view in
-    budget_written g.row.A.Denot c.args.types c.args.limits.budget c.args.source.store.content (file_shape g.row.A.Denot view.walk view.counts.items view.rooms.items) (g.O.Out.state c.args.out.now) (g.O.Out.state c.write_copy.new.out)
+    budget_written g.row.A.Denot c.args.types c.args.limits.budget c.args.limits.window c.args.source.store.content (file_shape g.row.A.Denot view.walk view.counts.items view.rooms.items) (g.O.Out.state c.args.out.now) (g.O.Out.state c.write_copy.new.out)
     c.write_copy.result c.write_copy.ensures.ends (λ F known. sym (c.is_over.ensures.bound (copy_bound g.row.A.Denot F (Types c.args.types)) (c.needed-needed.ensures ∙ of.needs F known)) ∙ c.if-is_over.false)
 
 pub returns-else-is_over-clause-memory : goal.returns-else-is_over-clause-memory
@@ -157,7 +157,7 @@ returns-then-is_over-clause-spends g c =
 
 pub returns-then-is_over-clause-budget : goal.returns-then-is_over-clause-budget
 returns-then-is_over-clause-budget g c =
-    budget_over g.row.A.Denot c.args.types c.args.limits.budget c.args.source.store.content c.needed-needed.result (sym c.is_over.ensures.value ∙ c.if-is_over.true)
+    budget_over g.row.A.Denot c.args.types c.args.limits.budget c.args.limits.window c.args.source.store.content c.needed-needed.result (sym c.is_over.ensures.value ∙ c.if-is_over.true)
     (λ F known. sym (c.is_over.ensures.bound (copy_bound g.row.A.Denot F (Types c.args.types)) (c.needed-needed.ensures ∙ c.in-Ok.ensures.needs F known)) ∙ c.if-is_over.true)
 
 pub returns-then-is_over-clause-within : goal.returns-then-is_over-clause-within

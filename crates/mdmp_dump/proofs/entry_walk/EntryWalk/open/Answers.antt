@@ -1,14 +1,16 @@
-use Rattle.std.proofs.Common.{◌≡◌, ◌∙◌, ℕ, Option, None, true, ap, arith, subst, sym}
+use Rattle.std.proofs.Common.{◌≡◌, ◌∙◌, ◌+◌, ◌*◌, ℕ, Option, None, true, ap, arith, subst, sym}
 use Rattle.mdmp_lister.specs.Memory.{is_within}
 use Rattle.mdmp_lister.specs.Format.Kind.{kind_of}
+use Rattle.mdmp_lister.specs.Format.Listing.{entry_count}
 use Rattle.mdmp_lister.specs.Meter.{KeepsTo}
 use Rattle.mdmp_lister.proofs.Refusals.{open_refusal}
 use Rattle.mdmp_dump.specs.EntryWalk.{IsOpenedWalk}
-use Rattle.mdmp_dump.specs.Opening.{FetchesWithin, IsShortOf, copy_fault, copy_held}
+use Rattle.mdmp_dump.specs.FileView.{IsShortAt}
+use Rattle.mdmp_dump.specs.Opening.{FetchesWithin, TellsOpeningEnd, copy_fault, copy_held, opening_bound}
 use Rattle.mdmp_dump.specs.Reading.{refusal_of}
 use Rattle.mdmp_dump.specs.Walking.{lists_memory64, state_of}
 use Rattle.mdmp_dump.proofs.EntryWalks.{lifted_fetched, lifted_header, lifted_opened, lifted_stands, walker_within}
-use Rattle.mdmp_dump.proofs.Opened.{copied_bare, copied_good, copied_none, copied_open, copied_refusal, copied_unread, copy_within, directory-settles, kept_fetches, limited, opening-fetches, opening_short, tells_none, tells_of, wants_bare}
+use Rattle.mdmp_dump.proofs.Opened.{copied_bare, copied_good, copied_none, copied_open, copied_refusal, copied_unread, copy_within, directory-settles, kept_fetches, limited, opening-fetches, opening_ends, opening_short, tells_none, tells_of, wants_bare}
 use Rattle.mdmp_dump.proofs.OpenedViews.{head_spent}
 use Rattle.mdmp_dump.proofs.Refusals.{bare_refusal}
 use Rattle.mdmp_dump.proofs.entry_walk.EntryWalk.open.Goals as goal
@@ -49,9 +51,15 @@ returns-in-Err-clause-within g c =
 
 pub returns-in-Err-clause-over : goal.returns-in-Err-clause-over
 returns-in-Err-clause-over g c = λ file known.
-    rw c.copy_refusal.ensures
-    (subst (λ (budget : Option ℕ). IsShortOf budget file c.args.choice (refusal_of (copy_fault c.in-Err.refused.fault))) c.nameless.ensures.budget
-    (opening_short c.nameless.result c.args.source c.in-Err.refused.fault c.in-Err.refused.source c.in-Err.ensures.kept file c.args.choice known))
+    let fault = c.in-Err.refused.fault in
+    let short = opening_short c.nameless.result c.args.source fault c.in-Err.refused.source c.in-Err.ensures.kept file c.args.choice known in
+    let place = opening_ends c.nameless.result c.args.source fault c.in-Err.refused.source c.in-Err.ensures.next file c.args.choice known in
+    rw c.copy_refusal.ensures (record {
+      short = subst (λ (budget : Option ℕ). IsShortAt budget (opening_bound file c.args.choice + 16 * entry_count file) (refusal_of (copy_fault fault))) c.nameless.ensures.budget short;
+      place =
+          subst (λ (window : ℕ). TellsOpeningEnd c.args.limits.budget window file c.args.choice (refusal_of (copy_fault fault))) c.nameless.ensures.window
+          (subst (λ (budget : Option ℕ). TellsOpeningEnd budget c.nameless.result.window file c.args.choice (refusal_of (copy_fault fault))) c.nameless.ensures.budget place);
+    })
 
 pub returns-in-Err-clause-limited : goal.returns-in-Err-clause-limited
 returns-in-Err-clause-limited g c =
