@@ -1,29 +1,20 @@
 -- The verdicts that a sink has put into an array, and how a call that gives them ends.
-use Rattle.std.proofs.Common.{◌≡◌, ◌∙◌, ◌≤◌, ◌<◌, ◌+◌, ◌-◌, ◌^◌, ◌++◌, ℕ, List, [], ◌∷◌, Option, Some, None, ap, arith, inl, inr, length, length-append, map, refl, subst, sym, append_assoc, append-nil}
-use Rattle.std.specs.List.{flat_map}
-use Rattle.std.specs.Prelude.{Err, Result, min, nat_lt, sum_by, if◌then◌else◌}
+use Rattle.std.proofs.Common.{◌≡◌, ◌∙◌, ◌<◌, ◌+◌, ◌-◌, ◌^◌, ◌++◌, ℕ, List, [], ◌∷◌, Option, Some, None, ap, arith, inl, inr, length, length-append, map, refl, subst, sym, append_assoc, append-nil}
+use Rattle.std.specs.Prelude.{Result, min, nat_lt, if◌then◌else◌}
 use Rattle.std.proofs.lemmas.List.{length-map, map-append}
-use Rattle.std.proofs.lemmas.List.Concat.{flat_map-append}
-use Rattle.std.proofs.lemmas.List.Sums.{sum_by-append}
-use Rattle.mdmp_lister.specs.declared.choice.Choice.{Choice}
 use Rattle.mdmp_lister.specs.declared.choice.Choice.TheVariants.{All}
 use Rattle.mdmp_lister.specs.declared.fault.ListFault.{ListFault}
 use Rattle.mdmp_lister.specs.declared.fault.OpenFault.{OpenFault}
-use Rattle.mdmp_lister.specs.declared.item.Item.{Item}
-use Rattle.mdmp_lister.specs.declared.sink.RunFault.TheVariants as run
 use Rattle.mdmp_lister.specs.declared.sink.Stopped.{Stopped}
 use Rattle.mdmp_lister.specs.declared.verdict.Verdict.{Verdict}
-use Rattle.mdmp_lister.specs.Check.{AreFirstVerdicts, ReadsFirst, items_of, names_at, names_judged}
-use Rattle.mdmp_lister.specs.Format.Listing.{Numbered, chosen, entry_count, entry_listing, verdicts}
-use Rattle.mdmp_lister.specs.Format.Numbers.{names_of}
+use Rattle.mdmp_lister.specs.Format.Listing.{entry_count, verdicts}
 use Rattle.mdmp_lister.specs.Format.Refusal.{opening_fault}
-use Rattle.mdmp_lister.specs.Sink.{Taken, TakenToStop, names_of_all}
+use Rattle.mdmp_lister.specs.Sink.{Taken, TakenToStop}
 use Rattle.mdmp_tool.specs.CheckText.{bad_count, fault_count}
 use Rattle.mdmp_tool.proofs.Checking.{bad_entries as few_entries}
 use Rattle.mdmp_c.specs.declared.fault.PlainFault.{PlainFault}
 use Rattle.mdmp_c.specs.declared.verdict_rows.Judged.{Judged}
 use Rattle.mdmp_c.specs.Fault.{budget_fault, open_fault, status_of, told_unless}
-use Rattle.mdmp_c.specs.Limits.{names_checked}
 use Rattle.mdmp_c.specs.Giving.{Ends, GivesList, answers, bad_limits, put_front, stops, told_count}
 use Rattle.mdmp_c.specs.Table.{rows_unless}
 use Rattle.mdmp_c.specs.ToolFault.{bad_entries}
@@ -75,37 +66,6 @@ module _ {K N : Type 0} (out : K → List PlainFault) (count bad : K → ℕ) (n
 
   pub bad-all : (vs : List Verdict) (k l : K) → Taken step k vs l → bad k ≡ 0 → bad l ≡ told_count (bad_count vs)
   bad-all vs k l taken none = bad-taken vs k l taken 0 (none ∙ (let e : 0 ≡ told_count 0 = omega arith in e)) ∙ ap told_count (let e : 0 + bad_count vs ≡ bad_count vs = omega arith in e)
-
--- ---- the names that a check has read
-
--- no more than those of all entries
-pub names_judged_first : (F : List ℕ) (choice : Choice) (limit : ℕ) (items : List Item) (judged : List Verdict) (f : ListFault)
-    → ReadsFirst F limit (chosen F choice) (length judged) items (Err (run.At f)) → AreFirstVerdicts (verdicts F choice limit) judged (Err (run.At f))
-    → names_judged items judged ≤ names_checked F choice limit
-names_judged_first F choice limit items judged f read first =
-    let of : Numbered → List Item = λ x. (entry_listing F limit x).items in
-    let next = read.ends.next in
-    let behind = read.ends.behind in
-    let split : items_of F limit (chosen F choice) ≡ flat_map of (read.judged ++ next ∷ behind) = ap (items_of F limit) (read.in_order ∙ ap (λ (xs : List Numbered). read.judged ++ xs) read.ends.first) in
-    let halves : flat_map of (read.judged ++ next ∷ behind) ≡ flat_map of read.judged ++ flat_map of (next ∷ behind) = flat_map-append of read.judged (next ∷ behind) in
-    let head : flat_map of (next ∷ behind) ≡ of next ++ flat_map of behind = refl in
-    let begun : of next ++ flat_map of behind ≡ (read.begun ++ read.ends.more) ++ flat_map of behind = ap (λ (xs : List Item). xs ++ flat_map of behind) read.ends.begun in
-    let all : names_of_all (items_of F limit (chosen F choice)) ≡ names_of_all (flat_map of read.judged ++ ((read.begun ++ read.ends.more) ++ flat_map of behind)) =
-    ap names_of_all (split ∙ halves ∙ ap (λ (xs : List Item). flat_map of read.judged ++ xs) (head ∙ begun)) in
-    let here : names_of_all items ≡ names_of_all (flat_map of read.judged ++ read.begun) = ap names_of_all read.items_are in
-    let faults : List Verdict → ℕ = λ vs. sum_by (λ v. names_at v.fault) vs in
-    let others : faults (verdicts F choice limit) ≡ faults (judged ++ first.0) = ap faults first.1 in
-    omega (
-      arith,
-      all,
-      sum_by-append names_of (flat_map of read.judged) ((read.begun ++ read.ends.more) ++ flat_map of behind),
-      sum_by-append names_of (read.begun ++ read.ends.more) (flat_map of behind),
-      sum_by-append names_of read.begun read.ends.more,
-      here,
-      sum_by-append names_of (flat_map of read.judged) read.begun,
-      others,
-      sum_by-append (λ (v : Verdict). names_at v.fault) judged first.0,
-    )
 
 -- ---- how the call ends
 

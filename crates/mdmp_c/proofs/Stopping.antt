@@ -34,7 +34,7 @@ use Rattle.mdmp_tool.specs.declared.fault.ToolFault.TheVariants.{AsideLimit, Bud
 use Rattle.mdmp_c.specs.declared.limits.PlainLimits.{PlainLimits}
 use Rattle.mdmp_c.specs.declared.fault.PlainFault.{PlainFault}
 use Rattle.mdmp_c.specs.Fault.{budget_fault, open_fault}
-use Rattle.mdmp_c.specs.Limits.{AreGiven, EndsText, IsLimit, ReachesLimit, ends_aside, ends_text, limit_of, most_read, names_checked, names_listed, reaches_budget, reaches_memory}
+use Rattle.mdmp_c.specs.Limits.{AreGiven, EndsChecking, EndsText, IsLimit, ReachesLimit, ends_aside, ends_text, limit_of, most_read, names_checked, names_listed, reaches_budget, reaches_memory}
 use Rattle.mdmp_c.specs.Table.{EndsListAt, IsEndedAt}
 use Rattle.mdmp_c.specs.TextPart.{EndsTextAt}
 use Rattle.mdmp_c.specs.ToolFault.{check_answer, list_answer}
@@ -175,14 +175,19 @@ ended_before old v most offset size budget rooms limit sized ended = record {
 }
 
 -- the most that a lister may fetch, by the names of the file
-pub most_by : (old v : ListerState) (F : List ℕ) (names : ℕ) (c : Counts) → IsSameLister old v → c ≡ numbers_of v → AreOfFile F v.choice c → v.counts.names ≤ old.counts.names + names + 1
-    → fetch_bound v.limit c.s c.n c.m ≤ most_read F old.choice old.limit (old.counts.names + names)
-most_by old v F names c same is of most =
+most_for : (v : ListerState) (F : List ℕ) (choice : Choice) (limit names : ℕ) (c : Counts) → v.limit ≡ limit → c ≡ numbers_of v → AreOfFile F choice c → v.counts.names ≤ names + 1
+    → fetch_bound v.limit c.s c.n c.m ≤ most_read F choice limit names
+most_for v F choice limit names c named is of most =
     let reached : c.m ≡ v.counts.names = ap (λ (x : Counts). x.m) is in
-    let listed : c.n ≡ listed_bytes F old.choice = of.listed ∙ ap (listed_bytes F) same.choice in
-    let cost : c.m * (v.limit + 4) ≤ (old.counts.names + names + 1) * (v.limit + 4) = mul-le-mul_right (v.limit + 4) (omega (arith, reached, most)) in
-    let limit : (old.counts.names + names + 1) * (v.limit + 4) ≡ (old.counts.names + names + 1) * (old.limit + 4) = ap (λ n. (old.counts.names + names + 1) * (n + 4)) same.limit in
-    omega (arith, of.entries, listed, cost, limit)
+    let cost : c.m * (v.limit + 4) ≤ (names + 1) * (v.limit + 4) = mul-le-mul_right (v.limit + 4) (omega (arith, reached, most)) in
+    let same : (names + 1) * (v.limit + 4) ≡ (names + 1) * (limit + 4) = ap (λ n. (names + 1) * (n + 4)) named in
+    omega (arith, of.entries, of.listed, cost, same)
+
+-- of one that was this before
+most_by : (old v : ListerState) (F : List ℕ) (names : ℕ) (c : Counts) → v.choice ≡ old.choice → v.limit ≡ old.limit → c ≡ numbers_of v → AreOfFile F v.choice c
+    → v.counts.names ≤ old.counts.names + names + 1 → fetch_bound v.limit c.s c.n c.m ≤ most_read F old.choice old.limit (old.counts.names + names)
+most_by old v F names c choice limit is of most =
+    most_for v F old.choice old.limit (old.counts.names + names) c limit is (subst (λ (ch : Choice). AreOfFile F ch c) choice of) most
 
 -- a listing that ended by its budget
 pub listing_over : (old v : ListerState) (F : List ℕ) (names : ℕ) (c : Counts) (f : ListFault) → IsSameLister old v → v.source.size ≡ old.source.size → c ≡ numbers_of v → AreOfFile F v.choice c
@@ -192,7 +197,7 @@ listing_over old v F names c f same sized is of held spent most refused budget =
     subst (λ (kind : FaultKind). IsUnmade (max v.rooms.window v.limit) kind f.offset f.size v.counts v.source.size) budget refused in
     let ended = ended_by v c f.offset f.size is held spent over in
     let before = ended_before old v _ f.offset f.size same.budget same.rooms same.limit sized ended in
-    ended_as old _ (Some (most_read F old.choice old.limit (old.counts.names + names))) f.offset f.size before (omega (arith, before.bound, most_by old v F names c same is of most))
+    ended_as old _ (Some (most_read F old.choice old.limit (old.counts.names + names))) f.offset f.size before (omega (arith, before.bound, most_by old v F names c same.choice same.limit is of most))
 
 -- and told so by a call that opened it
 pub ended_over : (plain : PlainLimits) (limits : Limits) (F : List ℕ) (choice : Choice) (most : Option ℕ) (v : ListerState) (offset size : ℕ) → AreGiven plain limits → v.counts.budget ≡ limits.budget
@@ -211,19 +216,20 @@ is_budget kind never unobtained = absurd unobtained
 -- ---- texts
 
 -- the lines of a listing ended by a limit
-pub text_over : (old v : ListerState) (aside : Option ℕ) (c : Counts) (f : ToolFault) → IsSameRun old v → v.source.size ≡ old.source.size → c ≡ numbers_of v → AreHeld v c → AreSpent v c
-    → HasBudgetCause {T = Bool} (Err f) v → KeepsAside {T = Bool} aside (Err f) v → IsTextLimit f → EndsTextAt old aside f
-text_over old v aside c (Budget offset size) same sized is held spent over kept told =
+pub text_over : (old v : ListerState) (F : List ℕ) (names : ℕ) (aside : Option ℕ) (c : Counts) (f : ToolFault) → IsSameRun old v → v.source.size ≡ old.source.size → c ≡ numbers_of v
+    → AreOfFile F v.choice c → v.counts.names ≤ old.counts.names + names + 1 → AreHeld v c → AreSpent v c → HasBudgetCause {T = Bool} (Err f) v → KeepsAside {T = Bool} aside (Err f) v → IsTextLimit f
+    → EndsTextAt old (most_read F old.choice old.limit (old.counts.names + names)) aside f
+text_over old v F names aside c (Budget offset size) same sized is of most held spent over kept told =
     let ended = ended_before old v _ offset size same.budget same.rooms same.limit sized (ended_by v c offset size is held spent over) in
-    ended_as old _ None offset size ended tt
-text_over old v aside c (AsideLimit offset size) same sized is held spent over kept told = record {
+    ended_as old _ (Some (most_read F old.choice old.limit (old.counts.names + names))) offset size ended (omega (arith, ended.bound, most_by old v F names c same.choice same.limit is of most))
+text_over old v F names aside c (AsideLimit offset size) same sized is of most held spent over kept told = record {
   read = v.counts.aside.bytes;
   kept = kept.kept;
   passes = kept.over.0;
   inside = rw sized at kept.over.1.0;
   few = rw same.limit at kept.over.1.1;
 }
-text_over old v aside c f same sized is held spent over kept told = absurd told
+text_over old v F names aside c f same sized is of most held spent over kept told = absurd told
 
 -- bytes that pass the limit of what is read of CodeView records, and others that do not
 aside_passed : (n read total : ℕ) (aside : Option ℕ) → aside ≡ limit_of n → is_within aside read ≡ true → is_within aside total ≡ false → IsLimit n × ((read ≤ n) × (n < total))
@@ -240,10 +246,12 @@ aside_passed n read total aside is keeps passes = by (n == 2 ^ 64 - 1) refl wher
       (is_limit n aside is none_passed, (grind (arith, nat_tests, keep), grind (arith, nat_tests, pass)))
 
 -- and it is told so
-pub text_ended : (plain : PlainLimits) (limits : Limits) (F : List ℕ) (v : ListerState) → AreGiven plain limits → v.counts.budget ≡ limits.budget → v.rooms.window ≡ limits.window
-    → v.limit ≡ limits.name → v.source.size ≡ length F → (f : ToolFault) → EndsTextAt v limits.aside f → EndsText plain F (list_answer (Err f))
-text_ended plain limits F v given budget window limit size (Budget offset len) ended = ends_text (ended_over plain limits F All None v offset len given budget window limit size ended)
-text_ended plain limits F v given budget window limit size (AsideLimit offset len) ended =
+pub text_ended : (plain : PlainLimits) (limits : Limits) (F : List ℕ) (v : ListerState) (most : ℕ) → AreGiven plain limits → v.counts.budget ≡ limits.budget → v.rooms.window ≡ limits.window
+    → v.limit ≡ limits.name → v.source.size ≡ length F → most ≡ most_read F All plain.name (names_listed F All plain.name) → (f : ToolFault) → EndsTextAt v most limits.aside f
+    → EndsText plain F (list_answer (Err f))
+text_ended plain limits F v most given budget window limit size is (Budget offset len) ended =
+    ends_text (ended_over plain limits F All _ v offset len given budget window limit size (subst (λ n. IsEndedAt v (Some n) offset len) is ended))
+text_ended plain limits F v most given budget window limit size is (AsideLimit offset len) ended =
     let over = aside_passed plain.aside ended.read (ended.read + len) limits.aside given.aside ended.kept ended.passes in
     ends_aside over.0 offset len refl
     record {
@@ -253,7 +261,7 @@ text_ended plain limits F v given budget window limit size (AsideLimit offset le
       inside = rw size at ended.inside;
       few = rw (limit, given.name) at ended.few;
     }
-text_ended plain limits F v given budget window limit size f ended = absurd ended
+text_ended plain limits F v most given budget window limit size is f ended = absurd ended
 
 -- ---- a check
 
@@ -264,19 +272,31 @@ leaving_none limits = λ i. record limits { memory = by limits.memory i } where
   by None = refl
   by (Some most) = ap Some (let same : most - 0 ≡ most = omega arith in same)
 
+-- the names that it reached are those of the file
+checked_names : (F : List ℕ) (choice : Choice) (limit : ℕ) (v : ListerState) → v.choice ≡ choice → v.limit ≡ limit → v.counts.names ≤ names_checked F v.choice v.limit + 1
+    → v.counts.names ≤ names_checked F choice limit + 1
+checked_names F choice limit v of is few =
+    let same : names_checked F v.choice v.limit ≡ names_checked F choice limit = ap (λ (ch : Choice). names_checked F ch v.limit) of ∙ ap (names_checked F choice) is in
+    omega (arith, few, same)
+
 pub check_over : (plain : PlainLimits) (limits : Limits) (F : List ℕ) (old new : SourceState) (answer : Result ℕ ToolFault) → AreGiven plain limits → old.store.content ≡ Some F → old.size ≡ length F
-    → old.size < 2 ^ 64 → new.size ≡ old.size → IsReadThrough (check_access limits) old answer new → IsLimited answer → ReachesLimit plain F All None (check_answer answer)
-check_over plain limits F old new (Err (Budget at len)) given known size small same (IsReadThrough.listed run) told =
-    let ended = ended_by run.lister (numbers_of run.lister) at len refl run.held run.spent run.over in
-    ended_over plain limits F All None run.lister at len given run.budget run.opened.asked.window_room run.opened.asked.limit_is (ap (λ (s : SourceState). s.size) run.source ∙ same ∙ size) (ended_as run.lister _ None at len ended tt)
-check_over plain limits F old new (Err (Budget at len)) given known size small same (IsReadThrough.refused asked early kept memory fetches inside) told =
-    opening_passed plain limits F All None old at len new given known size small tt kept
-check_over plain limits F old new (Err (MemoryLimit held)) given known size small same (IsReadThrough.listed run) told = absurd run.within
-check_over plain limits F old new (Err (MemoryLimit held)) given known size small same (IsReadThrough.refused asked early kept memory fetches inside) told =
+    → old.size < 2 ^ 64 → new.store.content ≡ Some F → new.size ≡ old.size → IsReadThrough (check_access limits) old answer new → IsLimited answer → EndsChecking plain F (check_answer answer)
+check_over plain limits F old new (Err (Budget at len)) given known size small now same (IsReadThrough.listed run) told =
+    let v = run.lister in
+    let ended = ended_by v (numbers_of v) at len refl run.held run.spent run.over in
+    let limit : v.limit ≡ plain.name = run.opened.asked.limit_is ∙ given.name in
+    let few = checked_names F All plain.name v run.opened.asked.choice_is limit (run.reads.names F (ap (λ (s : SourceState). s.store.content) run.source ∙ now)) in
+    let most = most_for v F All plain.name (names_checked F All plain.name) (numbers_of v) limit refl (run.of_file F known) few in
+    ended_over plain limits F All _ v at len given run.budget run.opened.asked.window_room run.opened.asked.limit_is (ap (λ (s : SourceState). s.size) run.source ∙ same ∙ size)
+    (ended_as v _ (Some (most_read F All plain.name (names_checked F All plain.name))) at len ended (omega (arith, ended.bound, most)))
+check_over plain limits F old new (Err (Budget at len)) given known size small now same (IsReadThrough.refused asked early kept memory fetches inside) told =
+    opening_passed plain limits F All _ old at len new given known size small (least_read F All plain.name _) kept
+check_over plain limits F old new (Err (MemoryLimit held)) given known size small now same (IsReadThrough.listed run) told = absurd run.within
+check_over plain limits F old new (Err (MemoryLimit held)) given known size small now same (IsReadThrough.refused asked early kept memory fetches inside) told =
     let exact : memory.listed ≡ held = let sum : held ≡ memory.listed + 0 = memory.held_is in omega (arith, sum) in
     let of : opening_fault_within limits F All ≡ Some (opening.MemoryLimit memory.listed) = subst (λ (l : Limits). opening_fault_within l F All ≡ Some (opening.MemoryLimit memory.listed)) (leaving_none limits) (memory.of_file F known) in
     reaches_memory (is_limit plain.memory limits.memory given.memory (λ none. let over = memory.over in let open_end : is_within limits.memory held ≡ true = rw none refl in cc)) held refl limits given
     (of ∙ ap (λ n. Some (opening.MemoryLimit n)) exact)
-check_over plain limits F old new (Err (AsideLimit at len)) given known size small same (IsReadThrough.listed run) told = let over = run.aside_kept.over.0 in absurd (cc)
-check_over plain limits F old new (Err (AsideLimit at len)) given known size small same (IsReadThrough.refused asked early kept memory fetches inside) told = absurd early
-check_over plain limits F old new answer given known size small same through told = absurd told
+check_over plain limits F old new (Err (AsideLimit at len)) given known size small now same (IsReadThrough.listed run) told = let over = run.aside_kept.over.0 in absurd (cc)
+check_over plain limits F old new (Err (AsideLimit at len)) given known size small now same (IsReadThrough.refused asked early kept memory fetches inside) told = absurd early
+check_over plain limits F old new answer given known size small now same through told = absurd told

@@ -92,7 +92,7 @@ EndsListing limits F choice = ReachesLimit limits F choice (Some (most_read F ch
 abbrev pub EndsChecking : PlainLimits → List ℕ → PlainFault → Type 0
 EndsChecking limits F = ReachesLimit limits F All (Some (most_read F All limits.name (names_checked F All limits.name)))
 
--- a call that gives the text of a list, which also reads CodeView records
+-- a call that gives the text of a list, which also reads CodeView records: of these the budget counts nothing
 pub data EndsText (limits : PlainLimits) (F : List ℕ) (told : PlainFault) : Type 0 where
-  ends_text : ReachesLimit limits F All None told → EndsText limits F told
+  ends_text : EndsListing limits F All told → EndsText limits F told
   ends_aside : IsLimit limits.aside → (offset size : ℕ) → told ≡ aside_fault offset size → PassesAside limits F offset size → EndsText limits F told

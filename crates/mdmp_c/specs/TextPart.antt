@@ -37,11 +37,11 @@ pub record IsAsideEnd (v : ListerState) (aside : Option ℕ) (offset size : ℕ)
   pub inside : IsInside offset size v.source.size
   pub few : size ≤ 24 + v.limit
 
--- a lister v reached its budget, or this limit of what is read of CodeView records, at this fault
-abbrev pub EndsTextAt : ListerState → Option ℕ → ToolFault → Type 0
-EndsTextAt v aside (Budget offset size) = IsEndedAt v None offset size
-EndsTextAt v aside (AsideLimit offset size) = IsAsideEnd v aside offset size
-EndsTextAt v aside fault = ⊥
+-- a lister v reached its budget, below what it may read at most, or this limit of what is read of CodeView records, at this fault
+abbrev pub EndsTextAt : ListerState → (most : ℕ) → Option ℕ → ToolFault → Type 0
+EndsTextAt v most aside (Budget offset size) = IsEndedAt v (Some most) offset size
+EndsTextAt v most aside (AsideLimit offset size) = IsAsideEnd v aside offset size
+EndsTextAt v most aside fault = ⊥
 
 -- the first bytes of a text were put somewhere, and then a limit was reached so
 pub record PutsFirst (IsPut : List ℕ → Type 0) (reached : Type 0) (text : List ℕ) : Type 0 where

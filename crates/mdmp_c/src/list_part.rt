@@ -1,10 +1,11 @@
 //! The text of a list, or a part of it, made a line at a time.
-ghost use Rattle.std.specs.Prelude.{◌≡◌, ◌++◌, None, Some, ℕ, List, true};
+ghost use Rattle.std.specs.Prelude.{◌≡◌, ◌+◌, ◌++◌, None, Some, ℕ, List, true};
 ghost use Rattle.mdmp_c.specs.Giving.{Ends, bad_limits};
 ghost use Rattle.mdmp_lister.specs.Memory.{is_within};
-ghost use Rattle.mdmp_c.specs.Limits.{AreLimits, EndsText};
+ghost use Rattle.mdmp_c.specs.Limits.{AreLimits, EndsText, most_read};
 ghost use Rattle.mdmp_c.specs.TextPart.{EndsAt, EndsTextAt, IsListPart, IsPartOf, PutsRun};
 ghost use Rattle.mdmp_lister.specs.Format.Listing.{Run};
+ghost use Rattle.mdmp_lister.specs.Sink.{names_of_all};
 ghost use Rattle.mdmp_source.specs.Store.{IsGood};
 ghost use Rattle.mdmp_tool.specs.Forms.{dump_line_in};
 ghost use Rattle.mdmp_tool.specs.Text.{run_text};
@@ -91,7 +92,7 @@ fn put_list<S: Store + Drop, A: Allocator + Copy>(
     requires kept { is_within aside lister.old.counts.aside.bytes ≡ true }
     ensures { (file : List ℕ) → IsGood lister.old.source.store file → (left : Run) → lister.old.left ≡ Some left → (skip room : ℕ) (given : List ℕ)
         → IsPartOf skip room given part.old.skip part.old.room part.old.size part.old.kept.items
-        → PutsRun (λ text. IsPartOf skip room text part.new.skip part.new.room part.new.size part.new.kept.items) (EndsTextAt lister.old aside)
+        → PutsRun (λ text. IsPartOf skip room text part.new.skip part.new.room part.new.size part.new.kept.items) (EndsTextAt lister.old (most_read file lister.old.choice lister.old.limit (lister.old.counts.names + names_of_all left.items)) aside)
         (given ++ (dump_line_in form lister.old.header ++ run_text form pdb file lister.old.limit left)) left result }
 {
     let mut line = WriteOut::new(Vec::new(alloc));
@@ -118,7 +119,7 @@ fn put_items<S: Store + Drop, A: Allocator + Copy>(
     requires kept { is_within aside lister.old.counts.aside.bytes ≡ true }
     ensures { (file : List ℕ) → IsGood lister.old.source.store file → (left : Run) → lister.old.left ≡ Some left → (skip room : ℕ) (given : List ℕ)
         → IsPartOf skip room given part.old.skip part.old.room part.old.size part.old.kept.items
-        → PutsRun (λ text. IsPartOf skip room text part.new.skip part.new.room part.new.size part.new.kept.items) (EndsTextAt lister.old aside)
+        → PutsRun (λ text. IsPartOf skip room text part.new.skip part.new.room part.new.size part.new.kept.items) (EndsTextAt lister.old (most_read file lister.old.choice lister.old.limit (lister.old.counts.names + names_of_all left.items)) aside)
         (given ++ run_text form pdb file lister.old.limit left) left result }
 {
     let mut line = line;

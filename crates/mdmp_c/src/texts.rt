@@ -1,9 +1,7 @@
 //! Calls that give a text: the lines of `check` and of `list`, in either form.
-ghost use Rattle.std.specs.Prelude.{None};
 ghost use Rattle.mdmp_c.specs.Giving.{Ends, bad_limits};
-ghost use Rattle.mdmp_c.specs.Limits.{AreLimits, EndsText, ReachesLimit};
+ghost use Rattle.mdmp_c.specs.Limits.{AreLimits, EndsChecking, EndsText};
 ghost use Rattle.mdmp_c.specs.Texts.{IsCheck, IsList};
-ghost use Rattle.mdmp_lister.specs.declared.choice.Choice.TheVariants.{All};
 ghost use Rattle.mdmp_words.specs.declared.request.LineForm.TheVariants.{Json, Text};
 
 use crate::fault::{PlainFault, of_kind};
@@ -26,7 +24,7 @@ pub extern "C" fn mdmp_check_(
     size: &mut u64,
     fault: &mut PlainFault,
 ) -> u32
-    ensures { Ends (IsCheck Text file.now limits.now.name) (AreLimits limits.now) (ReachesLimit limits.now file.now All None) bad_limits result size.new fault.new out.old out.new }
+    ensures { Ends (IsCheck Text file.now limits.now.name) (AreLimits limits.now) (EndsChecking limits.now file.now) bad_limits result size.new fault.new out.old out.new }
 {
     check_in(alloc, file, limits, LineForm::Text, out, size, fault)
 }
@@ -41,7 +39,7 @@ pub extern "C" fn mdmp_check_json_(
     size: &mut u64,
     fault: &mut PlainFault,
 ) -> u32
-    ensures { Ends (IsCheck Json file.now limits.now.name) (AreLimits limits.now) (ReachesLimit limits.now file.now All None) bad_limits result size.new fault.new out.old out.new }
+    ensures { Ends (IsCheck Json file.now limits.now.name) (AreLimits limits.now) (EndsChecking limits.now file.now) bad_limits result size.new fault.new out.old out.new }
 {
     check_in(alloc, file, limits, LineForm::Json, out, size, fault)
 }
@@ -89,7 +87,7 @@ fn check_in(
     size: &mut u64,
     fault: &mut PlainFault,
 ) -> u32
-    ensures { Ends (IsCheck form file.now limits.now.name) (AreLimits limits.now) (ReachesLimit limits.now file.now All None) bad_limits result size.new fault.new out.old out.new }
+    ensures { Ends (IsCheck form file.now limits.now.name) (AreLimits limits.now) (EndsChecking limits.now file.now) bad_limits result size.new fault.new out.old out.new }
 {
     let Some(limits) = limits_of(limits) else {
         return refuse(of_kind(67), size, fault);

@@ -23,7 +23,7 @@ use Rattle.mdmp_lister.specs.Lister.{IsNewLister, IsSameLister, ListerState, Roo
 use Rattle.mdmp_lister.specs.Memory.{leaving}
 use Rattle.mdmp_tool.specs.declared.fault.ToolFault.{ToolFault}
 use Rattle.mdmp_tool.specs.declared.list.ModuleSymbols.{ModuleSymbols}
-use Rattle.mdmp_tool.specs.Engines.{Access, Beside, IsListerOf, IsOpened, IsReadThrough, IsSameRun, KeepsBeside, ReadsSource, ReadsStore, list_beside, source_over}
+use Rattle.mdmp_tool.specs.Engines.{Access, Beside, IsListerOf, IsOpened, IsReadThrough, IsSameRun, KeepsBeside, Pace, ReadsSource, ReadsStore, list_beside, source_over}
 use Rattle.mdmp_tool.specs.Runs.{ReadsLeft, ReadsNext}
 use Rattle.mdmp_tool.specs.Symbols.{symbols_bytes, symbols_of, symbols_read}
 use Rattle.mdmp_tool.proofs.PlainLines.{symbols_of-plain}
@@ -32,9 +32,9 @@ use Rattle.mdmp_tool.proofs.Symbols.{first_then}
 -- ---- the lister of a run
 
 -- it is the one that was opened, however much it has read since
-pub run_opened : (limits under : Limits) (room : ℕ) (choice : Choice) (held : ℕ) (aside : Option ℕ) (beside : Beside) (old : SourceState) (u v : ListerState) → under ≡ leaving room limits → IsSameRun u v
-    → IsNewLister old choice under u → IsListerOf (record { limits = limits; choice = choice; held = held; aside = aside; beside = beside }) old v
-run_opened limits under room choice held aside beside old u v is same new = record {
+pub run_opened : (limits under : Limits) (room : ℕ) (choice : Choice) (pace : Pace) (held : ℕ) (aside : Option ℕ) (beside : Beside) (old : SourceState) (u v : ListerState) → under ≡ leaving room limits → IsSameRun u v
+    → IsNewLister old choice under u → IsListerOf (record { limits = limits; choice = choice; pace = pace; held = held; aside = aside; beside = beside }) old v
+run_opened limits under room choice pace held aside beside old u v is same new = record {
   asked = record {
     choice_is = same.choice ∙ new.list.asked.choice_is;
     limit_is = same.limit ∙ new.list.asked.limit_is ∙ ap (λ (l : Limits). l.name) is;

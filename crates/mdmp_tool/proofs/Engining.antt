@@ -172,4 +172,5 @@ IsOpened-new source choice limits new is = record {
   header_is = λ file known. is.list.read.header_is file (sym is.fetches.same_content ∙ known);
   left = λ file known. is.list.given.left ∙ ap (option_map (λ (file : List ℕ). listing file choice limits.name)) (sym is.fetches.same_content ∙ known) ∙ ap (λ (limit : ℕ). Some (listing file choice limit)) (sym is.list.asked.limit_is);
   aside = ap (λ (a : Amount). a.bytes) is.list.counts.aside;
+  names = is.list.counts.names;
 }

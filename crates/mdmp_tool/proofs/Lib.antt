@@ -28,6 +28,7 @@ pub mod ModuleParts
 pub mod PdbRows
 pub mod PlainLines
 pub mod Printing
+pub mod Reached
 pub mod Rows
 pub mod SameRuns
 pub mod Sixteens

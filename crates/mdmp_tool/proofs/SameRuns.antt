@@ -113,7 +113,7 @@ listed_with access old new answer other is over cause within = record {
   budget = is.budget;
   over = over;
   aside_kept = record { kept = is.aside_kept.kept; over = cause };
-  beside = is.beside;
+  reads = is.reads;
   memory = is.memory;
   within = within;
   source = is.source;

@@ -9,7 +9,9 @@ use Rattle.mdmp_lister.specs.declared.fault.OpenFault.TheVariants.{TooShort}
 use Rattle.mdmp_lister.specs.declared.limits.Limits.{Limits}
 use Rattle.mdmp_lister.specs.Counts.{AreHeld, AreOfFile, AreSpent, numbers_of}
 use Rattle.mdmp_lister.specs.declared.choice.Choice.TheVariants.{All}
-use Rattle.mdmp_lister.specs.Format.Listing.{listing, memory_lists}
+use Rattle.mdmp_lister.specs.Check.{items_of, names_judged}
+use Rattle.mdmp_lister.specs.Format.Listing.{chosen, listing, memory_lists, verdicts}
+use Rattle.mdmp_lister.specs.Sink.{names_of_all}
 use Rattle.mdmp_lister.specs.Memory.{is_within}
 use Rattle.mdmp_lister.specs.Format.Numbers.{range_count}
 use Rattle.mdmp_lister.specs.Lister.{HasReadDirectory, IsAskedFor, ListerState, room_held}
@@ -73,8 +75,9 @@ pub record IsOpened (choice : Choice) (lister : ListerState) : Type 0 where
   pub ranges : lister.ranges ≡ []
   pub header_is : (file : List ℕ) → lister.source.store.content ≡ Some file → lister.header ≡ header_at file 0
   pub left : (file : List ℕ) → lister.source.store.content ≡ Some file → lister.left ≡ Some (listing file choice lister.limit)
-  -- nothing was read aside
+  -- nothing was read aside, and no name was reached
   pub aside : lister.counts.aside.bytes ≡ 0
+  pub names : lister.counts.names ≡ 0
 
 -- ---- what an answer says of the file
 
@@ -205,29 +208,43 @@ abbrev pub KeepsBeside : Beside → ListerState → Type 0
 KeepsBeside (at_most n) v = v.counts.aside.bytes ≤ n
 KeepsBeside symbols v = (file : List ℕ) → v.source.store.content ≡ Some file → v.counts.aside.bytes ≤ symbols_bytes true v.limit (listing file v.choice v.limit).items
 
+-- a lister has reached no more names than those that the listing of a known file has, and one more where it ended. A command that
+-- goes on behind a fault reaches those of all entries; of one that reads memory lists, which have none, no number is said.
+abbrev pub KeepsNames : Pace → ListerState → Type 0
+KeepsNames up_to_a_fault v = (file : List ℕ) → v.source.store.content ≡ Some file → v.counts.names ≤ names_of_all (listing file v.choice v.limit).items + 1
+KeepsNames past_faults v = (file : List ℕ) → v.source.store.content ≡ Some file
+    → v.counts.names ≤ names_judged (items_of file v.limit (chosen file v.choice)) (verdicts file v.choice v.limit) + 1
+KeepsNames at_the_end v = Unit {0}
+
+-- both
+pub record KeepsReads (aside : Beside) (pace : Pace) (v : ListerState) : Type 0 where
+  pub beside : KeepsBeside aside v
+  pub names : KeepsNames pace v
+
 -- a list reads these records if they are told
 abbrev pub list_beside : Bool → Beside
 list_beside true = symbols
 list_beside false = at_most 0
 
--- how a command reads a file: within which limits and of which streams, how many bytes it holds beside its lister, how many of
--- CodeView records it may read, if there is such a limit, and what it reads beside the listing
+-- how a command reads a file: within which limits and of which streams, when it prints, how many bytes it holds beside its lister,
+-- how many of CodeView records it may read, if there is such a limit, and what it reads beside the listing
 pub record Access : Type 0 where
   pub limits : Limits
   pub choice : Choice
+  pub pace : Pace
   pub held : ℕ
   pub aside : Option ℕ
   pub beside : Beside
 
 -- that of `check`, of `list`, and of `hex`, which holds two bytes for each address, and reads one
 abbrev pub check_access : Limits → Access
-check_access limits = record { limits = limits; choice = All; held = 0; aside = None; beside = at_most 0 }
+check_access limits = record { limits = limits; choice = All; pace = past_faults; held = 0; aside = None; beside = at_most 0 }
 
 abbrev pub list_access : Bool → Limits → Access
-list_access pdb limits = record { limits = limits; choice = All; held = 0; aside = limits.aside; beside = list_beside pdb }
+list_access pdb limits = record { limits = limits; choice = All; pace = up_to_a_fault; held = 0; aside = limits.aside; beside = list_beside pdb }
 
 abbrev pub hex_access : ℕ → Limits → Access
-hex_access length limits = record { limits = limits; choice = memory_lists; held = 2 * length; aside = None; beside = at_most length }
+hex_access length limits = record { limits = limits; choice = memory_lists; pace = at_the_end; held = 2 * length; aside = None; beside = at_most length }
 
 -- a lister was opened over this source, with the window that was asked for, names up to that limit and that choice of streams: of a
 -- known file its header and directory are the file's, and it has room for as many ranges as the chosen memory lists count
@@ -246,7 +263,7 @@ pub record HasListed {T : Type 0} (access : Access) (old : SourceState) (answer 
   pub budget : lister.counts.budget ≡ access.limits.budget
   pub over : HasBudgetCause answer lister
   pub aside_kept : KeepsAside access.aside answer lister
-  pub beside : KeepsBeside access.beside lister
+  pub reads : KeepsReads access.beside access.pace lister
   -- what it has room for, and what the command holds beside it, is within the limit of memory, which it does not end by
   pub memory : is_within access.limits.memory (room_held lister + access.held) ≡ true
   pub within : IsWithinMemory answer

@@ -5,6 +5,7 @@ use Rattle.mdmp_source.specs.Output.{OutState, PutsAll, PutsPrefix}
 use Rattle.mdmp_lister.specs.declared.choice.Choice.TheVariants.{All}
 use Rattle.mdmp_lister.specs.Format.Listing.{Run, listing, nothing, only_fault}
 use Rattle.mdmp_lister.specs.Lister.{ListerState, tail}
+use Rattle.mdmp_lister.specs.Sink.{names_of_all}
 use Rattle.mdmp_tool.specs.declared.fault.ToolFault.{ToolFault}
 use Rattle.mdmp_tool.specs.declared.fault.ToolFault.TheVariants.{List as BadList, Source, Budget, AsideLimit, Out}
 use Rattle.mdmp_wire.specs.declared.header.Header.{Header}
@@ -66,6 +67,11 @@ pub record ReadsNext (pdb : Bool) (old new : ListerState) : Type 0 where
   pub most : new.counts.aside.bytes ≤ old.counts.aside.bytes + (24 + old.limit)
   pub none : pdb ≡ false → new.counts.aside.bytes ≤ old.counts.aside.bytes
   pub known : (left : Run) → old.left ≡ Some left → new.counts.aside.bytes ≤ old.counts.aside.bytes + symbols_bytes pdb old.limit (take 1 left.items)
+
+-- how many names were reached then: those of the item, and where there is a fault maybe one
+abbrev pub NamesNext : Run → Result Bool ToolFault → ℕ → ℕ → Type 0
+NamesNext left (Ok more) old new = new ≡ old + names_of_all (take 1 left.items)
+NamesNext left (Err fault) old new = new ≤ old + names_of_all (take 1 left.items) + 1
 
 -- and giving all that is left
 pub record ReadsLeft (pdb : Bool) (old new : ListerState) : Type 0 where

@@ -5,7 +5,7 @@ ghost use Rattle.mdmp_lister.specs.Format.Listing.{verdicts};
 ghost use Rattle.mdmp_tool.specs.CheckRuns.{CheckEnds, Checks};
 ghost use Rattle.mdmp_tool.specs.CheckText.{verdict_lines};
 ghost use Rattle.mdmp_tool.specs.Causes.{HasBudgetCause, KeepsAside, MayReachAside, MayReachBudget, MayReachMemory};
-ghost use Rattle.mdmp_tool.specs.Engines.{IsOpened, IsSameRun, IsReadThrough, Leaves, ReadsSource, ReadsStore, Tells, WritesText, directly, past_faults, check_access};
+ghost use Rattle.mdmp_tool.specs.Engines.{IsOpened, IsSameRun, IsReadThrough, KeepsReads, Leaves, ReadsSource, ReadsStore, Tells, WritesText, at_most, directly, past_faults, check_access};
 
 use crate::engine::{Engine, RunAnswered, run, run_source};
 use crate::fault::{ToolFault, told_list};
@@ -125,7 +125,7 @@ fn check_listed<S: Store + Drop, A: Allocator + Copy, O: Out>(
     ensures same { IsSameRun lister.old lister.new }
     ensures over { HasBudgetCause result lister.new }
     ensures aside { KeepsAside None result lister.new }
-    ensures beside { lister.new.counts.aside.bytes ≤ lister.old.counts.aside.bytes }
+    ensures read { KeepsReads (at_most 0) past_faults lister.new }
 {
     // The prover needs that a directory has fewer than 2^32 entries: so the count is never at its greatest.
     let _entries = lister.header().number_of_streams;

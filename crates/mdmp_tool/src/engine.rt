@@ -26,7 +26,7 @@ pub(crate) trait Engine: Copy {
     ghost use Rattle.mdmp_lister.specs.declared.choice.Choice.{Choice};
     ghost use Rattle.mdmp_tool.specs.declared.fault.ToolFault.{ToolFault};
     ghost use Rattle.mdmp_tool.specs.Causes.{HasBudgetCause, IsWithinMemory, KeepsAside};
-    ghost use Rattle.mdmp_tool.specs.Engines.{Beside, IsOpened, IsSameRun, KeepsBeside, Leaves, Pace, WritesText};
+    ghost use Rattle.mdmp_tool.specs.Engines.{Beside, IsOpened, IsSameRun, KeepsReads, Leaves, Pace, WritesText};
 
     /// What it answers where all was printed.
     type Answer: Copy;
@@ -79,7 +79,7 @@ pub(crate) trait Engine: Copy {
         ensures same { IsSameRun lister.old lister.new }
         ensures over { HasBudgetCause result lister.new }
         ensures aside { KeepsAside (aside self.now) result lister.new }
-        ensures beside { KeepsBeside (reads self.now) lister.new }
+        ensures read { KeepsReads (reads self.now) pace lister.new }
         ensures within { IsWithinMemory result };
 }
 
@@ -99,7 +99,7 @@ pub(crate) fn run<E: Engine, S: Store + Drop, A: Allocator + Copy, O: Out>(
     ensures budget { MayReachBudget limits (S.state store).size result }
     ensures memory { MayReachMemory limits result }
     ensures aside { MayReachAside (E.aside engine) limits (S.state store).size result }
-    ensures read { ReadsStore (record { limits = limits; choice = E.choice; held = E.held engine; aside = E.aside engine; beside = E.reads engine }) (S.state store) result }
+    ensures read { ReadsStore (record { limits = limits; choice = E.choice; pace = E.pace; held = E.held engine; aside = E.aside engine; beside = E.reads engine }) (S.state store) result }
 {
     let RunAnswered { answer, source: _ } = run_source(
         engine,
@@ -127,7 +127,7 @@ pub(crate) fn run_source<E: Engine, S: Store + Drop, A: Allocator + Copy, O: Out
         (O.state out.old) result.answer (O.state out.new) }
     ensures tells { Tells directly E.pace source.store source.size (O.state out.old) result.answer (O.state out.new) }
     ensures reads { ReadsSource source result.answer result.source }
-    ensures through { IsReadThrough (record { limits = limits; choice = E.choice; held = E.held engine; aside = E.aside engine; beside = E.reads engine }) source result.answer result.source }
+    ensures through { IsReadThrough (record { limits = limits; choice = E.choice; pace = E.pace; held = E.held engine; aside = E.aside engine; beside = E.reads engine }) source result.answer result.source }
 {
     let beside = engine.beside();
     // The proof learns here that the size has 64 bits.
@@ -183,7 +183,7 @@ pub(crate) fn run_in_blocks<E: Engine, S: Store + Drop, A: Allocator + Copy, O: 
     ensures flushed { IsFlushed result.answer blocks.new.pending }
     ensures tells { Tells in_blocks E.pace source.store source.size blocks.old.inner result.answer blocks.new.inner }
     ensures reads { ReadsSource source result.answer result.source }
-    ensures through { IsReadThrough (record { limits = limits; choice = E.choice; held = E.held engine; aside = E.aside engine; beside = E.reads engine }) source result.answer result.source }
+    ensures through { IsReadThrough (record { limits = limits; choice = E.choice; pace = E.pace; held = E.held engine; aside = E.aside engine; beside = E.reads engine }) source result.answer result.source }
 {
     let answered = run_source(engine, alloc, source, limits, blocks);
     flushed(answered, blocks)

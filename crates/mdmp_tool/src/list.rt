@@ -3,9 +3,10 @@ ghost use Rattle.std.specs.Prelude.{◌≡◌, ◌≤◌, ◌+◌, ℕ, List, Ma
 ghost use Rattle.mdmp_source.specs.Range.{IsInside};
 ghost use Rattle.mdmp_lister.specs.Format.Listing.{Run};
 ghost use Rattle.mdmp_lister.specs.Memory.{is_within};
+ghost use Rattle.mdmp_lister.specs.Sink.{names_of_all};
 ghost use Rattle.mdmp_tool.specs.Causes.{HasBudgetCause, KeepsAside, MayReachAside, MayReachBudget, MayReachMemory, symbols_cost};
 ghost use Rattle.mdmp_tool.specs.Engines.{IsSameRun, IsReadThrough, Leaves, ReadsSource, ReadsStore, Tells, directly, up_to_a_fault, list_access};
-ghost use Rattle.mdmp_tool.specs.Runs.{IsBehindNext, Lists, ListsFile, ListsNext, ListsRun, PutsSymbols, ReadsLeft, ReadsNext};
+ghost use Rattle.mdmp_tool.specs.Runs.{IsBehindNext, Lists, ListsFile, ListsNext, ListsRun, NamesNext, PutsSymbols, ReadsLeft, ReadsNext};
 ghost use Rattle.mdmp_tool.specs.Symbols.{symbols_of, symbols_read};
 ghost use Rattle.mdmp_tool.specs.Text.{symbols_text};
 
@@ -138,6 +139,7 @@ fn put_listing<S: Store + Drop, A: Allocator + Copy, O: Out>(
     ensures over { HasBudgetCause result lister.new }
     ensures aside { KeepsAside aside result lister.new }
     ensures read { ReadsLeft pdb lister.old lister.new }
+    ensures names { (left : Run) → lister.old.left ≡ Some left → lister.new.counts.names ≤ lister.old.counts.names + names_of_all left.items + 1 }
 {
     if let Err(OutFailed) = put_dump(form, &lister.header(), out) {
         return Err(ToolFault::Out);
@@ -162,6 +164,7 @@ fn list_items<S: Store + Drop, A: Allocator + Copy, O: Out>(
     ensures over { HasBudgetCause result lister.new }
     ensures aside { KeepsAside aside result lister.new }
     ensures read { ReadsLeft pdb lister.old lister.new }
+    ensures names { (left : Run) → lister.old.left ≡ Some left → lister.new.counts.names ≤ lister.old.counts.names + names_of_all left.items + 1 }
 {
     while list_next(lister, form, pdb, aside, out)? {}
     Ok(())
@@ -188,6 +191,7 @@ pub fn list_next<S: Store + Drop, A: Allocator + Copy, O: Out>(
     ensures over { HasBudgetCause result lister.new }
     ensures aside { is_within aside lister.old.counts.aside.bytes ≡ true → KeepsAside aside result lister.new }
     ensures read { ReadsNext pdb lister.old lister.new }
+    ensures names { (left : Run) → lister.old.left ≡ Some left → NamesNext left result lister.old.counts.names lister.new.counts.names }
 {
     let symbols = match lister.next() {
         Ok(None) => return Ok(false),
@@ -247,6 +251,7 @@ fn put_symbols<S: Store + Drop, A: Allocator + Copy, O: Out>(
     ensures over { HasBudgetCause result lister.new }
     ensures aside { is_within aside lister.old.counts.aside.bytes ≡ true → KeepsAside aside result lister.new }
     ensures read { lister.new.counts.aside.bytes ≤ lister.old.counts.aside.bytes + symbols_read lister.old.limit symbols }
+    ensures names { lister.new.counts.names ≡ lister.old.counts.names }
 {
     let Some(ModuleSymbols { place, location }) = symbols else {
         return Ok(());

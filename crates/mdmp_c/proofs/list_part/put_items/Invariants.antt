@@ -3,6 +3,7 @@ use Rattle.mdmp_lister.specs.Memory.{is_within}
 use Rattle.mdmp_source.specs.Source.{FetchesSome}
 use Rattle.mdmp_source.specs.Store.{IsGood}
 use Rattle.mdmp_lister.specs.Format.Listing.{Run}
+use Rattle.mdmp_tool.proofs.Reached.{HasNamed}
 use Rattle.mdmp_tool.specs.Engines.{IsSameRun}
 use Rattle.mdmp_c.specs.TextPart.{IsPartOf}
 use Rattle.mdmp_c.proofs.Listed.{HasGiven}
@@ -15,6 +16,7 @@ invariant-loop-lines g l = record {
   source : FetchesSome l.initial.lister.source l.lister.source;
   run : IsSameRun l.initial.lister l.lister;
   aside : is_within l.aside l.lister.counts.aside.bytes ≡ true;
+  named : HasNamed l.initial.lister l.lister;
   part : (file : List ℕ) → IsGood l.initial.lister.source.store file → (run : Run) → l.initial.lister.left ≡ Some run → (skip room : ℕ) (before : List ℕ)
       → IsPartOf skip room before l.initial.part.skip l.initial.part.room l.initial.part.size l.initial.part.kept.items
       → (left : Run) × ((l.lister.left ≡ Some left)

@@ -1,12 +1,11 @@
-use Rattle.std.proofs.Common.{rules, ◌∙◌, ℕ, Some, ap, sym, subst, None}
+use Rattle.std.proofs.Common.{rules, ◌∙◌, ℕ, Some, ap, sym, subst}
 use Rattle.mdmp_source.specs.Output.{OutState}
 use Rattle.mdmp_c.specs.declared.fault.PlainFault.{PlainFault}
 use Rattle.mdmp_c.specs.Giving.{bad_limits}
-use Rattle.mdmp_c.specs.Limits.{AreLimits, ReachesLimit}
+use Rattle.mdmp_c.specs.Limits.{AreLimits, EndsChecking}
 use Rattle.mdmp_c.specs.Texts.{IsCheck}
 use Rattle.mdmp_c.specs.ToolFault.{check_answer}
 use Rattle.mdmp_source.specs.Store.{IsGood}
-use Rattle.mdmp_lister.specs.declared.choice.Choice.TheVariants.{All}
 use Rattle.mdmp_c.proofs.Stopping.{check_over, sized}
 use Rattle.mdmp_c.proofs.Told.{Ends-given, IsCheck-told, IsTellable}
 use Rattle.mdmp_c.proofs.texts.check_in.Goals as goal
@@ -22,9 +21,9 @@ returns c =
     let run = c.check_source-checked.ensures in
     let read = run.tells.good file good in
     let runs = run.checks file good.known in
-    let MayTell = ReachesLimit c.args.limits.now file All None in
+    let MayTell = EndsChecking c.args.limits.now file in
     let can = check_over c.args.limits.now c.in-Some.limits file c.new-source.result _ answer c.in-Some.ensures good.known (sized file c.new-source.result good.known c.new-source.ensures.content) (search rules)
-    run.reads.fetches.fetches.same_size run.through in
+    (run.reads.fetches.fetches.same_content ∙ good.known) run.reads.fetches.fetches.same_size run.through in
     let told = IsCheck-told c.args.form file c.in-Some.limits.name MayTell _ _ text answer none is read can runs in
     let named = subst (λ (n : ℕ). IsTellable (IsCheck c.args.form file n) MayTell (check_answer answer) text) c.in-Some.ensures.name told in
     let valid : AreLimits c.args.limits.now = c.in-Some.ensures.valid in

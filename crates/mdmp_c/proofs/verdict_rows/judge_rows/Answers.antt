@@ -1,4 +1,4 @@
-use Rattle.std.proofs.Common.{◌∙◌, [], List, ap, arith, length, map, sym}
+use Rattle.std.proofs.Common.{◌∙◌, ◌≤◌, [], List, ap, arith, length, map, sym}
 use Rattle.std.proofs.lemmas.List.{length-map}
 use Rattle.mdmp_lister.specs.declared.verdict.Verdict.{Verdict}
 use Rattle.mdmp_tool.specs.CheckText.{bad_count}
@@ -9,7 +9,9 @@ use Rattle.mdmp_c.proofs.Stopping.{is_budget, listing_over}
 use Rattle.mdmp_c.proofs.Gathered.{put_front-nothing}
 use Rattle.mdmp_lister.specs.Format.Numbers.{maybe_name}
 use Rattle.mdmp_c.specs.Limits.{names_checked}
-use Rattle.mdmp_c.proofs.Judging.{bad-all, name-taken, names_judged_first, never_stopped, rows-taken}
+use Rattle.mdmp_c.proofs.Judging.{bad-all, name-taken, never_stopped, rows-taken}
+use Rattle.mdmp_lister.specs.Check.{names_judged}
+use Rattle.mdmp_tool.proofs.Reached.{names_judged_most}
 use Rattle.mdmp_c.proofs.verdict_rows.judge_rows.Goals as goal
 
 pub returns-in-Ok-clause-same_output : goal.returns-in-Ok-clause-same_output
@@ -52,7 +54,7 @@ returns-in-Err-At-clause-judges g c = λ file good.
     let counts = c.counts-counts.ensures in
     let size = checks.fetches.same_size in
     let read = rw c.in-Err-At.field-0-is at (checks.read file good.known) in
-    let most = names_judged_first file lister.choice lister.limit checks.items vs fault read first in
+    let most : names_judged checks.items vs ≤ names_checked file lister.choice lister.limit = names_judged_most file lister.choice lister.limit checks.items vs _ read first in
     let reached = rw c.in-Err-At.field-0-is at checks.counts.most_names in
     let can = listing_over lister c.check_into.new.self file (names_checked file lister.choice lister.limit) c.counts-counts.result fault checks.same size counts.value (counts.of_file file (checks.fetches.same_content ∙ good.known))
     counts.held counts.spent (omega (arith, reached, most, ap maybe_name kind)) (c.in-Err-At.ensures.refused fault c.in-Err-At.field-0-is) kind in

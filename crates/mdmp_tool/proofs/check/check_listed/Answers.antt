@@ -11,7 +11,7 @@ use Rattle.mdmp_tool.specs.CheckText.{bad_count, verdict_lines}
 use Rattle.mdmp_tool.specs.CheckRuns.{CheckEnds}
 use Rattle.mdmp_tool.specs.Engines.{Leaves, WritesText, past_faults}
 use Rattle.mdmp_tool.proofs.Checking.{PutsPrefix-first, StopsShort-first, bad-taken, bad_entries, lines-stopped, lines-taken, name-stopped, name-taken, told-cause, told-source}
-use Rattle.mdmp_tool.proofs.Besides.{aside_rests}
+use Rattle.mdmp_tool.proofs.Reached.{keeps_checked}
 use Rattle.mdmp_tool.proofs.SameRuns.{over_listing, run_list, run_none, aside_listing}
 use Rattle.mdmp_tool.proofs.check.check_listed.Goals as goal
 
@@ -117,11 +117,17 @@ returns-in-Err-At-clause-over g c = rw c.told_list.ensures (over_listing ℕ c.i
 pub returns-in-Err-At-clause-aside : goal.returns-in-Err-At-clause-aside
 returns-in-Err-At-clause-aside g c = rw c.told_list.ensures (aside_listing ℕ None c.in-Err-At.fault c.check_into.new.self refl)
 
-pub returns-in-Ok-clause-beside : goal.returns-in-Ok-clause-beside
-returns-in-Ok-clause-beside g c = aside_rests _ _ c.in-Ok.ensures.checks.same.aside
+pub returns-in-Ok-clause-read : goal.returns-in-Ok-clause-read
+returns-in-Ok-clause-read g c =
+    let checks = c.in-Ok.ensures.checks in
+    keeps_checked c.args.lister.now c.check_into.new.self c.requires.opened checks.items checks.judged _ checks.same checks.fetches.same_content checks.read checks.of_file checks.counts.most_names
 
-pub returns-in-Err-At-clause-beside : goal.returns-in-Err-At-clause-beside
-returns-in-Err-At-clause-beside g c = aside_rests _ _ c.in-Err-At.ensures.checks.same.aside
+pub returns-in-Err-At-clause-read : goal.returns-in-Err-At-clause-read
+returns-in-Err-At-clause-read g c =
+    let checks = c.in-Err-At.ensures.checks in
+    keeps_checked c.args.lister.now c.check_into.new.self c.requires.opened checks.items checks.judged _ checks.same checks.fetches.same_content checks.read checks.of_file checks.counts.most_names
 
-pub returns-in-Err-Stopped-clause-beside : goal.returns-in-Err-Stopped-clause-beside
-returns-in-Err-Stopped-clause-beside g c = aside_rests _ _ c.in-Err-Stopped.ensures.checks.same.aside
+pub returns-in-Err-Stopped-clause-read : goal.returns-in-Err-Stopped-clause-read
+returns-in-Err-Stopped-clause-read g c =
+    let checks = c.in-Err-Stopped.ensures.checks in
+    keeps_checked c.args.lister.now c.check_into.new.self c.requires.opened checks.items checks.judged _ checks.same checks.fetches.same_content checks.read checks.of_file checks.counts.most_names

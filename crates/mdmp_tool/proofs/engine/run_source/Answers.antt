@@ -69,7 +69,7 @@ pub returns-in-Err-clause-through : goal.returns-in-Err-clause-through
 returns-in-Err-clause-through g c =
     let back = c.in-Err.ensures.handed_back in
     let beside = c.beside-beside.result in
-    let access : Access = record { limits = c.args.limits; choice = g.E.Engine.choice; held = g.E.Engine.held c.args.engine; aside = g.E.Engine.aside c.args.engine; beside = g.E.Engine.reads c.args.engine } in
+    let access : Access = record { limits = c.args.limits; choice = g.E.Engine.choice; pace = g.E.Engine.pace; held = g.E.Engine.held c.args.engine; aside = g.E.Engine.aside c.args.engine; beside = g.E.Engine.reads c.args.engine } in
     let memory = memory_opening g.row.E-Answer.Denot c.args.limits g.E.Engine.choice beside c.args.source c.in-Err.refused.fault c.in-Err.refused.source (search rules) (search rules)
     (rw c.leave_memory.ensures at c.in-Err.ensures.over) (λ file known. rw (c.leave_memory.ensures, c.chosen.ensures) at (c.in-Err.ensures.within file known)) in
     subst (λ (f : ToolFault). IsReadThrough {T = g.row.E-Answer.Denot} access c.args.source (Err f) c.in-Err.refused.source) (sym c.refused_beside.ensures)
@@ -84,7 +84,7 @@ returns-clause-through g c =
     let under = c.leave_memory.ensures in
     rw c.into_source.ensures.value (IsReadThrough.listed (record {
       lister = c.put-answer.new.lister;
-      opened = run_opened c.args.limits c.leave_memory.result c.beside-beside.result g.E.Engine.choice _ _ _ c.args.source _ c.put-answer.new.lister under same (rw c.chosen.ensures at c.in-Ok.ensures.new);
+      opened = run_opened c.args.limits c.leave_memory.result c.beside-beside.result g.E.Engine.choice _ _ _ _ c.args.source _ c.put-answer.new.lister under same (rw c.chosen.ensures at c.in-Ok.ensures.new);
       of_file = λ file known.
           let content = c.put-answer.ensures.leaves.reads.fetches.fetches.same_content ∙ c.in-Ok.ensures.new.fetches.same_content ∙ known in
           let choice : c.put-answer.new.lister.choice ≡ g.E.Engine.choice = same.choice ∙ new.asked.choice_is ∙ c.chosen.ensures in
@@ -92,7 +92,7 @@ returns-clause-through g c =
       budget = same.budget ∙ new.counts.budget_is ∙ ap (λ (l : Limits). l.budget) under;
       over = c.put-answer.ensures.over;
       aside_kept = c.put-answer.ensures.aside;
-      beside = c.put-answer.ensures.beside;
+      reads = c.put-answer.ensures.read;
       memory = rw (← c.beside-beside.ensures) (run_within c.args.limits c.leave_memory.result c.beside-beside.result _ c.put-answer.new.lister under same new.asked.window_room new.memory);
       within = c.put-answer.ensures.within;
       source = refl;

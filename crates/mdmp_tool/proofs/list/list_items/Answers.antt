@@ -3,6 +3,7 @@ use Rattle.mdmp_source.specs.SourceLaws.{fetches_then}
 use Rattle.mdmp_lister.specs.Lister.{tail}
 use Rattle.mdmp_tool.proofs.Besides.{HasRead-end, HasRead-next}
 use Rattle.mdmp_tool.proofs.Printing.{HasPrinted-next, ListsRun-end, ListsRun-fault, next_told, next_within}
+use Rattle.mdmp_tool.proofs.Reached.{HasNamed-end, HasNamed-fault, HasNamed-next}
 use Rattle.mdmp_tool.proofs.Symbols.{Leaves-fault, Leaves-later, refused_by}
 use Rattle.mdmp_tool.proofs.SameRuns.{run_then, aside_fault}
 use Rattle.mdmp_tool.proofs.list.list_items.Goals as goal
@@ -35,6 +36,7 @@ loop-preserved g c =
       steady = of.leaves.out_cause ∙ so_far.steady;
       aside = (of.aside so_far.aside).kept;
       read = HasRead-next c.args.pdb _ _ _ so_far.run.limit so_far.read of.read rest.left;
+      named = HasNamed-next _ _ _ so_far.named of.names rest.left;
       printed = λ file content run known.
           let printed = so_far.printed file content run known in
           let next = next_told c.args.form c.args.pdb file _ _ printed.0 _ _ true _ so_far.run.limit c.if-branch.true (of.lists file (so_far.source.fetches.same_content ∙ content) printed.0 printed.1.0) in (
@@ -75,3 +77,9 @@ returns-in_err-list_next-clause-read g c = HasRead-end c.args.pdb _ _ _ c.loop.i
 
 pub returns-clause-read : goal.returns-clause-read
 returns-clause-read g c = HasRead-end c.args.pdb _ _ _ c.loop.invariant.run.limit c.loop.invariant.read c.in_ok-list_next.ensures.read
+
+pub returns-in_err-list_next-clause-names : goal.returns-in_err-list_next-clause-names
+returns-in_err-list_next-clause-names g c = HasNamed-fault _ _ _ c.loop.invariant.named c.in_err-list_next.ensures.names
+
+pub returns-clause-names : goal.returns-clause-names
+returns-clause-names g c = HasNamed-end _ _ _ c.loop.invariant.named c.in_ok-list_next.ensures.names

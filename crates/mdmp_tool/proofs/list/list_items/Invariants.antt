@@ -5,6 +5,7 @@ use Rattle.mdmp_lister.specs.Format.Listing.{Run}
 use Rattle.mdmp_tool.specs.Engines.{IsSameRun}
 use Rattle.mdmp_tool.proofs.Besides.{HasRead}
 use Rattle.mdmp_tool.proofs.Printing.{HasPrinted}
+use Rattle.mdmp_tool.proofs.Reached.{HasNamed}
 use Rattle.mdmp_tool.proofs.list.list_items.Given as goal
 
 -- some items were printed
@@ -16,6 +17,7 @@ invariant-loop g l = record {
   steady : (g.O.Out.state l.out).failures ≡ (g.O.Out.state l.initial.out).failures;
   aside : is_within l.aside l.lister.counts.aside.bytes ≡ true;
   read : HasRead l.pdb l.initial.lister l.lister;
+  named : HasNamed l.initial.lister l.lister;
   printed : (file : List ℕ) → l.initial.lister.source.store.content ≡ Some file → (run : Run) → l.initial.lister.left ≡ Some run
       → (left : Run) × ((l.lister.left ≡ Some left)
       × HasPrinted l.form l.pdb file l.initial.lister.limit run (g.O.Out.state l.initial.out) left (g.O.Out.state l.out));

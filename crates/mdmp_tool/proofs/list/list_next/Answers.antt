@@ -1,4 +1,4 @@
-use Rattle.std.proofs.Common.{◌≡◌, ◌∙◌, ◌+◌, ℕ, Bool, List, Some, Err, false, refl, subst}
+use Rattle.std.proofs.Common.{◌≡◌, ◌∙◌, ◌+◌, ℕ, Bool, List, Some, Err, arith, false, refl, subst}
 use Rattle.std.specs.Prelude.{slice_get}
 use Rattle.mdmp_source.specs.SourceLaws.{fetches_then}
 use Rattle.mdmp_lister.specs.FaultLaws.{next_fits}
@@ -7,6 +7,7 @@ use Rattle.mdmp_tool.specs.Engines.{up_to_a_fault}
 use Rattle.mdmp_tool.specs.Runs.{PutsSymbols}
 use Rattle.mdmp_tool.proofs.Symbols.{IsBehindNext-aside, Leaves-cut, Leaves-done, Leaves-fault, Leaves-later, Leaves-listed, ListsNext-cut, ListsNext-fault, ListsNext-line, ListsNext-symbols, end-more, fault-more, refused_by, symbols-inside, symbols_text-is}
 use Rattle.mdmp_tool.proofs.Besides.{ReadsNext-none, ReadsNext-record}
+use Rattle.mdmp_tool.proofs.Reached.{names_fault, names_next, names_none}
 use Rattle.mdmp_tool.proofs.SameRuns.{over_fault, over_listing, run_list, run_none, run_then, aside_fault, aside_listing, aside_same}
 use Rattle.mdmp_tool.proofs.list.list_next.Goals as goal
 
@@ -164,3 +165,39 @@ pub returns-clause-read : goal.returns-clause-read
 returns-clause-read g c =
     ReadsNext-record c.args.pdb _ _ _ c.in-Ok-Some.item _ c.next.follows.holds-at-none.list.same c.symbols_of.ensures
     (λ left known. rw c.in-Ok-Some.field-0-is at (c.in-Ok-Some.ensures.gives left known)) c.in_ok-put_symbols.ensures.read
+
+pub returns-in-Ok-None-clause-names : goal.returns-in-Ok-None-clause-names
+returns-in-Ok-None-clause-names g c = λ left known.
+    let holds = c.next.follows.holds-at-none in
+    names_none left _ _ (rw c.in-Ok-None.field-0-is at (c.in-Ok-None.ensures.gives left known)) holds.few_names (rw (c.in-Ok-None.is, c.in-Ok-None.field-0-is) at holds.list.spends.names)
+
+pub returns-in-Err-put_item-clause-names : goal.returns-in-Err-put_item-clause-names
+returns-in-Err-put_item-clause-names g c = λ left known.
+    let holds = c.next.follows.holds-at-none in
+    let x = c.in-Ok-Some.item in
+    let first : slice_get left.items 0 ≡ Some (plain x) = rw c.in-Ok-Some.field-0-is at (c.in-Ok-Some.ensures.gives left known) in
+    let now = names_next left x _ _ first holds.few_names (rw (c.in-Ok-Some.is, c.in-Ok-Some.field-0-is) at holds.list.spends.names) in
+    omega (arith, now)
+
+pub returns-in_err-put_symbols-clause-names : goal.returns-in_err-put_symbols-clause-names
+returns-in_err-put_symbols-clause-names g c = λ left known.
+    let holds = c.next.follows.holds-at-none in
+    let f = c.in_err-put_symbols.field-0.0 in
+    let is = refused_by c.from_residual.result f c.from_residual.ensures.1 in
+    let x = c.in-Ok-Some.item in
+    let first : slice_get left.items 0 ≡ Some (plain x) = rw c.in-Ok-Some.field-0-is at (c.in-Ok-Some.ensures.gives left known) in
+    let now = names_next left x _ _ first holds.few_names (rw (c.in-Ok-Some.is, c.in-Ok-Some.field-0-is) at holds.list.spends.names) in
+    let same = c.in_err-put_symbols.ensures.names in
+    rw is (omega (arith, now, same))
+
+pub returns-clause-names : goal.returns-clause-names
+returns-clause-names g c = λ left known.
+    let holds = c.next.follows.holds-at-none in
+    let x = c.in-Ok-Some.item in
+    let first : slice_get left.items 0 ≡ Some (plain x) = rw c.in-Ok-Some.field-0-is at (c.in-Ok-Some.ensures.gives left known) in
+    c.in_ok-put_symbols.ensures.names ∙ names_next left x _ _ first holds.few_names (rw (c.in-Ok-Some.is, c.in-Ok-Some.field-0-is) at holds.list.spends.names)
+
+pub returns-in-Err-clause-names : goal.returns-in-Err-clause-names
+returns-in-Err-clause-names g c = λ left known.
+    let spends = c.next.follows.holds-at-none.list.spends in
+    names_fault left c.in-Err.fault.kind _ _ (rw c.in-Err.is at (spends.names_at_fault c.requires)).1

@@ -1,4 +1,4 @@
-use Rattle.std.proofs.Common.{subst}
+use Rattle.std.proofs.Common.{arith, subst}
 use Rattle.mdmp_source.specs.Output.{PutsAll, PutsPrefix}
 use Rattle.mdmp_source.specs.OutputLaws.{PutsPrefix-front}
 use Rattle.mdmp_wire.specs.declared.header.Header.{Header}
@@ -33,6 +33,12 @@ returns-clause-aside g c = c.list_items.ensures.aside
 
 pub returns-clause-read : goal.returns-clause-read
 returns-clause-read g c = c.list_items.ensures.read
+
+pub returns-clause-names : goal.returns-clause-names
+returns-clause-names g c = c.list_items.ensures.names
+
+pub returns-in-Err-clause-names : goal.returns-in-Err-clause-names
+returns-in-Err-clause-names g c = λ left known. omega arith
 
 pub returns-in-Err-clause-read : goal.returns-in-Err-clause-read
 returns-in-Err-clause-read g c = ReadsLeft-none c.args.pdb _

@@ -44,3 +44,12 @@ returns-in-Err-put_pdb-clause-read g c = rw c.in-Some.is (read_more _ _ _ _ (rec
 
 pub returns-in-Err-clause-read : goal.returns-in-Err-clause-read
 returns-in-Err-clause-read g c = rw c.in-Some.is (read_more _ _ _ _ (record_read _ _ _ c.codeview.ensures.fetched) c.codeview.follows.holds-at-none.aside.aside)
+
+pub returns-in-Ok-put_pdb-clause-names : goal.returns-in-Ok-put_pdb-clause-names
+returns-in-Ok-put_pdb-clause-names g c = c.codeview.follows.holds-at-none.aside.same_names
+
+pub returns-in-Err-put_pdb-clause-names : goal.returns-in-Err-put_pdb-clause-names
+returns-in-Err-put_pdb-clause-names g c = c.codeview.follows.holds-at-none.aside.same_names
+
+pub returns-in-Err-clause-names : goal.returns-in-Err-clause-names
+returns-in-Err-clause-names g c = c.codeview.follows.holds-at-none.aside.same_names

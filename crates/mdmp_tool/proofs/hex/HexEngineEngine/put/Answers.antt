@@ -19,5 +19,5 @@ returns-clause-same g c = c.hex_listed.ensures.same
 pub returns-clause-over : goal.returns-clause-over
 returns-clause-over g c = c.hex_listed.ensures.over
 
-pub returns-clause-beside : goal.returns-clause-beside
-returns-clause-beside g c = let most = c.hex_listed.ensures.beside in let none = c.requires.opened.aside in omega (arith, most, none)
+pub returns-clause-read : goal.returns-clause-read
+returns-clause-read g c = let most = c.hex_listed.ensures.beside in let none = c.requires.opened.aside in record { beside = omega (arith, most, none); names = tt }

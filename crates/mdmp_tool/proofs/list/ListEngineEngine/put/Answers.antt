@@ -3,6 +3,7 @@ use Rattle.mdmp_wire.specs.declared.header.Header.{Header}
 use Rattle.mdmp_lister.specs.declared.choice.Choice.TheVariants.{All}
 use Rattle.mdmp_lister.specs.Format.Listing.{listing}
 use Rattle.mdmp_tool.proofs.Besides.{KeepsBeside-list}
+use Rattle.mdmp_tool.proofs.Reached.{KeepsNames-list}
 use Rattle.mdmp_tool.specs.Runs.{ListsFile}
 use Rattle.mdmp_tool.proofs.list.ListEngineEngine.put.Goals as goal
 
@@ -22,7 +23,10 @@ returns-clause-writes g c = λ file known.
     let lists = c.put_listing.ensures.lists file known run (opened.left file known) in
     (subst (λ (h : Header). ListsFile form pdb file limit h run before c.put_listing.result after) (opened.header_is file known) lists).writes
 
-pub returns-clause-beside : goal.returns-clause-beside
-returns-clause-beside g c =
+pub returns-clause-read : goal.returns-clause-read
+returns-clause-read g c =
     let of = c.put_listing.ensures in
-    KeepsBeside-list c.args.self.now.pdb _ _ c.requires.opened of.same of.leaves.reads.fetches.fetches.same_content of.read
+    record {
+      beside = KeepsBeside-list c.args.self.now.pdb _ _ c.requires.opened of.same of.leaves.reads.fetches.fetches.same_content of.read;
+      names = KeepsNames-list _ _ c.requires.opened of.same of.leaves.reads.fetches.fetches.same_content of.names;
+    }
