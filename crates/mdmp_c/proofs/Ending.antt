@@ -6,6 +6,10 @@ use Rattle.std.proofs.lemmas.List.Elements.{filter_map-append}
 use Rattle.mdmp_c.specs.declared.fault.PlainFault.{PlainFault}
 use Rattle.mdmp_c.specs.Fault.{budget_fault, list_told, open_fault, plain_by_kind, plain_list_fault, status_of, told_unless, wide_fault}
 use Rattle.mdmp_c.specs.Giving.{Ends, GivesList, answers, bad_limits, stops, told_count, wants}
+use Rattle.mdmp_c.specs.Limits.{AreGiven, KeepsMemory}
+use Rattle.mdmp_c.specs.declared.limits.PlainLimits.{PlainLimits}
+use Rattle.mdmp_lister.specs.declared.limits.Limits.{Limits}
+use Rattle.mdmp_lister.specs.Memory.{IsRefusalWithin, opening_fault_within}
 use Rattle.mdmp_c.specs.Table.{Collects, IsTable, PutsRows, collects_all, collects_some, rows_unless}
 use Rattle.mdmp_c.proofs.Gathered.{put_front-nothing}
 use Rattle.mdmp_c.proofs.Stopping.{IsLimitTold}
@@ -24,6 +28,11 @@ use Rattle.mdmp_lister.specs.Opening.{IsRefusalOf, IsUnread}
 pub plain_budget : (f : ListFault) → f.kind ≡ kinds.Budget → plain_list_fault f ≡ budget_fault f.offset f.size
 plain_budget f is = ap (λ (kind : FaultKind). plain_by_kind kind f) is
 
+-- the limit of memory is kept if the same keeps a file from being opened within the limits and without
+pub keeps_memory : (plain : PlainLimits) (limits : Limits) (F : List ℕ) (choice : Choice) (fault : Option OpenFault) → AreGiven plain limits → opening_fault_within limits F choice ≡ fault → opening_fault F choice ≡ fault
+    → KeepsMemory plain F choice
+keeps_memory plain limits F choice fault given within is = record { limits = limits; given = given; within = within ∙ sym is }
+
 -- a room is never below nothing
 fits_nothing : (n s : ℕ) → s ≡ (if nat_lt n 0 then 4 else s)
 fits_nothing n s =
@@ -36,14 +45,14 @@ pub record WouldTell {T : Type 0} (IsTold : PlainFault → List T → Type 0) : 
   pub all : List T
   pub is : IsTold whole all
 
-module _ {T : Type 0} (IsTold : PlainFault → List T → Type 0) (F : List ℕ) (choice : Choice) (valid : Type 0) (MayTell : PlainFault → Type 0)
+module _ {T : Type 0} (IsTold : PlainFault → List T → Type 0) (F : List ℕ) (choice : Choice) (valid : Type 0) (plain : PlainLimits) (limits : Limits) (given : AreGiven plain limits) (MayTell : PlainFault → Type 0)
     (none_told : (fault : OpenFault) → opening_fault F choice ≡ Some fault → IsTold (open_fault fault) []) (would : WouldTell IsTold) where
   -- a file that is refused has no rows
-  refused : (fault : OpenFault) (status count : ℕ) (told : PlainFault) (before after : List T) → valid → opening_fault F choice ≡ Some fault
+  refused : (fault : OpenFault) (status count : ℕ) (told : PlainFault) (before after : List T) → valid → opening_fault F choice ≡ Some fault → opening_fault_within limits F choice ≡ Some fault
       → status ≡ status_of (open_fault fault) → count ≡ 0 → told ≡ open_fault fault → after ≡ before
-      → Ends IsTold valid MayTell bad_limits status count told before after
-  refused fault status count told before after ok is ends none tells same =
-      answers (open_fault fault) [] ok (none_told fault is)
+      → Ends IsTold valid (KeepsMemory plain F choice) MayTell bad_limits status count told before after
+  refused fault status count told before after ok is within ends none tells same =
+      answers (open_fault fault) [] ok (keeps_memory plain limits F choice (Some fault) given within is) (none_told fault is)
       record {
         status_is = ends ∙ fits_nothing (length before) (status_of (open_fault fault));
         count_is = none;
@@ -53,7 +62,7 @@ module _ {T : Type 0} (IsTold : PlainFault → List T → Type 0) (F : List ℕ)
 
   -- nor has one whose opening reached a limit
   stopped : (reason : PlainFault) (status count : ℕ) (told : PlainFault) (before after : List T) → valid → MayTell reason → status ≡ status_of reason → count ≡ 0 → told ≡ reason → after ≡ before
-      → Ends IsTold valid MayTell bad_limits status count told before after
+      → Ends IsTold valid (KeepsMemory plain F choice) MayTell bad_limits status count told before after
   stopped reason status count told before after ok can ends none tells same =
       stops reason [] ok can
       record { whole = would.whole; rest = would.all; begins = would.is }
@@ -65,26 +74,26 @@ module _ {T : Type 0} (IsTold : PlainFault → List T → Type 0) (F : List ℕ)
       }
 
   pub Ends-refused : (fault : OpenFault) (status count : ℕ) (told : PlainFault) (before after : List T) → valid
-      → (IsLimitTold fault → MayTell (open_fault fault)) → IsRefusalOf F choice fault → (IsUnread fault → ⊥)
+      → (IsLimitTold fault → MayTell (open_fault fault)) → IsRefusalOf F choice fault → IsRefusalWithin limits F choice fault → (IsUnread fault → ⊥)
       → status ≡ status_of (open_fault fault) → count ≡ 0 → told ≡ open_fault fault → after ≡ before
-      → Ends IsTold valid MayTell bad_limits status count told before after
-  Ends-refused (opening.Source f) status count told before after ok can is read ends none tells same = absurd (read tt)
-  Ends-refused (opening.Budget offset size) status count told before after ok can is read ends none tells same =
+      → Ends IsTold valid (KeepsMemory plain F choice) MayTell bad_limits status count told before after
+  Ends-refused (opening.Source f) status count told before after ok can is within read ends none tells same = absurd (read tt)
+  Ends-refused (opening.Budget offset size) status count told before after ok can is within read ends none tells same =
       stopped (budget_fault offset size) status count told before after ok (can tt) ends none tells same
-  Ends-refused (opening.MemoryLimit held) status count told before after ok can is read ends none tells same =
+  Ends-refused (opening.MemoryLimit held) status count told before after ok can is within read ends none tells same =
       stopped (wide_fault 72 held) status count told before after ok (can tt) ends none tells same
-  Ends-refused opening.Memory status count told before after ok can is read ends none tells same =
+  Ends-refused opening.Memory status count told before after ok can is within read ends none tells same =
       wants ok record { status_is = ends; count_is = none; fault_is = tells; untouched = same }
-  Ends-refused (opening.TooShort size) status count told before after ok can is read ends none tells same =
-      refused (opening.TooShort size) status count told before after ok is ends none tells same
-  Ends-refused opening.BadSignature status count told before after ok can is read ends none tells same =
-      refused opening.BadSignature status count told before after ok is ends none tells same
-  Ends-refused (opening.BadVersion low) status count told before after ok can is read ends none tells same =
-      refused (opening.BadVersion low) status count told before after ok is ends none tells same
-  Ends-refused (opening.DirectoryOutside offset size) status count told before after ok can is read ends none tells same =
-      refused (opening.DirectoryOutside offset size) status count told before after ok is ends none tells same
-  Ends-refused (opening.TooManyRanges n) status count told before after ok can is read ends none tells same =
-      refused (opening.TooManyRanges n) status count told before after ok is ends none tells same
+  Ends-refused (opening.TooShort size) status count told before after ok can is within read ends none tells same =
+      refused (opening.TooShort size) status count told before after ok is within ends none tells same
+  Ends-refused opening.BadSignature status count told before after ok can is within read ends none tells same =
+      refused opening.BadSignature status count told before after ok is within ends none tells same
+  Ends-refused (opening.BadVersion low) status count told before after ok can is within read ends none tells same =
+      refused (opening.BadVersion low) status count told before after ok is within ends none tells same
+  Ends-refused (opening.DirectoryOutside offset size) status count told before after ok can is within read ends none tells same =
+      refused (opening.DirectoryOutside offset size) status count told before after ok is within ends none tells same
+  Ends-refused (opening.TooManyRanges n) status count told before after ok can is within read ends none tells same =
+      refused (opening.TooManyRanges n) status count told before after ok is within ends none tells same
 
 module _ {T : Type 0} (row : Item → Option T) (F : List ℕ) (choice : Choice) (limit : ℕ) where
   pub no_rows : (fault : OpenFault) → opening_fault F choice ≡ Some fault → IsTable row F choice limit (open_fault fault) []
@@ -100,7 +109,7 @@ module _ {T : Type 0} (row : Item → Option T) (F : List ℕ) (choice : Choice)
     is = record { told_is = refl; rows_are = refl };
   }
 
-  module _ (valid : Type 0) (MayTell : PlainFault → Type 0) (MayEnd : ListFault → Type 0) where
+  module _ (valid kept : Type 0) (MayTell : PlainFault → Type 0) (MayEnd : ListFault → Type 0) where
     rows_given : (items : List Item) (status count : ℕ) (told fault : PlainFault) (before after : List T) → PutsRows row items count before after
         → ((n : ℕ) → count ≡ told_count n → status ≡ (if nat_lt (length before) n then 4 else status_of told)) → fault ≡ told
         → GivesList told (filter_map row items) status count fault before after
@@ -112,15 +121,15 @@ module _ {T : Type 0} (row : Item → Option T) (F : List ℕ) (choice : Choice)
     }
 
     -- the rows of a file that was opened were put into the array
-    pub Ends-collected : (status count : ℕ) (fault : Option ListFault) (told : PlainFault) (before after : List T) → valid → ((f : ListFault) → MayEnd f → MayTell (budget_fault f.offset f.size)) → opening_fault F choice ≡ None
+    pub Ends-collected : (status count : ℕ) (fault : Option ListFault) (told : PlainFault) (before after : List T) → valid → kept → ((f : ListFault) → MayEnd f → MayTell (budget_fault f.offset f.size)) → opening_fault F choice ≡ None
         → Collects row MayEnd run count fault before after
         → ((n : ℕ) → count ≡ told_count n → status ≡ (if nat_lt (length before) n then 4 else status_of (list_told fault)))
-        → told ≡ list_told fault → Ends (IsTable row F choice limit) valid MayTell bad_limits status count told before after
-    Ends-collected status count fault told before after ok can opened (collects_all same h) ends tells =
-        answers (list_told fault) (filter_map row run.items) ok
+        → told ≡ list_told fault → Ends (IsTable row F choice limit) valid kept MayTell bad_limits status count told before after
+    Ends-collected status count fault told before after ok keeps can opened (collects_all same h) ends tells =
+        answers (list_told fault) (filter_map row run.items) ok keeps
         record { told_is = rw opened (ap list_told same); rows_are = rw opened refl }
         (rows_given run.items status count (list_told fault) told before after h ends tells)
-    Ends-collected status count fault told before after ok can opened (collects_some given cut h) ends tells =
+    Ends-collected status count fault told before after ok keeps can opened (collects_some given cut h) ends tells =
         stops (list_told fault) (filter_map row given) ok
         (subst MayTell (sym (ap list_told cut.told_is ∙ plain_budget cut.told cut.kind)) (can cut.told cut.reached))
         record {

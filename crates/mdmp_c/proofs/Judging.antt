@@ -1,5 +1,5 @@
 -- The verdicts that a sink has put into an array, and how a call that gives them ends.
-use Rattle.std.proofs.Common.{◌≡◌, ◌∙◌, ◌<◌, ◌+◌, ◌-◌, ◌^◌, ◌++◌, ℕ, List, [], ◌∷◌, Option, Some, None, ap, arith, inl, inr, length, length-append, map, refl, subst, sym, append_assoc, append-nil}
+use Rattle.std.proofs.Common.{◌≡◌, ◌∙◌, ◌<◌, ◌+◌, ◌-◌, ◌^◌, ◌++◌, ℕ, List, [], ◌∷◌, Some, None, ap, arith, inl, inr, length, length-append, map, refl, subst, sym, append_assoc, append-nil}
 use Rattle.std.specs.Prelude.{Result, min, nat_lt, if◌then◌else◌}
 use Rattle.std.proofs.lemmas.List.{length-map, map-append}
 use Rattle.mdmp_lister.specs.declared.choice.Choice.TheVariants.{All}
@@ -96,17 +96,17 @@ verdicts_given vs judged status count told fault before after h ends counts same
       out = h.out;
     }
 
-pub Ends-judged : (F : List ℕ) (limit : ℕ) (valid : Type 0) (MayTell : PlainFault → Type 0) (MayEnd : ListFault → Type 0) (judged : Judged) (status count : ℕ) (told fault : PlainFault) (before after : List PlainFault) → valid
+pub Ends-judged : (F : List ℕ) (limit : ℕ) (valid kept : Type 0) (MayTell : PlainFault → Type 0) (MayEnd : ListFault → Type 0) (judged : Judged) (status count : ℕ) (told fault : PlainFault) (before after : List PlainFault) → valid → kept
     → ((f : ListFault) → MayEnd f → MayTell (budget_fault f.offset f.size)) → opening_fault F All ≡ None
     → entry_count F < 2 ^ 32 → Judges F All limit MayEnd judged before after → told ≡ ending_told judged.bad judged.fault
     → ((n : ℕ) → judged.count ≡ told_count n → status ≡ (if nat_lt (length before) n then 4 else status_of told)) → count ≡ judged.count → fault ≡ told
-    → Ends (AreVerdicts F limit) valid MayTell bad_limits status count fault before after
-Ends-judged F limit valid MayTell MayEnd judged status count told fault before after ok can opened few (judges_all none h) tells ends counts same =
+    → Ends (AreVerdicts F limit) valid kept MayTell bad_limits status count fault before after
+Ends-judged F limit valid kept MayTell MayEnd judged status count told fault before after ok keeps can opened few (judges_all none h) tells ends counts same =
     let bad : judged.bad ≡ bad_count (verdicts F All limit) = h.bad_is ∙ few_told F limit few in
-    answers told (map verdict_row (verdicts F All limit)) ok
+    answers told (map verdict_row (verdicts F All limit)) ok keeps
     record { told_is = tells ∙ ap (ending_told judged.bad) none ∙ ap bad_entries bad ∙ (rw opened refl); rows_are = rw opened refl }
     (verdicts_given (verdicts F All limit) judged status count told fault before after h ends counts same)
-Ends-judged F limit valid MayTell MayEnd judged status count told fault before after ok can opened few (judges_some vs cut h) tells ends counts same =
+Ends-judged F limit valid kept MayTell MayEnd judged status count told fault before after ok keeps can opened few (judges_some vs cut h) tells ends counts same =
     stops told (map verdict_row vs) ok
     (subst MayTell (sym (tells ∙ ap (ending_told judged.bad) cut.told_is ∙ plain_budget cut.told cut.kind)) (can cut.told cut.reached))
     record {

@@ -157,22 +157,22 @@ module _ (form : LineForm) (pdb : Bool) (F : List ℕ) (limit skip : ℕ) where
     is = record { told_is = refl; part_is = refl };
   }
 
-  module _ (valid : Type 0) (MayTell : PlainFault → Type 0) (MayEnd : ToolFault → Type 0) where
+  module _ (valid IsKept : Type 0) (MayTell : PlainFault → Type 0) (MayEnd : ToolFault → Type 0) (keeps : IsKept) where
     answered : (told : PlainFault) (status count : ℕ) (fault : PlainFault) (before after : List ℕ) (p s n : ℕ) (kept : List ℕ) → valid → opening_fault F All ≡ None
         → told ≡ list_told run.fault → IsPartOf skip (length before) whole p s n kept
         → ((part : List ℕ) → n ≡ told_count (length part) → kept ≡ take (length before) part → GivesOrWants told part status count fault before after)
-        → Ends (IsListPart form pdb skip F limit) valid MayTell bad_limits status count fault before after
+        → Ends (IsListPart form pdb skip F limit) valid IsKept MayTell bad_limits status count fault before after
     answered told status count fault before after p s n kept ok opened is part gives =
-        Ends-given (IsListPart form pdb skip F limit) valid MayTell bad_limits told (drop skip whole) status count fault before after ok
-        (inr (inl (record { told_is = rw opened is; part_is = rw opened refl }))) (gives (drop skip whole) part.size_is part.kept_is)
+        Ends-given (IsListPart form pdb skip F limit) valid IsKept MayTell bad_limits told (drop skip whole) status count fault before after ok
+        (inr (inl (keeps, record { told_is = rw opened is; part_is = rw opened refl }))) (gives (drop skip whole) part.size_is part.kept_is)
 
     -- a limit was reached behind the first of the text
     stopped : (told : PlainFault) (reached : Type 0) (status count : ℕ) (fault : PlainFault) (before after : List ℕ) (p s n : ℕ) (kept : List ℕ) → valid → opening_fault F All ≡ None
         → PutsFirst (λ text. IsPartOf skip (length before) text p s n kept) reached whole → MayTell told
         → ((part : List ℕ) → n ≡ told_count (length part) → kept ≡ take (length before) part → GivesOrWants told part status count fault before after)
-        → Ends (IsListPart form pdb skip F limit) valid MayTell bad_limits status count fault before after
+        → Ends (IsListPart form pdb skip F limit) valid IsKept MayTell bad_limits status count fault before after
     stopped told reached status count fault before after p s n kept ok opened puts may gives =
-        Ends-given (IsListPart form pdb skip F limit) valid MayTell bad_limits told (drop skip puts.given) status count fault before after ok
+        Ends-given (IsListPart form pdb skip F limit) valid IsKept MayTell bad_limits told (drop skip puts.given) status count fault before after ok
         (inr (inr (
           may,
           record {
@@ -192,7 +192,7 @@ module _ (form : LineForm) (pdb : Bool) (F : List ℕ) (limit skip : ℕ) where
         → opening_fault F All ≡ None → PutsRun (λ text. IsPartOf skip (length before) text p s n kept) MayEnd whole run answer
         → ((part : List ℕ) → n ≡ told_count (length part) → kept ≡ take (length before) part → GivesOrWants (list_answer answer) part status count fault before after)
         → (list_answer answer ≡ no_memory → Fails no_memory status count fault before after)
-        → Ends (IsListPart form pdb skip F limit) valid MayTell bad_limits status count fault before after
+        → Ends (IsListPart form pdb skip F limit) valid IsKept MayTell bad_limits status count fault before after
     Ends-part (Ok x) status count fault before after p s n kept ok can opened puts gives none =
         answered (list_answer (Ok x)) status count fault before after p s n kept ok opened (ap list_told (sym puts.0)) puts.1 gives
     Ends-part (Err (BadList f)) status count fault before after p s n kept ok can opened puts gives none =
@@ -210,11 +210,11 @@ module _ (form : LineForm) (pdb : Bool) (F : List ℕ) (limit : ℕ) where
   all_of : (told : PlainFault) (text : List ℕ) → IsListPart form pdb 0 F limit told text → IsList form pdb F limit told text
   all_of told text part = record { told_is = part.told_is; text_is = part.part_is }
 
-  pub Ends-whole : (valid : Type 0) (MayTell : PlainFault → Type 0) (status count : ℕ) (fault : PlainFault) (before after : List ℕ)
-      → Ends (IsListPart form pdb 0 F limit) valid MayTell bad_limits status count fault before after
-      → Ends (IsList form pdb F limit) valid MayTell bad_limits status count fault before after
-  Ends-whole valid MayTell status count fault before after (answers told text ok is gives) = answers told text ok (all_of told text is) gives
-  Ends-whole valid MayTell status count fault before after (wants ok fails) = wants ok fails
-  Ends-whole valid MayTell status count fault before after (stops told text ok can cut gives) =
+  pub Ends-whole : (valid kept : Type 0) (MayTell : PlainFault → Type 0) (status count : ℕ) (fault : PlainFault) (before after : List ℕ)
+      → Ends (IsListPart form pdb 0 F limit) valid kept MayTell bad_limits status count fault before after
+      → Ends (IsList form pdb F limit) valid kept MayTell bad_limits status count fault before after
+  Ends-whole valid kept MayTell status count fault before after (answers told text ok keeps is gives) = answers told text ok keeps (all_of told text is) gives
+  Ends-whole valid kept MayTell status count fault before after (wants ok fails) = wants ok fails
+  Ends-whole valid kept MayTell status count fault before after (stops told text ok can cut gives) =
       stops told text ok can record { whole = cut.whole; rest = cut.rest; begins = all_of cut.whole (text ++ cut.rest) cut.begins } gives
-  Ends-whole valid MayTell status count fault before after (refuses bad fails) = refuses bad fails
+  Ends-whole valid kept MayTell status count fault before after (refuses bad fails) = refuses bad fails

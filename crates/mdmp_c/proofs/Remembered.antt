@@ -12,10 +12,12 @@ use Rattle.mdmp_lister.specs.Format.Listing.{listing, memory_lists}
 use Rattle.mdmp_lister.specs.Format.Refusal.{opening_fault}
 use Rattle.mdmp_c.specs.declared.fault.PlainFault.{PlainFault}
 use Rattle.mdmp_c.specs.declared.limits.PlainLimits.{PlainLimits}
-use Rattle.mdmp_c.specs.Limits.{AreLimits, EndsListing}
+use Rattle.mdmp_c.specs.Limits.{AreGiven, AreLimits, EndsListing, KeepsMemory}
+use Rattle.mdmp_lister.specs.declared.limits.Limits.{Limits}
+use Rattle.mdmp_lister.specs.Memory.{IsRefusalWithin, opening_fault_within}
 use Rattle.mdmp_c.specs.Fault.{budget_fault, open_fault, plain_by_kind, plain_list_fault, no_fault, status_of, wide_fault}
 use Rattle.mdmp_c.specs.Memory.{ReadsMemory, faulty, memory_told, stops, wants}
-use Rattle.mdmp_c.proofs.Ending.{plain_budget}
+use Rattle.mdmp_c.proofs.Ending.{keeps_memory, plain_budget}
 use Rattle.mdmp_c.proofs.Stopping.{IsLimitTold, of_budget}
 
 -- a fault of a listing that is the file's has status 1
@@ -46,10 +48,10 @@ some_fault told status none = let wrong : status_of no_fault ≡ 1 = subst (λ (
 
 -- the memory lists of a file that can be opened end with a fault: it is the file's, or the budget was reached
 pub ReadsMemory-fault : (F : List ℕ) (limits : PlainLimits) (name : ℕ) (choice : Choice) (f : ListFault) (address status : ℕ) (fault : PlainFault) (out : List ℕ) (known : List Bool)
-    → AreLimits limits → length out ≡ length known → choice ≡ memory_lists → name ≡ limits.name → opening_fault F choice ≡ None → (IsOfStore f.kind → ⊥)
+    → AreLimits limits → KeepsMemory limits F memory_lists → length out ≡ length known → choice ≡ memory_lists → name ≡ limits.name → opening_fault F choice ≡ None → (IsOfStore f.kind → ⊥)
     → ((IsUnobtained f.kind → ⊥) → (listing F choice name).fault ≡ Some f) → (f.kind ≡ kinds.Budget → EndsListing limits F memory_lists (budget_fault f.offset f.size))
     → status ≡ status_of (plain_list_fault f) → fault ≡ plain_list_fault f → ReadsMemory F limits address status fault out out known known
-ReadsMemory-fault F limits name choice f address status fault out known valid same is named opened good lists can ends tells = by (of_budget f.kind good) where
+ReadsMemory-fault F limits name choice f address status fault out known valid keeps same is named opened good lists can ends tells = by (of_budget f.kind good) where
   by : (f.kind ≡ kinds.Budget) ⊎ (IsUnobtained f.kind → ⊥) → ReadsMemory F limits address status fault out out known known
   by (inl budget) =
       let plain = plain_budget f budget in
@@ -57,31 +59,32 @@ ReadsMemory-fault F limits name choice f address status fault out known valid sa
       record { status_is = ends ∙ ap status_of plain; fault_is = tells ∙ plain; out = refl; known = refl }
   by (inr of_file) =
       let told = memory_told-fault F limits.name name choice f is named opened (lists of_file) in
-      faulty valid same (some_fault _ (ap status_of told ∙ status-file f.kind f of_file))
+      faulty valid keeps same (some_fault _ (ap status_of told ∙ status-file f.kind f of_file))
       record { status_is = ends ∙ status-file f.kind f of_file; fault_is = tells ∙ sym told; out = refl; known = refl }
 
 -- the file was refused: for what is in it, since memory was wanting, or since the budget was reached
 module _ (F : List ℕ) (limits : PlainLimits) (choice : Choice) (address : ℕ) (out : List ℕ) (known : List Bool) (valid : AreLimits limits) (same : length out ≡ length known)
-    (is : choice ≡ memory_lists) where
-  refused_for : (fault : OpenFault) (status : ℕ) (told : PlainFault) → opening_fault F choice ≡ Some fault → status_of (open_fault fault) ≡ 1
+    (is : choice ≡ memory_lists) (within_of : Limits) (given : AreGiven limits within_of) where
+  refused_for : (fault : OpenFault) (status : ℕ) (told : PlainFault) → opening_fault F choice ≡ Some fault → opening_fault_within within_of F choice ≡ Some fault → status_of (open_fault fault) ≡ 1
       → status ≡ status_of (open_fault fault) → told ≡ open_fault fault → ReadsMemory F limits address status told out out known known
-  refused_for fault status told refused one ends tells =
+  refused_for fault status told refused within one ends tells =
       let first : opening_fault F memory_lists ≡ Some fault = subst (λ (c : Choice). opening_fault F c ≡ Some fault) is refused in
       let all : memory_told F limits.name ≡ open_fault fault = rw first refl in
-      faulty valid same (some_fault _ (ap status_of all ∙ one))
+      let keeps : KeepsMemory limits F memory_lists = subst (KeepsMemory limits F) is (keeps_memory limits within_of F choice (Some fault) given within refused) in
+      faulty valid keeps same (some_fault _ (ap status_of all ∙ one))
       record { status_is = ends ∙ one; fault_is = tells ∙ sym all; out = refl; known = refl }
 
   pub ReadsMemory-refused : (fault : OpenFault) (status : ℕ) (told : PlainFault) → (IsLimitTold fault → EndsListing limits F memory_lists (open_fault fault))
-      → IsRefusalOf F choice fault → (IsUnread fault → ⊥) → status ≡ status_of (open_fault fault) → told ≡ open_fault fault
+      → IsRefusalOf F choice fault → IsRefusalWithin within_of F choice fault → (IsUnread fault → ⊥) → status ≡ status_of (open_fault fault) → told ≡ open_fault fault
       → ReadsMemory F limits address status told out out known known
-  ReadsMemory-refused (opening.Source fault) status told can of read ends tells = absurd (read tt)
-  ReadsMemory-refused (opening.Budget offset size) status told can of read ends tells =
+  ReadsMemory-refused (opening.Source fault) status told can of within read ends tells = absurd (read tt)
+  ReadsMemory-refused (opening.Budget offset size) status told can of within read ends tells =
       stops valid (budget_fault offset size) (can tt) same record { status_is = ends; fault_is = tells; out = refl; known = refl }
-  ReadsMemory-refused (opening.MemoryLimit held) status told can of read ends tells =
+  ReadsMemory-refused (opening.MemoryLimit held) status told can of within read ends tells =
       stops valid (wide_fault 72 held) (can tt) same record { status_is = ends; fault_is = tells; out = refl; known = refl }
-  ReadsMemory-refused opening.Memory status told can of read ends tells = wants valid same record { status_is = ends; fault_is = tells; out = refl; known = refl }
-  ReadsMemory-refused (opening.TooShort size) status told can of read ends tells = refused_for (opening.TooShort size) status told of refl ends tells
-  ReadsMemory-refused opening.BadSignature status told can of read ends tells = refused_for opening.BadSignature status told of refl ends tells
-  ReadsMemory-refused (opening.BadVersion low) status told can of read ends tells = refused_for (opening.BadVersion low) status told of refl ends tells
-  ReadsMemory-refused (opening.DirectoryOutside offset size) status told can of read ends tells = refused_for (opening.DirectoryOutside offset size) status told of refl ends tells
-  ReadsMemory-refused (opening.TooManyRanges n) status told can of read ends tells = refused_for (opening.TooManyRanges n) status told of refl ends tells
+  ReadsMemory-refused opening.Memory status told can of within read ends tells = wants valid same record { status_is = ends; fault_is = tells; out = refl; known = refl }
+  ReadsMemory-refused (opening.TooShort size) status told can of within read ends tells = refused_for (opening.TooShort size) status told of within refl ends tells
+  ReadsMemory-refused opening.BadSignature status told can of within read ends tells = refused_for opening.BadSignature status told of within refl ends tells
+  ReadsMemory-refused (opening.BadVersion low) status told can of within read ends tells = refused_for (opening.BadVersion low) status told of within refl ends tells
+  ReadsMemory-refused (opening.DirectoryOutside offset size) status told can of within read ends tells = refused_for (opening.DirectoryOutside offset size) status told of within refl ends tells
+  ReadsMemory-refused (opening.TooManyRanges n) status told can of within read ends tells = refused_for (opening.TooManyRanges n) status told of within refl ends tells

@@ -1,6 +1,6 @@
 -- Where a limit is told, it was reached.
-use Rattle.std.proofs.Common.{◌≡◌, ◌≤◌, ◌<◌, ◌+◌, ◌-◌, ◌*◌, ◌^◌, ◌∙◌, ◌⊎◌, ℕ, Bool, List, Option, None, Some, Err, false, true, ap, arith, inl, inr, length, refl, subst}
-use Rattle.std.specs.Prelude.{◌==◌, IfSome, IsTrue, Result, max, nat_le, nat_lt, if◌then◌else◌}
+use Rattle.std.proofs.Common.{◌≡◌, ◌≤◌, ◌<◌, ◌+◌, ◌-◌, ◌*◌, ◌^◌, ◌∙◌, ◌⊎◌, ℕ, Bool, List, Option, None, Some, Err, false, true, ap, arith, inl, inr, length, refl, subst, sym}
+use Rattle.std.specs.Prelude.{◌==◌, IfSome, IsTrue, Ok, Result, max, nat_le, nat_lt, if◌then◌else◌}
 use Rattle.std.specs.Option.{option_map}
 use Rattle.std.proofs.lemmas.Bool.Decides.{nat_tests}
 use Rattle.std.proofs.Math.Nat.{mul-le-mul_right}
@@ -23,22 +23,27 @@ use Rattle.mdmp_lister.specs.Format.Bounds.{fetch_bound}
 use Rattle.mdmp_lister.specs.Format.Listing.{entry_count, listing}
 use Rattle.mdmp_lister.specs.Format.Numbers.{listed_bytes}
 use Rattle.mdmp_lister.specs.Lister.{IsRefusedIn, IsSameLister, ListerState, Rooms}
-use Rattle.mdmp_lister.specs.Memory.{IsRefusalWithin, TellsMemory, is_within, leaving, opening_fault_within}
+use Rattle.mdmp_lister.specs.Memory.{IsRefusalWithin, TellsMemory, earlier_fault, is_within, leaving, mapped_fault, opening_fault_within, unmapped_fault}
+use Rattle.mdmp_lister.specs.Format.Refusal.{behind_directory, directory_refusal, opening_fault, range_fault}
+use Rattle.mdmp_source.specs.Output.{OutState}
+use Rattle.mdmp_tool.specs.CheckRuns.{Checks}
+use Rattle.mdmp_words.specs.declared.request.LineForm.{LineForm}
+use Rattle.std.proofs.lemmas.Option.{none-some}
 use Rattle.mdmp_lister.specs.Meter.{IsRefusedFetch, IsUnmade, KeepsTo, is_passed}
 use Rattle.mdmp_lister.specs.Opening.{KeepsToBudget}
 use Rattle.mdmp_lister.specs.Sink.{names_of_all}
 use Rattle.mdmp_tool.specs.Causes.{HasBudgetCause, KeepsAside}
 use Rattle.mdmp_tool.specs.Engines.{IsReadThrough, IsSameRun, check_access}
 use Rattle.mdmp_tool.specs.declared.fault.ToolFault.{ToolFault}
-use Rattle.mdmp_tool.specs.declared.fault.ToolFault.TheVariants.{AsideLimit, Budget, MemoryLimit}
+use Rattle.mdmp_tool.specs.declared.fault.ToolFault.TheVariants.{AsideLimit, Budget, MemoryLimit, Opening}
 use Rattle.mdmp_c.specs.declared.limits.PlainLimits.{PlainLimits}
 use Rattle.mdmp_c.specs.declared.fault.PlainFault.{PlainFault}
 use Rattle.mdmp_c.specs.Fault.{budget_fault, open_fault}
-use Rattle.mdmp_c.specs.Limits.{AreGiven, EndsChecking, EndsText, IsLimit, ReachesLimit, ends_aside, ends_text, limit_of, most_read, names_checked, names_listed, reaches_budget, reaches_memory}
+use Rattle.mdmp_c.specs.Limits.{AreGiven, EndsChecking, EndsText, IsLimit, KeepsMemory, ReachesLimit, ends_aside, ends_text, limit_of, most_read, names_checked, names_listed, reaches_budget, reaches_memory}
 use Rattle.mdmp_c.specs.Table.{EndsListAt, IsEndedAt}
 use Rattle.mdmp_c.specs.TextPart.{EndsTextAt}
 use Rattle.mdmp_c.specs.ToolFault.{check_answer, list_answer}
-use Rattle.mdmp_c.proofs.Told.{IsLimited, IsTextLimit}
+use Rattle.mdmp_c.proofs.Told.{IsAnswered, IsLimited, IsTextLimit}
 
 -- a fault of a listing that is not the store's is the budget's or the file's
 pub of_budget : (kind : FaultKind) → (IsOfStore kind → ⊥) → (kind ≡ kinds.Budget) ⊎ (IsUnobtained kind → ⊥)
@@ -300,3 +305,28 @@ check_over plain limits F old new (Err (MemoryLimit held)) given known size smal
 check_over plain limits F old new (Err (AsideLimit at len)) given known size small now same (IsReadThrough.listed run) told = let over = run.aside_kept.over.0 in absurd (cc)
 check_over plain limits F old new (Err (AsideLimit at len)) given known size small now same (IsReadThrough.refused asked early kept memory fetches inside) told = absurd early
 check_over plain limits F old new answer given known size small now same through told = absurd told
+
+-- what keeps a file from being opened keeps it from that within limits
+ranged : (r m : Option OpenFault) (fault : OpenFault) → earlier_fault r m ≡ None → r ≡ Some fault → ⊥
+ranged (Some f) m fault none some = none-some f (sym none)
+ranged None m fault none some = none-some fault some
+
+opened_within : (limits : Limits) (F : List ℕ) (choice : Choice) (fault : OpenFault) → opening_fault_within limits F choice ≡ None → opening_fault F choice ≡ Some fault → ⊥
+opened_within limits F choice fault opens is = by (directory_refusal F) (unmapped_fault limits F) opens is where
+  by : (d u : Option OpenFault) → earlier_fault (earlier_fault d u) (earlier_fault (range_fault F choice) (mapped_fault limits F choice)) ≡ None → behind_directory F choice d ≡ Some fault → ⊥
+  by (Some f) u none some = none-some f (sym none)
+  by None (Some f) none some = none-some f (sym none)
+  by None None none some = ranged (range_fault F choice) (mapped_fault limits F choice) fault none some
+
+-- of a file of which it tells, the limit of memory was kept
+pub check_keeps : (plain : PlainLimits) (limits : Limits) (F : List ℕ) (old new : SourceState) (answer : Result ℕ ToolFault) (form : LineForm) (before after : OutState) → AreGiven plain limits → old.store.content ≡ Some F
+    → IsReadThrough (check_access limits) old answer new → Checks form F limits.name before answer after → IsAnswered answer → KeepsMemory plain F All
+check_keeps plain limits F old new (Ok bad) form before after given known (IsReadThrough.listed run) runs told =
+    record { limits = limits; given = given; within = subst (λ (l : Limits). opening_fault_within l F All ≡ None) (leaving_none limits) (run.opens F known) ∙ sym runs.says.0 }
+check_keeps plain limits F old new (Ok bad) form before after given known (IsReadThrough.refused asked early kept memory fetches inside) runs told = absurd early
+check_keeps plain limits F old new (Err (Opening fault)) form before after given known (IsReadThrough.listed run) runs told =
+    let opens : opening_fault_within limits F All ≡ None = subst (λ (l : Limits). opening_fault_within l F All ≡ None) (leaving_none limits) (run.opens F known) in
+    absurd (opened_within limits F All fault opens runs.says)
+check_keeps plain limits F old new (Err (Opening fault)) form before after given known (IsReadThrough.refused asked early kept memory fetches inside) runs told =
+    record { limits = limits; given = given; within = subst (λ (l : Limits). opening_fault_within l F All ≡ Some fault) (leaving_none limits) (memory F known) ∙ sym runs.says }
+check_keeps plain limits F old new answer form before after given known through runs told = absurd told

@@ -37,16 +37,16 @@ pub record IsStopped {X : Type 0} (IsTold : PlainFault → List X → Type 0) (x
   pub rest : List X
   pub begins : IsTold whole (xs ++ rest)
 
--- what a call answers: with good arguments that is what is told of the file, and what is given of it; or memory was wanting, in
--- which case nothing is told of it; or a limit was reached that may be told, and what was read up to there is given. With
--- others it is that one of these is bad
-pub data Ends {X : Type 0} (IsTold : PlainFault → List X → Type 0) (IsValid : Type 0) (MayTell : PlainFault → Type 0) (refusal : PlainFault) (status count : ℕ) (fault : PlainFault) (before after : List X) : Type 0 where
-  answers : (told : PlainFault) (xs : List X) → IsValid → IsTold told xs → GivesList told xs status count fault before after
-      → Ends IsTold IsValid MayTell refusal status count fault before after
-  wants : IsValid → Fails no_memory status count fault before after → Ends IsTold IsValid MayTell refusal status count fault before after
+-- what a call answers: with good arguments that is what is told of the file, and what is given of it, if the limits are kept; or memory
+-- was wanting, in which case nothing is told of it; or a limit was reached that may be told, and what was read up to there is given.
+-- With others it is that one of these is bad
+pub data Ends {X : Type 0} (IsTold : PlainFault → List X → Type 0) (IsValid IsKept : Type 0) (MayTell : PlainFault → Type 0) (refusal : PlainFault) (status count : ℕ) (fault : PlainFault) (before after : List X) : Type 0 where
+  answers : (told : PlainFault) (xs : List X) → IsValid → IsKept → IsTold told xs → GivesList told xs status count fault before after
+      → Ends IsTold IsValid IsKept MayTell refusal status count fault before after
+  wants : IsValid → Fails no_memory status count fault before after → Ends IsTold IsValid IsKept MayTell refusal status count fault before after
   stops : (told : PlainFault) (xs : List X) → IsValid → MayTell told → IsStopped IsTold xs → GivesList told xs status count fault before after
-      → Ends IsTold IsValid MayTell refusal status count fault before after
-  refuses : (IsValid → ⊥) → Fails refusal status count fault before after → Ends IsTold IsValid MayTell refusal status count fault before after
+      → Ends IsTold IsValid IsKept MayTell refusal status count fault before after
+  refuses : (IsValid → ⊥) → Fails refusal status count fault before after → Ends IsTold IsValid IsKept MayTell refusal status count fault before after
 
 abbrev pub bad_limits : PlainFault
 bad_limits = of_kind 67

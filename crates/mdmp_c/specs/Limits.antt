@@ -13,6 +13,7 @@ use Rattle.mdmp_lister.specs.Format.Bounds.{fetch_bound}
 use Rattle.mdmp_lister.specs.Format.Kind.{greatest_record}
 use Rattle.mdmp_lister.specs.Format.Listing.{chosen, entry_count, listing, verdicts}
 use Rattle.mdmp_lister.specs.Format.Numbers.{listed_bytes}
+use Rattle.mdmp_lister.specs.Format.Refusal.{opening_fault}
 use Rattle.mdmp_lister.specs.Limits.{most_bytes}
 use Rattle.mdmp_lister.specs.Memory.{opening_fault_within}
 use Rattle.mdmp_lister.specs.Sink.{names_of_all}
@@ -41,6 +42,12 @@ pub record AreGiven (plain : PlainLimits) (limits : Limits) : Type 0 where
 abbrev pub IsLimits : PlainLimits → Option Limits → Type 0
 IsLimits plain (Some limits) = AreGiven plain limits
 IsLimits plain None = AreLimits plain → ⊥
+
+-- the limit of memory is kept: within the limits, no other reason keeps F from being opened than without them
+pub record KeepsMemory (plain : PlainLimits) (F : List ℕ) (choice : Choice) : Type 0 where
+  pub limits : Limits
+  pub given : AreGiven plain limits
+  pub within : opening_fault_within limits F choice ≡ opening_fault F choice
 
 -- ---- what a call reads at most
 

@@ -24,7 +24,7 @@ pub extern "C" fn mdmp_copy_(
     size: &mut u64,
     fault: &mut PlainFault,
 ) -> u32
-    ensures gives { AreTypes types.now → Ends (IsCopyTold Global file.now types.now limits.now) (AreLimits limits.now) (λ _. ⊥) bad_limits result size.new fault.new out.old out.new }
+    ensures gives { AreTypes types.now → Ends (IsCopyTold Global file.now types.now limits.now) (AreLimits limits.now) (Unit {0}) (λ _. ⊥) bad_limits result size.new fault.new out.old out.new }
     ensures limits { (AreLimits limits.now → ⊥) → Fails bad_limits result size.new fault.new out.old out.new }
     ensures types { AreLimits limits.now → (AreTypes types.now → ⊥) → Fails bad_types result size.new fault.new out.old out.new }
 {

@@ -2,8 +2,9 @@
 ghost use Rattle.std.specs.Prelude.{◌≡◌, ◌+◌, ◌++◌, None, Some, ℕ, List, true};
 ghost use Rattle.mdmp_c.specs.Giving.{Ends, bad_limits};
 ghost use Rattle.mdmp_lister.specs.Memory.{is_within};
-ghost use Rattle.mdmp_c.specs.Limits.{AreLimits, EndsText, most_read};
+ghost use Rattle.mdmp_c.specs.Limits.{AreLimits, EndsText, KeepsMemory, most_read};
 ghost use Rattle.mdmp_c.specs.TextPart.{EndsAt, EndsTextAt, IsListPart, IsPartOf, PutsRun};
+ghost use Rattle.mdmp_lister.specs.declared.choice.Choice.TheVariants.{All};
 ghost use Rattle.mdmp_lister.specs.Format.Listing.{Run};
 ghost use Rattle.mdmp_lister.specs.Sink.{names_of_all};
 ghost use Rattle.mdmp_source.specs.Store.{IsGood};
@@ -34,7 +35,7 @@ pub extern "C" fn mdmp_list_part_(
     size: &mut u64,
     fault: &mut PlainFault,
 ) -> u32
-    ensures { Ends (IsListPart Text pdb skip file.now limits.now.name) (AreLimits limits.now) (EndsText limits.now file.now) bad_limits result size.new fault.new out.old out.new }
+    ensures { Ends (IsListPart Text pdb skip file.now limits.now.name) (AreLimits limits.now) (KeepsMemory limits.now file.now All) (EndsText limits.now file.now) bad_limits result size.new fault.new out.old out.new }
 {
     give_list(
         alloc,
@@ -64,7 +65,7 @@ pub(crate) fn give_list(
     size: &mut u64,
     fault: &mut PlainFault,
 ) -> u32
-    ensures { Ends (IsListPart form pdb skip file.now limits.now.name) (AreLimits limits.now) (EndsText limits.now file.now) bad_limits result size.new fault.new out.old out.new }
+    ensures { Ends (IsListPart form pdb skip file.now limits.now.name) (AreLimits limits.now) (KeepsMemory limits.now file.now All) (EndsText limits.now file.now) bad_limits result size.new fault.new out.old out.new }
 {
     let Some(limits) = limits_of(limits) else {
         return refuse(of_kind(67), size, fault);

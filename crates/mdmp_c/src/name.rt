@@ -20,7 +20,7 @@ pub extern "C" fn mdmp_name_(
     size: &mut u64,
     fault: &mut PlainFault,
 ) -> u32
-    ensures { Ends (IsToldName file.now rva limit) (Unit {0}) (λ _. ⊥) bad_limits result size.new fault.new out.old out.new }
+    ensures { Ends (IsToldName file.now rva limit) (Unit {0}) (Unit {0}) (λ _. ⊥) bad_limits result size.new fault.new out.old out.new }
 {
     match name_at(file, rva, limit) {
         Ok(Name::None) => give(NO_FAULT, &[], out, size, fault),

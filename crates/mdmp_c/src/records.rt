@@ -1,7 +1,7 @@
 //! Calls that give an array of records.
 ghost use Rattle.std.specs.Prelude.{◌∷◌, []};
 ghost use Rattle.mdmp_c.specs.Giving.{Ends, bad_limits};
-ghost use Rattle.mdmp_c.specs.Limits.{AreLimits, EndsListing};
+ghost use Rattle.mdmp_c.specs.Limits.{AreLimits, EndsListing, KeepsMemory};
 ghost use Rattle.mdmp_c.specs.Rows.{exception_row, module_row, range_row, region_row, system_row, thread_name_row, thread_row, unloaded_row};
 ghost use Rattle.mdmp_c.specs.Table.{IsTable};
 ghost use Rattle.mdmp_lister.specs.declared.choice.Choice.TheVariants.{Types};
@@ -26,7 +26,7 @@ pub extern "C" fn mdmp_threads_(
     count: &mut u64,
     fault: &mut PlainFault,
 ) -> u32
-    ensures { Ends (IsTable thread_row file.now (Types (3 ∷ [])) limits.now.name) (AreLimits limits.now) (EndsListing limits.now file.now (Types (3 ∷ []))) bad_limits result count.new fault.new out.old out.new }
+    ensures { Ends (IsTable thread_row file.now (Types (3 ∷ [])) limits.now.name) (AreLimits limits.now) (KeepsMemory limits.now file.now (Types (3 ∷ []))) (EndsListing limits.now file.now (Types (3 ∷ []))) bad_limits result count.new fault.new out.old out.new }
 {
     give_rows(alloc, file, limits, only(3), out, count, fault)
 }
@@ -41,7 +41,7 @@ pub extern "C" fn mdmp_modules_(
     count: &mut u64,
     fault: &mut PlainFault,
 ) -> u32
-    ensures { Ends (IsTable module_row file.now (Types (4 ∷ [])) limits.now.name) (AreLimits limits.now) (EndsListing limits.now file.now (Types (4 ∷ []))) bad_limits result count.new fault.new out.old out.new }
+    ensures { Ends (IsTable module_row file.now (Types (4 ∷ [])) limits.now.name) (AreLimits limits.now) (KeepsMemory limits.now file.now (Types (4 ∷ []))) (EndsListing limits.now file.now (Types (4 ∷ []))) bad_limits result count.new fault.new out.old out.new }
 {
     give_rows(alloc, file, limits, only(4), out, count, fault)
 }
@@ -57,7 +57,7 @@ pub extern "C" fn mdmp_exceptions_(
     count: &mut u64,
     fault: &mut PlainFault,
 ) -> u32
-    ensures { Ends (IsTable exception_row file.now (Types (6 ∷ [])) limits.now.name) (AreLimits limits.now) (EndsListing limits.now file.now (Types (6 ∷ []))) bad_limits result count.new fault.new out.old out.new }
+    ensures { Ends (IsTable exception_row file.now (Types (6 ∷ [])) limits.now.name) (AreLimits limits.now) (KeepsMemory limits.now file.now (Types (6 ∷ []))) (EndsListing limits.now file.now (Types (6 ∷ []))) bad_limits result count.new fault.new out.old out.new }
 {
     give_rows(alloc, file, limits, only(6), out, count, fault)
 }
@@ -73,7 +73,7 @@ pub extern "C" fn mdmp_systems_(
     count: &mut u64,
     fault: &mut PlainFault,
 ) -> u32
-    ensures { Ends (IsTable system_row file.now (Types (7 ∷ [])) limits.now.name) (AreLimits limits.now) (EndsListing limits.now file.now (Types (7 ∷ []))) bad_limits result count.new fault.new out.old out.new }
+    ensures { Ends (IsTable system_row file.now (Types (7 ∷ [])) limits.now.name) (AreLimits limits.now) (KeepsMemory limits.now file.now (Types (7 ∷ []))) (EndsListing limits.now file.now (Types (7 ∷ []))) bad_limits result count.new fault.new out.old out.new }
 {
     give_rows(alloc, file, limits, only(7), out, count, fault)
 }
@@ -88,7 +88,7 @@ pub extern "C" fn mdmp_unloaded_(
     count: &mut u64,
     fault: &mut PlainFault,
 ) -> u32
-    ensures { Ends (IsTable unloaded_row file.now (Types (14 ∷ [])) limits.now.name) (AreLimits limits.now) (EndsListing limits.now file.now (Types (14 ∷ []))) bad_limits result count.new fault.new out.old out.new }
+    ensures { Ends (IsTable unloaded_row file.now (Types (14 ∷ [])) limits.now.name) (AreLimits limits.now) (KeepsMemory limits.now file.now (Types (14 ∷ []))) (EndsListing limits.now file.now (Types (14 ∷ []))) bad_limits result count.new fault.new out.old out.new }
 {
     give_rows(alloc, file, limits, only(14), out, count, fault)
 }
@@ -103,7 +103,7 @@ pub extern "C" fn mdmp_regions_(
     count: &mut u64,
     fault: &mut PlainFault,
 ) -> u32
-    ensures { Ends (IsTable region_row file.now (Types (16 ∷ [])) limits.now.name) (AreLimits limits.now) (EndsListing limits.now file.now (Types (16 ∷ []))) bad_limits result count.new fault.new out.old out.new }
+    ensures { Ends (IsTable region_row file.now (Types (16 ∷ [])) limits.now.name) (AreLimits limits.now) (KeepsMemory limits.now file.now (Types (16 ∷ []))) (EndsListing limits.now file.now (Types (16 ∷ []))) bad_limits result count.new fault.new out.old out.new }
 {
     give_rows(alloc, file, limits, only(16), out, count, fault)
 }
@@ -118,7 +118,7 @@ pub extern "C" fn mdmp_thread_names_(
     count: &mut u64,
     fault: &mut PlainFault,
 ) -> u32
-    ensures { Ends (IsTable thread_name_row file.now (Types (24 ∷ [])) limits.now.name) (AreLimits limits.now) (EndsListing limits.now file.now (Types (24 ∷ []))) bad_limits result count.new fault.new out.old out.new }
+    ensures { Ends (IsTable thread_name_row file.now (Types (24 ∷ [])) limits.now.name) (AreLimits limits.now) (KeepsMemory limits.now file.now (Types (24 ∷ []))) (EndsListing limits.now file.now (Types (24 ∷ []))) bad_limits result count.new fault.new out.old out.new }
 {
     give_rows(alloc, file, limits, only(24), out, count, fault)
 }
@@ -133,7 +133,7 @@ pub extern "C" fn mdmp_ranges_(
     count: &mut u64,
     fault: &mut PlainFault,
 ) -> u32
-    ensures { Ends (IsTable range_row file.now memory_lists limits.now.name) (AreLimits limits.now) (EndsListing limits.now file.now memory_lists) bad_limits result count.new fault.new out.old out.new }
+    ensures { Ends (IsTable range_row file.now memory_lists limits.now.name) (AreLimits limits.now) (KeepsMemory limits.now file.now memory_lists) (EndsListing limits.now file.now memory_lists) bad_limits result count.new fault.new out.old out.new }
 {
     give_rows(
         alloc,

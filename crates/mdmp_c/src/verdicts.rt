@@ -1,8 +1,9 @@
 //! The call that gives verdicts.
 ghost use Rattle.std.specs.Prelude.{◌≡◌};
 ghost use Rattle.mdmp_c.specs.Giving.{Ends, bad_limits};
-ghost use Rattle.mdmp_c.specs.Limits.{AreLimits, EndsChecking};
+ghost use Rattle.mdmp_c.specs.Limits.{AreLimits, EndsChecking, KeepsMemory};
 ghost use Rattle.mdmp_c.specs.Verdicts.{AreVerdicts, ending_told};
+ghost use Rattle.mdmp_lister.specs.declared.choice.Choice.TheVariants.{All};
 
 use crate::fault::{PlainFault, of_kind, open_fault, plain_list_fault};
 use crate::giving::refuse;
@@ -27,7 +28,7 @@ pub extern "C" fn mdmp_verdicts_(
     count: &mut u64,
     fault: &mut PlainFault,
 ) -> u32
-    ensures { Ends (AreVerdicts file.now limits.now.name) (AreLimits limits.now) (EndsChecking limits.now file.now) bad_limits result count.new fault.new out.old out.new }
+    ensures { Ends (AreVerdicts file.now limits.now.name) (AreLimits limits.now) (KeepsMemory limits.now file.now All) (EndsChecking limits.now file.now) bad_limits result count.new fault.new out.old out.new }
 {
     let Some(limits) = limits_of(limits) else {
         return refuse(of_kind(67), count, fault);

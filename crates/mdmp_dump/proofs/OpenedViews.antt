@@ -1,5 +1,5 @@
 -- A view of a file that was opened.
-use Rattle.std.proofs.Common.{◌≡◌, ◌∙◌, ◌≤◌, ◌<◌, ◌+◌, ◌*◌, ◌^◌, ◌⊎◌, ℕ, List, [], length, Option, Some, None, ap, arith, get_or, inl, inr, ltb-false, map, refl, subst, sum, sym}
+use Rattle.std.proofs.Common.{◌≡◌, ◌∙◌, ◌≤◌, ◌<◌, ◌+◌, ◌*◌, ◌^◌, ◌⊎◌, ℕ, List, [], length, Option, Some, None, true, ap, arith, get_or, inl, inr, ltb-false, map, refl, subst, sum, sym}
 use Rattle.std.proofs.lemmas.Bool.{cases_lt}
 use Rattle.std.specs.Prelude.{IsTrue}
 use Rattle.mdmp_source.specs.Count.{raised}
@@ -20,7 +20,8 @@ use Rattle.mdmp_dump.specs.FileRefusal.{IsOfOpening, run_told, view_refusal}
 use Rattle.mdmp_dump.specs.FileView.{AreBare, AreCounted, AreWalked, IsShortAt, IsViewPaid, IsView, IsViewed, KeepsAll, PaysAll, PaysSome, TellsFirst, asks_in, costs_in, file_shape, inside_cost_in, kind_at, opening_cost, pass_cost_in, room_told, shape_by}
 use Rattle.mdmp_dump.specs.InFile.{dump_in, stream_named}
 use Rattle.mdmp_dump.specs.Left.{run_of}
-use Rattle.mdmp_dump.specs.Opening.{EndsOpening, HasSpentOpening, IsLimited, TellsOpeningEnd, copy_bound, opening_bound}
+use Rattle.mdmp_dump.specs.Opening.{EndsOpening, HasSpentOpening, HoldsWithin, IsLimited, TellsOpeningEnd, copy_bound, copy_held, opening_bound}
+use Rattle.mdmp_lister.specs.Memory.{is_within}
 use Rattle.mdmp_dump.specs.Shape.{GivesNone, IsViewOf}
 use Rattle.mdmp_dump.proofs.Budgets.{over_tells}
 use Rattle.mdmp_dump.proofs.Costs.{costs_are}
@@ -256,8 +257,14 @@ walk_ends source window choice w opened budget F known opens fault first =
     (subst (λ (xs : List Numbered). TellsFirst budget F (entry_count F) xs fault) (opened.chosen_are F known)
     (subst (λ (n : ℕ). TellsFirst budget F n w.chosen fault) entries first))
 
--- the limit of memory is not told of a walk
-pub walk_limited : (limits : Limits) (content : Option (List ℕ)) (budget : Option ℕ) (fault : ReadFault) → IsOfOpening budget fault → IsLimited limits content fault
-walk_limited limits content budget (faults.Opening (opening.Budget offset size)) is = tt
-walk_limited limits content budget (faults.Opening fault) is = absurd is
-walk_limited limits content budget fault is = tt
+-- the limit of memory is not told of a walk, which keeps to it
+pub walk_holds : (source : SourceState) (window : ℕ) (choice : Choice) (w : WalkState) → IsOpenedWalk source window choice w → (limits : Limits)
+    → is_within limits.memory (copy_held limits.window w.header.number_of_streams) ≡ true → HoldsWithin limits source.store.content
+walk_holds source window choice w opened limits within = λ F known.
+    subst (λ (n : ℕ). is_within limits.memory (copy_held limits.window n) ≡ true) (ap (λ h. h.number_of_streams) (opened.header_is F known)) within
+
+pub walk_limited : (limits : Limits) (content : Option (List ℕ)) (budget : Option ℕ) (fault : ReadFault) → IsOfOpening budget fault → HoldsWithin limits content → IsLimited limits content fault
+walk_limited limits content budget (faults.Opening (opening.Budget offset size)) is holds = tt
+walk_limited limits content budget (faults.Opening fault) is holds = absurd is
+walk_limited limits content budget faults.Memory is holds = tt
+walk_limited limits content budget fault is holds = holds

@@ -12,7 +12,7 @@ use Rattle.mdmp_lister.specs.Memory.{IsRefusalWithin, TellsMemory}
 use Rattle.mdmp_dump.specs.FileRefusal.{IsUnbudgeted}
 use Rattle.mdmp_dump.specs.declared.fault.ReadFault.{ReadFault}
 use Rattle.mdmp_dump.specs.declared.fault.ReadFault.TheVariants as faults
-use Rattle.mdmp_dump.specs.Reading.{Fetches, IsWithoutBudget, Settles, TellsLimit, listed_within, opened_within, read_within, refusal_of}
+use Rattle.mdmp_dump.specs.Reading.{Fetches, IsWithoutBudget, OpensWithin, Settles, TellsLimit, listed_within, opened_within, read_within, refusal_of}
 use Rattle.mdmp_dump.proofs.Opened.{TellsNone}
 use Rattle.mdmp_dump.proofs.Taking.{Fetches_memory}
 
@@ -73,16 +73,19 @@ opened-limited limits choice content (Some budget) (opening.MemoryLimit held) = 
 opened-limited limits choice content None fault = tt
 opened-limited limits choice content (Some budget) fault = tt
 
-listed-limited : (limits : Limits) (choice : Choice) (content : Option (List ℕ)) (budget : Option ℕ) (kind : FaultKind) (fault : ListFault) → TellsLimit limits choice content (listed_within budget kind fault)
-listed-limited limits choice content None kinds.Budget fault = tt
-listed-limited limits choice content (Some budget) kinds.Budget fault = tt
-listed-limited limits choice content None kind fault = tt
-listed-limited limits choice content (Some budget) kind fault = tt
+listed-limited : (limits : Limits) (choice : Choice) (content : Option (List ℕ)) (budget : Option ℕ) (kind : FaultKind) (fault : ListFault) → OpensWithin limits choice content
+    → TellsLimit limits choice content (listed_within budget kind fault)
+listed-limited limits choice content None kinds.Budget fault opens = tt
+listed-limited limits choice content (Some budget) kinds.Budget fault opens = opens
+listed-limited limits choice content None kind fault opens = opens
+listed-limited limits choice content (Some budget) kind fault opens = opens
 
-pub limited-within : (limits : Limits) (choice : Choice) (content : Option (List ℕ)) (budget : Option ℕ) (fault : ReadFault) → TellsLimit limits choice content (read_within budget fault)
-limited-within limits choice content budget (faults.List fault) = listed-limited limits choice content budget fault.kind fault
-limited-within limits choice content budget (faults.Opening fault) = opened-limited limits choice content budget fault
-limited-within limits choice content budget fault = tt
+pub limited-within : (limits : Limits) (choice : Choice) (content : Option (List ℕ)) (budget : Option ℕ) (fault : ReadFault) → OpensWithin limits choice content
+    → TellsLimit limits choice content (read_within budget fault)
+limited-within limits choice content budget (faults.List fault) opens = listed-limited limits choice content budget fault.kind fault opens
+limited-within limits choice content budget (faults.Opening fault) opens = opened-limited limits choice content budget fault
+limited-within limits choice content budget faults.Memory opens = tt
+limited-within limits choice content budget fault opens = opens
 
 pub settles-within : {T : Type 0} (budget : Option ℕ) (old : Option ReadFault) (fault : ReadFault) (new : T → Option ReadFault) → Settles {T = T} old (Err fault) new → Settles {T = T} old (Err (read_within budget fault)) new
 settles-within budget old fault new settles = by (either budget fault) where

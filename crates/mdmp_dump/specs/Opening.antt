@@ -60,12 +60,18 @@ FetchesWithin budget old new = (most : ℕ) → budget ≡ Some most → new.fet
 abbrev pub copy_held : ℕ → ℕ → ℕ
 copy_held window entries = 2 * window + 24 * entries
 
+-- a copy of a known file would hold no more than the limit of memory
+abbrev pub HoldsWithin : Limits → Option (List ℕ) → Type 0
+HoldsWithin limits content = (file : List ℕ) → content ≡ Some file → is_within limits.memory (copy_held limits.window (entry_count file)) ≡ true
+
 -- a file gives no view for the limit of memory only where a copy would hold more; of a known one the header and the place of
--- the directory are good, and it is told how much
+-- the directory are good, and it is told how much. Another reason behind the directory is told only of a file within the limit.
 abbrev pub IsLimited : Limits → Option (List ℕ) → ReadFault → Type 0
 IsLimited limits content (faults.Opening (opening.MemoryLimit held)) =
     (is_within limits.memory held ≡ false) × ((file : List ℕ) → content ≡ Some file → (directory_refusal file ≡ None) × (held ≡ copy_held limits.window (entry_count file)))
-IsLimited limits content fault = Unit {0}
+IsLimited limits content (faults.Opening fault) = Unit {0}
+IsLimited limits content faults.Memory = Unit {0}
+IsLimited limits content fault = HoldsWithin limits content
 
 -- where a budget ends the opening of a view of F: at the header; at the directory, of which the window takes so much next; or at the
 -- first stream that the budget has no room for

@@ -97,11 +97,18 @@ IsWithoutBudget (faults.Opening (opening.Budget offset size)) = ⊥
 IsWithoutBudget (faults.List fault) = IsUnbudgeted fault.kind
 IsWithoutBudget fault = Unit {0}
 
--- a reading that ends by the limit of memory would hold more, and for a known file that is the first fault within the limits
+-- a known file can be opened within the limits
+abbrev pub OpensWithin : Limits → Choice → Option (List ℕ) → Type 0
+OpensWithin limits choice content = (file : List ℕ) → content ≡ Some file → opening_fault_within limits file choice ≡ None
+
+-- a reading that ends by the limit of memory would hold more, and for a known file that is the first fault within the limits. One
+-- that ends behind the opening is within them.
 abbrev pub TellsLimit : Limits → Choice → Option (List ℕ) → ReadFault → Type 0
 TellsLimit limits choice content (faults.Opening (opening.MemoryLimit held)) =
     (is_within limits.memory held ≡ false) × ((file : List ℕ) → content ≡ Some file → opening_fault_within limits file choice ≡ Some (opening.MemoryLimit held))
-TellsLimit limits choice content fault = Unit {0}
+TellsLimit limits choice content (faults.Opening fault) = Unit {0}
+TellsLimit limits choice content faults.Memory = Unit {0}
+TellsLimit limits choice content fault = OpensWithin limits choice content
 
 -- what is told where a reading of an opened file ends so within a budget or none: without one it does not end by it, and
 -- the limit of memory was tested before

@@ -1,12 +1,12 @@
 //! Reading a file into a value.
-ghost use Rattle.std.specs.Prelude.{◌≡◌, ◌<◌, ℕ, List, None, Some, Err, IfErr, IfOk};
+ghost use Rattle.std.specs.Prelude.{◌≡◌, ◌<◌, ℕ, List, MatchResult, None, Some, Err, IfErr, IfOk};
 ghost use Rattle.mdmp_source.specs.Store.{IsGood};
 ghost use Rattle.mdmp_lister.specs.Format.Listing.{Numbered};
 ghost use Rattle.mdmp_lister.specs.Meter.{IsBooked, KeepsTo};
 ghost use Rattle.mdmp_dump.specs.Keeping.{KeepsStep, KeepsReading};
 ghost use Rattle.mdmp_dump.specs.LaysOut.{AreStreams, LaysOut};
 ghost use Rattle.mdmp_dump.specs.Left.{is_item_of, left_from, run_of};
-ghost use Rattle.mdmp_dump.specs.Reading.{Fetches, IsEntryRead, IsGoing, IsOneStream, IsRaw, IsReadRefusal, IsReadWithin, IsWithoutBudget, Settles, TellsLimit, TellsOf, owed, read_within, refusal_of, store_fault};
+ghost use Rattle.mdmp_dump.specs.Reading.{Fetches, IsEntryRead, IsGoing, IsOneStream, IsRaw, IsReadRefusal, IsReadWithin, IsWithoutBudget, OpensWithin, Settles, TellsLimit, TellsOf, owed, read_within, refusal_of, store_fault};
 ghost use Rattle.mdmp_dump.specs.Refusal.{read_refusal};
 
 use crate::dump::{Dump, Stream};
@@ -57,7 +57,7 @@ pub fn read_dump<S: Store + Drop, A: Allocator + Copy>(
     ensures refusal { IfErr result (IsReadRefusal source.size) }
     ensures short { source.size < 32 → result ≡ Err (ReadFault.Opening (OpenFault.TooShort source.size)) }
     ensures tells { IfErr result (TellsOf source.store.content) }
-    ensures limited { IfErr result (TellsLimit limits choice source.store.content) }
+    ensures limited { MatchResult result (λ _. OpensWithin limits choice source.store.content) (TellsLimit limits choice source.store.content) }
     ensures within { IsReadWithin limits parts result source }
 {
     read_source(alloc, source, limits, choice, parts).answer
@@ -76,7 +76,7 @@ pub fn read_source<S: Store + Drop, A: Allocator + Copy>(
     ensures cause { Fetches result.answer source result.source }
     ensures short { source.size < 32 → result.answer ≡ Err (ReadFault.Opening (OpenFault.TooShort source.size)) }
     ensures tells { IfErr result.answer (TellsOf source.store.content) }
-    ensures limited { IfErr result.answer (TellsLimit limits choice source.store.content) }
+    ensures limited { MatchResult result.answer (λ _. OpensWithin limits choice source.store.content) (TellsLimit limits choice source.store.content) }
     ensures keeps { KeepsReading limits parts result.answer source result.source }
     ensures unbudgeted { limits.budget ≡ None → IfErr result.answer IsWithoutBudget }
 {

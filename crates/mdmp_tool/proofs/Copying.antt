@@ -32,7 +32,8 @@ use Rattle.mdmp_dump.specs.FileRefusal.{IsUnbudgeted, IsViewRefusal, view_refusa
 use Rattle.mdmp_dump.specs.FileView.{AreCounted, AreInside, HasMoved, IsView, costs_in, count_in, inside_cost_in, opening_cost, source_fault}
 use Rattle.mdmp_dump.specs.InFile.{dump_in}
 use Rattle.mdmp_dump.specs.LaysOut.{LaysOut}
-use Rattle.mdmp_dump.specs.Opening.{FetchesWithin, HasSpentOpening, IsLimited, IsShortOf, copy_bound, opening_bound}
+use Rattle.mdmp_dump.specs.Opening.{FetchesWithin, HasSpentOpening, HoldsWithin, IsLimited, IsShortOf, copy_bound, copy_held, opening_bound}
+use Rattle.mdmp_lister.specs.Memory.{is_within}
 use Rattle.mdmp_dump.specs.Reading.{IsLastTold, IsWanting, MayBeTold, TellsOf, store_fault, store_fault_in}
 use Rattle.mdmp_dump.specs.Shape.{ViewShape}
 use Rattle.mdmp_dump.proofs.Costs.{costs_inside, may_listed}
@@ -429,22 +430,29 @@ module _ (limits : Limits) (content : Option (List ℕ)) where
   memory_opened opening.Memory limited = tt
   memory_opened fault limited = tt
 
-  memory_listed : (kind : FaultKind) (fault : ListFault) → TellsCopyMemory limits content (Err (told_by kind fault))
-  memory_listed (kinds.Source f) fault = tt
-  memory_listed kinds.Budget fault = tt
-  memory_listed kind fault = tt
+  memory_listed : (kind : FaultKind) (fault : ListFault) → HoldsWithin limits content → TellsCopyMemory limits content (Err (told_by kind fault))
+  memory_listed (kinds.Source f) fault holds = tt
+  memory_listed kinds.Budget fault holds = tt
+  memory_listed kind fault holds = holds
 
   pub memory_refused : (fault : ReadFault) → IsLimited limits content fault → TellsCopyMemory limits content (Err (reading_told fault))
   memory_refused (reads.Opening fault) limited = memory_opened fault limited
-  memory_refused (reads.List fault) limited = memory_listed fault.kind fault
-  memory_refused (reads.PartsTooLarge e k) limited = tt
+  memory_refused (reads.List fault) limited = memory_listed fault.kind fault limited
+  memory_refused (reads.PartsTooLarge e k) limited = limited
   memory_refused reads.Memory limited = tt
   memory_refused (reads.Source fault) limited = tt
-  memory_refused fault limited = tt
+  memory_refused fault limited = limited
 
-  pub memory_written : (shape : ViewShape) (before after : OutState) (r : Result ℕ ToolFault) → IsShapeCopied shape before r after → TellsCopyMemory limits content r
-  memory_written shape before after (Ok size) ends = tt
-  memory_written shape before after (Err (tool.Layout fault)) ends = tt
-  memory_written shape before after (Err tool.Out) ends = tt
-  memory_written shape before after (Err (tool.Source fault)) ends = tt
-  memory_written shape before after (Err fault) ends = absurd ends
+  pub memory_written : (shape : ViewShape) (before after : OutState) (r : Result ℕ ToolFault) → IsShapeCopied shape before r after → HoldsWithin limits content → TellsCopyMemory limits content r
+  memory_written shape before after (Ok size) ends holds = holds
+  memory_written shape before after (Err (tool.Layout fault)) ends holds = holds
+  memory_written shape before after (Err tool.Out) ends holds = holds
+  memory_written shape before after (Err (tool.Source fault)) ends holds = tt
+  memory_written shape before after (Err fault) ends holds = absurd ends
+
+  -- a view of it was opened within the limit
+  pub memory_viewed : {Z : Type 0} {limit : ℕ} {w : WalkState} {counts rooms : List ℕ} {pass : Option Pass} {passed asked : ℕ} {last : Option ViewFault} → IsView Z limit w counts rooms pass passed asked last
+      → (source : SourceState) → source.store.content ≡ content → FetchesSome source w.source → is_within limits.memory (copy_held limits.window w.header.number_of_streams) ≡ true → HoldsWithin limits content
+  memory_viewed {w = w} sound source is fetches within = λ F known.
+      let listed : w.header.number_of_streams ≡ entry_count F = ap (λ h. h.number_of_streams) (sound.of_file F (fetches.fetches.same_content ∙ is ∙ known)).header in
+      subst (λ (n : ℕ). is_within limits.memory (copy_held limits.window n) ≡ true) listed within

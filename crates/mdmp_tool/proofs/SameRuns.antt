@@ -115,6 +115,7 @@ listed_with access old new answer other is over cause within = record {
   aside_kept = record { kept = is.aside_kept.kept; over = cause };
   reads = is.reads;
   memory = is.memory;
+  opens = is.opens;
   within = within;
   source = is.source;
   start = is.start;
@@ -242,7 +243,7 @@ memory_opening T limits choice beside old (opening.MemoryLimit held) new size fe
 memory_opening T limits choice beside old (opening.Source fault) new size few tells within = tt
 memory_opening T limits choice beside old (opening.Budget offset len) new size few tells within = tt
 memory_opening T limits choice beside old opening.Memory new size few tells within = tt
-memory_opening T limits choice beside old fault new size few tells within = tt
+memory_opening T limits choice beside old fault new size few tells within = within
 
 -- what a lister has room for, and what is held beside it
 pub memory_kept : (memory : Option ℕ) (beside held : ℕ) → 0 < held → is_within (option_map (λ most. most - beside) memory) held ≡ true → is_within memory (held + beside) ≡ true

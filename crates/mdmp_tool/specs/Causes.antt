@@ -62,9 +62,11 @@ pub record IsOverMemoryLimit (limits : Limits) (choice : Choice) (beside : ℕ) 
   pub inside : 12 * entries ≤ old.size
   pub of_file : (file : List ℕ) → old.store.content ≡ Some file → opening_fault_within (leaving beside limits) file choice ≡ Some (opening.MemoryLimit listed)
 
--- memory is refused by its limit only then
+-- memory is refused by its limit only then; a known file that is refused for what is in it, is refused for the first reason within
+-- the limits
 abbrev pub HasMemoryCause : {T : Type 0} → Limits → Choice → ℕ → SourceState → Result T ToolFault → Type 0
 HasMemoryCause limits choice beside old (Err (MemoryLimit held)) = IsOverMemoryLimit limits choice beside old held
+HasMemoryCause limits choice beside old (Err (Opening fault)) = (file : List ℕ) → old.store.content ≡ Some file → opening_fault_within (leaving beside limits) file choice ≡ Some fault
 HasMemoryCause limits choice beside old answer = Unit {0}
 
 -- which is so only if there is one

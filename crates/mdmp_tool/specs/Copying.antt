@@ -21,7 +21,7 @@ use Rattle.mdmp_dump.specs.EntryWalk.{WalkState}
 use Rattle.mdmp_dump.specs.FileRefusal.{view_refusal}
 use Rattle.mdmp_dump.specs.InFile.{dump_in}
 use Rattle.mdmp_dump.specs.LaysOut.{LaysOut}
-use Rattle.mdmp_dump.specs.Opening.{EndsOpening, FetchesWithin, HasSpentOpening, IsLimited, copy_bound, opening_bound}
+use Rattle.mdmp_dump.specs.Opening.{EndsOpening, FetchesWithin, HasSpentOpening, HoldsWithin, IsLimited, copy_bound, opening_bound}
 use Rattle.mdmp_dump.specs.Shape.{IsViewOf, ViewShape}
 use Rattle.mdmp_writer.specs.Layout.{layout_fault, shape_fault, size_answer, written_size}
 use Rattle.mdmp_writer.specs.Passes.{all_asks, all_costs}
@@ -182,9 +182,16 @@ pub record TellsCopyBudget (Z : Type 0) (types : List ℕ) (budget : Option ℕ)
   pub of_file : (file : List ℕ) → content ≡ Some file → IsWithinCopy budget (copy_bound Z file (Types types)) (opening_bound file (Types types) + 16 * entry_count file) answer
   pub place : (file : List ℕ) → content ≡ Some file → TellsPlace budget window file types answer
 
--- the limit of memory is told only where a copy would hold more
+-- the limit of memory is told only where a copy would hold more; a copy that was begun, or refused for what stands behind the
+-- directory of a known file, is within it
 abbrev pub TellsCopyMemory : Limits → Option (List ℕ) → Result ℕ ToolFault → Type 0
 TellsCopyMemory limits content (Err (tool.MemoryLimit held)) = IsLimited limits content (reads.Opening (opening.MemoryLimit held))
+TellsCopyMemory limits content (Ok size) = HoldsWithin limits content
+TellsCopyMemory limits content (Err tool.Out) = HoldsWithin limits content
+TellsCopyMemory limits content (Err (tool.Layout fault)) = HoldsWithin limits content
+TellsCopyMemory limits content (Err (tool.CopyBudget needed)) = HoldsWithin limits content
+TellsCopyMemory limits content (Err (tool.List fault)) = HoldsWithin limits content
+TellsCopyMemory limits content (Err (tool.Reading fault)) = HoldsWithin limits content
 TellsCopyMemory limits content answer = Unit {0}
 
 -- nothing was written, and no fault of the store told

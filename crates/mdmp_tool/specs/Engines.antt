@@ -12,7 +12,7 @@ use Rattle.mdmp_lister.specs.declared.choice.Choice.TheVariants.{All}
 use Rattle.mdmp_lister.specs.Check.{items_of, names_judged}
 use Rattle.mdmp_lister.specs.Format.Listing.{chosen, listing, memory_lists, verdicts}
 use Rattle.mdmp_lister.specs.Sink.{names_of_all}
-use Rattle.mdmp_lister.specs.Memory.{is_within}
+use Rattle.mdmp_lister.specs.Memory.{is_within, leaving, opening_fault_within}
 use Rattle.mdmp_lister.specs.Format.Numbers.{range_count}
 use Rattle.mdmp_lister.specs.Lister.{HasReadDirectory, IsAskedFor, ListerState, room_held}
 use Rattle.mdmp_wire.specs.Header.{header_at}
@@ -266,6 +266,7 @@ pub record HasListed {T : Type 0} (access : Access) (old : SourceState) (answer 
   pub reads : KeepsReads access.beside access.pace lister
   -- what it has room for, and what the command holds beside it, is within the limit of memory, which it does not end by
   pub memory : is_within access.limits.memory (room_held lister + access.held) ≡ true
+  pub opens : (file : List ℕ) → old.store.content ≡ Some file → opening_fault_within (leaving access.held access.limits) file access.choice ≡ None
   pub within : IsWithinMemory answer
   pub source : lister.source ≡ new
   pub start : lister.counts.start ≡ record { bytes = old.fetched; calls = old.calls }

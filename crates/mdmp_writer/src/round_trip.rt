@@ -1,5 +1,7 @@
 //! A dump to memory and back.
-ghost use Rattle.std.specs.Prelude.{◌≡◌, None, MatchResult};
+ghost use Rattle.std.specs.Prelude.{◌≡◌, IfOk, None, MatchResult, Some};
+ghost use Rattle.mdmp_lister.specs.declared.choice.Choice.TheVariants.{All};
+ghost use Rattle.mdmp_dump.specs.Reading.{OpensWithin};
 ghost use Rattle.mdmp_writer.specs.Layout.{layout_fault};
 ghost use Rattle.mdmp_writer.specs.RoundTrip.{ComesBack, IsNotInMemory, not_read};
 ghost use Rattle.mdmp_writer.specs.Written.{written};
@@ -65,7 +67,8 @@ pub fn write_and_read<A: Allocator + Copy>(
     limits: Limits,
     parts: u64,
 ) -> Result<Dump<A>, RoundTripFault>
-    ensures { ComesBack dump.now limits.budget limits.name parts result }
+    ensures comes_back { ComesBack dump.now limits.budget limits.name parts result }
+    ensures limited { IfOk result (λ _. OpensWithin limits All (Some (written dump.now))) }
 {
     let bytes = match to_memory(alloc, dump) {
         Ok(bytes) => bytes,

@@ -5,7 +5,7 @@ use Rattle.mdmp_lister.proofs.Fetches.{IsGood-later}
 use Rattle.mdmp_lister.specs.declared.choice.Choice.TheVariants.{All}
 use Rattle.mdmp_lister.specs.Format.Listing.{listing}
 use Rattle.mdmp_c.specs.Fault.{status_of}
-use Rattle.mdmp_c.specs.Limits.{AreLimits, EndsText, ends_text, most_read}
+use Rattle.mdmp_c.specs.Limits.{AreLimits, EndsText, KeepsMemory, ends_text, most_read}
 use Rattle.mdmp_lister.specs.Sink.{names_of_all}
 use Rattle.mdmp_c.specs.TextPart.{EndsTextAt, IsListPart, IsPartOf, PutsRun}
 use Rattle.mdmp_c.specs.ToolFault.{list_answer}
@@ -13,7 +13,7 @@ use Rattle.mdmp_tool.specs.declared.fault.ToolFault.{ToolFault}
 use Rattle.mdmp_tool.specs.Forms.{dump_line_in}
 use Rattle.mdmp_tool.specs.Text.{run_text}
 use Rattle.mdmp_wire.specs.declared.header.Header.{Header}
-use Rattle.mdmp_c.proofs.Ending.{Ends-refused}
+use Rattle.mdmp_c.proofs.Ending.{Ends-refused, keeps_memory}
 use Rattle.mdmp_c.proofs.Listed.{Ends-part, all_parts, no_part}
 use Rattle.mdmp_c.proofs.Stopping.{least_read, most_listed, opening_over, sized, text_ended}
 use Rattle.mdmp_c.proofs.list_part.give_list.Goals as goal
@@ -23,11 +23,11 @@ returns-in-Err c =
     let file = c.args.file.now in
     let good : IsGood c.new-source.result.store file = search rules in
     let valid : AreLimits c.args.limits.now = c.in-Some.ensures.valid in
-    Ends-refused (IsListPart c.args.form c.args.pdb c.args.skip file c.args.limits.now.name) file All (AreLimits c.args.limits.now)
+    Ends-refused (IsListPart c.args.form c.args.pdb c.args.skip file c.args.limits.now.name) file All (AreLimits c.args.limits.now) c.args.limits.now c.in-Some.limits c.in-Some.ensures
     (EndsText c.args.limits.now file) (no_part c.args.form c.args.pdb file c.args.limits.now.name c.args.skip) (all_parts c.args.form c.args.pdb file c.args.limits.now.name c.args.skip)
     c.in-Err.refused.fault _ _ _ _ _ valid (λ told. ends_text (opening_over c.args.limits.now c.in-Some.limits file All _ _ c.in-Err.refused.fault _ c.in-Some.ensures good.known (sized file c.new-source.result good.known c.new-source.ensures.content) (search rules)
     (least_read file All c.args.limits.now.name _) c.in-Err.ensures.kept c.in-Err.ensures.over (c.in-Err.ensures.within file good.known) told))
-    (c.in-Err.ensures.opens file good.known) (c.in-Err.ensures.good file good)
+    (c.in-Err.ensures.opens file good.known) (c.in-Err.ensures.within file good.known) (c.in-Err.ensures.good file good)
     (c.refuse-in-Err.ensures.status ∙ ap status_of c.open_fault.ensures) c.refuse-in-Err.ensures.count
     (c.refuse-in-Err.ensures.fault ∙ c.open_fault.ensures) refl
 
@@ -56,5 +56,6 @@ returns c =
     let can : (f : ToolFault) → EndsTextAt lister (most_read file lister.choice lister.limit (lister.counts.names + names_of_all run.items)) c.in-Some.limits.aside f → EndsText c.args.limits.now file (list_answer (Err f)) =
     text_ended c.args.limits.now c.in-Some.limits file lister _ c.in-Some.ensures new.list.counts.budget_is new.list.asked.window_room new.list.asked.limit_is size
     (most_listed file All name name lister new.list.asked.choice_is (new.list.asked.limit_is ∙ limit) new.list.counts.names refl) in
-    Ends-part c.args.form pdb file name skip (AreLimits c.args.limits.now) (EndsText c.args.limits.now file) (EndsTextAt lister (most_read file lister.choice lister.limit (lister.counts.names + names_of_all run.items)) c.in-Some.limits.aside) c.put_list-answer.result c.give.result c.give.new.size c.give.new.fault c.args.out.now c.give.new.out _ _ _ _ valid can
+    Ends-part c.args.form pdb file name skip (AreLimits c.args.limits.now) (KeepsMemory c.args.limits.now file All) (EndsText c.args.limits.now file) (EndsTextAt lister (most_read file lister.choice lister.limit (lister.counts.names + names_of_all run.items)) c.in-Some.limits.aside)
+    (keeps_memory c.args.limits.now c.in-Some.limits file All None c.in-Some.ensures (c.in-Ok.ensures.within file good.known) (c.in-Ok.ensures.opens file good.known)) c.put_list-answer.result c.give.result c.give.new.size c.give.new.fault c.args.out.now c.give.new.out _ _ _ _ valid can
     (c.in-Ok.ensures.opens file good.known) told (rw c.list_answer.ensures at c.give.ensures.gives) (rw c.list_answer.ensures at c.give.ensures.wants)

@@ -1,4 +1,4 @@
-use Rattle.std.proofs.Common.{rules, ◌≡◌, ◌∙◌, ℕ, ◌+◌, Bool, List, Some, ap, length, sym, subst}
+use Rattle.std.proofs.Common.{rules, ◌≡◌, ◌∙◌, ℕ, ◌+◌, Bool, List, None, Some, ap, length, sym, subst}
 use Rattle.std.specs.Option.{option_map}
 use Rattle.std.specs.Prelude.{IsTrue}
 use Rattle.mdmp_source.specs.Store.{IsGood}
@@ -9,8 +9,9 @@ use Rattle.mdmp_lister.specs.declared.fault.FaultKind.TheVariants as kinds
 use Rattle.mdmp_lister.specs.declared.choice.Choice.{Choice}
 use Rattle.mdmp_lister.specs.Memory.{IsRefusalWithin}
 use Rattle.mdmp_lister.specs.Sink.{names_of_all}
-use Rattle.mdmp_c.specs.Limits.{AreLimits, EndsListing, most_read, names_listed}
+use Rattle.mdmp_c.specs.Limits.{AreLimits, EndsListing, KeepsMemory, most_read, names_listed}
 use Rattle.mdmp_c.specs.Table.{IsEndedAt}
+use Rattle.mdmp_c.proofs.Ending.{keeps_memory}
 use Rattle.mdmp_c.proofs.Remembered.{ReadsMemory-fault, ReadsMemory-refused}
 use Rattle.mdmp_c.proofs.Stopping.{ended_over, least_read, most_listed, opening_over, sized}
 use Rattle.mdmp_c.proofs.memory.read_memory.Goals as goal
@@ -20,11 +21,11 @@ returns-in-Err c =
     let file = c.args.file.now in
     let good : IsGood c.new-source.result.store file = search rules in
     let valid : AreLimits c.args.limits.now = c.in-Some.ensures.valid in
-    ReadsMemory-refused file c.args.limits.now c.memory_lists.result c.args.address _ _ valid c.if-out-known.false c.memory_lists.ensures c.in-Err.refused.fault _ _
+    ReadsMemory-refused file c.args.limits.now c.memory_lists.result c.args.address _ _ valid c.if-out-known.false c.memory_lists.ensures c.in-Some.limits c.in-Some.ensures c.in-Err.refused.fault _ _
     (opening_over c.args.limits.now c.in-Some.limits file memory_lists _ _ c.in-Err.refused.fault _ c.in-Some.ensures good.known (sized file c.new-source.result good.known c.new-source.ensures.content) (search rules)
     (least_read file memory_lists c.args.limits.now.name _) c.in-Err.ensures.kept c.in-Err.ensures.over
     (subst (λ (choice : Choice). IsRefusalWithin c.in-Some.limits file choice c.in-Err.refused.fault) c.memory_lists.ensures (c.in-Err.ensures.within file good.known)))
-    (c.in-Err.ensures.opens file good.known) (c.in-Err.ensures.good file good)
+    (c.in-Err.ensures.opens file good.known) (c.in-Err.ensures.within file good.known) (c.in-Err.ensures.good file good)
     (ap status_of c.open_fault.ensures) c.open_fault.ensures
 
 pub returns-in-Err-list_ranges : goal.returns-in-Err-list_ranges
@@ -47,7 +48,10 @@ returns-in-Err-list_ranges c =
     let can : f.kind ≡ kinds.Budget → EndsListing c.args.limits.now file memory_lists (budget_fault f.offset f.size) = λ is.
     ended_over c.args.limits.now c.in-Some.limits file memory_lists _ lister f.offset f.size c.in-Some.ensures new.list.counts.budget_is new.list.asked.window_room new.list.asked.limit_is size
     (subst (λ n. IsEndedAt lister (Some n) f.offset f.size) most (c.in-Err-list_ranges.ensures.ended file now run listed is)) in
-    ReadsMemory-fault file c.args.limits.now name choice f _ _ _ _ _ valid c.if-out-known.false c.memory_lists.ensures c.in-Some.ensures.name (c.in-Ok.ensures.opens file good.known)
+    let keeps : KeepsMemory c.args.limits.now file memory_lists =
+    subst (KeepsMemory c.args.limits.now file) c.memory_lists.ensures
+    (keeps_memory c.args.limits.now c.in-Some.limits file choice None c.in-Some.ensures (c.in-Ok.ensures.within file good.known) (c.in-Ok.ensures.opens file good.known)) in
+    ReadsMemory-fault file c.args.limits.now name choice f _ _ _ _ _ valid keeps c.if-out-known.false c.memory_lists.ensures c.in-Some.ensures.name (c.in-Ok.ensures.opens file good.known)
     (c.in-Err-list_ranges.ensures.good file now) (c.in-Err-list_ranges.ensures.lists (listing file choice name) left) can
     (ap status_of c.plain_list_fault.ensures) c.plain_list_fault.ensures
 
@@ -65,4 +69,10 @@ returns c =
     absurd (cc)
 
 pub returns-in-Ok-read_address : goal.returns-in-Ok-read_address
-returns-in-Ok-read_address c = search rules
+returns-in-Ok-read_address c =
+    let file = c.args.file.now in
+    let good : IsGood c.new-source.result.store file = search rules in
+    let keeps : KeepsMemory c.args.limits.now file memory_lists =
+    subst (KeepsMemory c.args.limits.now file) c.memory_lists.ensures
+    (keeps_memory c.args.limits.now c.in-Some.limits file c.memory_lists.result None c.in-Some.ensures (c.in-Ok.ensures.within file good.known) (c.in-Ok.ensures.opens file good.known)) in
+    search (rules, keeps)

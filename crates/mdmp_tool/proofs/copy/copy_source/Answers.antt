@@ -10,7 +10,7 @@ use Rattle.mdmp_dump.specs.Shape.{ViewShape}
 use Rattle.mdmp_dump.proofs.Taking.{FetchesSome_then}
 use Rattle.mdmp_tool.specs.Copying.{first_not_copied, spent, unopened}
 use Rattle.mdmp_tool.proofs.Engining.{may_change}
-use Rattle.mdmp_tool.proofs.Copying.{Copies-not, Copies-over, Copies-refused, Copies-viewed, budget_over, budget_refused, budget_unread, budget_written, cause_copied, good_read, memory_refused, memory_written, read_unopened, reliable_copied, shape_copied, unspent, view_spent, within_refused, within_unread, within_written}
+use Rattle.mdmp_tool.proofs.Copying.{Copies-not, Copies-over, Copies-refused, Copies-viewed, budget_over, budget_refused, budget_unread, budget_written, cause_copied, good_read, memory_refused, memory_viewed, memory_written, read_unopened, reliable_copied, shape_copied, unspent, view_spent, within_refused, within_unread, within_written}
 use Rattle.mdmp_tool.proofs.copy.copy_source.Goals as goal
 
 pub returns-in-Some-clause-copies : goal.returns-in-Some-clause-copies
@@ -111,7 +111,9 @@ returns-else-is_over-clause-budget g c =
 pub returns-else-is_over-clause-memory : goal.returns-else-is_over-clause-memory
 returns-else-is_over-clause-memory g c =
     let view = c.in-Ok.field-0.view in
+    let new = c.in-Ok.ensures.new in
     memory_written c.args.limits c.args.source.store.content (file_shape g.row.A.Denot view.walk view.counts.items view.rooms.items) (g.O.Out.state c.args.out.now) (g.O.Out.state c.write_copy.new.out) c.write_copy.result c.write_copy.ensures.ends
+    (memory_viewed c.args.limits c.args.source.store.content view.sound c.args.source refl new.fetches new.within)
 
 pub returns-else-is_over-clause-within : goal.returns-else-is_over-clause-within
 returns-else-is_over-clause-within g c =
@@ -163,3 +165,8 @@ returns-then-is_over-clause-budget g c =
 pub returns-then-is_over-clause-within : goal.returns-then-is_over-clause-within
 returns-then-is_over-clause-within g c =
     within_refused c.args.limits.budget c.args.source c.into_source.result _ (λ most is. omega (arith, c.into_source.ensures.booked, c.in-Ok.ensures.kept most is, c.in-Ok.ensures.new.start))
+
+pub returns-then-is_over-clause-memory : goal.returns-then-is_over-clause-memory
+returns-then-is_over-clause-memory g c =
+    let new = c.in-Ok.ensures.new in
+    memory_viewed c.args.limits c.args.source.store.content c.in-Ok.field-0.view.sound c.args.source refl new.fetches new.within

@@ -94,6 +94,7 @@ returns-clause-through g c =
       aside_kept = c.put-answer.ensures.aside;
       reads = c.put-answer.ensures.read;
       memory = rw (← c.beside-beside.ensures) (run_within c.args.limits c.leave_memory.result c.beside-beside.result _ c.put-answer.new.lister under same new.asked.window_room new.memory);
+      opens = λ file known. rw (← c.beside-beside.ensures) (rw (c.leave_memory.ensures, c.chosen.ensures) at (c.in-Ok.ensures.within file known));
       within = c.put-answer.ensures.within;
       source = refl;
       start = same.start ∙ new.counts.start;

@@ -6,7 +6,7 @@ use Rattle.mdmp_dump.specs.Opening.{copy_held}
 use Rattle.mdmp_source.specs.Store.{IsSizeOf}
 use Rattle.mdmp_dump.proofs.Laid.{viewed_lays}
 use Rattle.mdmp_dump.proofs.Opened.{tells_of}
-use Rattle.mdmp_dump.proofs.OpenedViews.{held_whole, is_view, run_refused, view_cost, view_counted, view_fetches, view_needed, view_needs, view_of, view_quiet, view_reliable, view_start, walk_ends, walk_kept, walk_limited, walk_short, walk_spent, walk_within}
+use Rattle.mdmp_dump.proofs.OpenedViews.{held_whole, is_view, run_refused, view_cost, view_counted, view_fetches, view_needed, view_needs, view_of, view_quiet, view_reliable, view_start, walk_ends, walk_holds, walk_kept, walk_limited, walk_short, walk_spent, walk_within}
 use Rattle.mdmp_dump.proofs.Refusals.{walk_refusal}
 use Rattle.mdmp_dump.proofs.Taking.{fetches_err}
 use Rattle.mdmp_dump.proofs.file_view.FileView.open_source.Goals as goal
@@ -142,4 +142,7 @@ returns-in-Err-walk_all-clause-over g c = λ F known.
     }
 
 pub returns-in-Err-walk_all-clause-limited : goal.returns-in-Err-walk_all-clause-limited
-returns-in-Err-walk_all-clause-limited g c = walk_limited c.args.limits c.args.source.store.content c.args.limits.budget c.in-Err-walk_all.fault c.in-Err-walk_all.ensures.told
+returns-in-Err-walk_all-clause-limited g c =
+    let first = c.in-Ok.ensures in
+    walk_limited c.args.limits c.args.source.store.content c.args.limits.budget c.in-Err-walk_all.fault c.in-Err-walk_all.ensures.told
+    (walk_holds c.args.source c.args.limits.window c.args.choice c.in-Ok.walk first.opened c.args.limits first.memory)
