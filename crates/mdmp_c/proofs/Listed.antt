@@ -107,14 +107,15 @@ module _ (form : LineForm) (pdb : Bool) (F : List ℕ) (limit : ℕ) where
       let same = given_nothing run left before line skip room p s n kept empty given p' s' n' kept' more in
       record { limit = can tt; given = same.text; rest = run_text form pdb F limit left; begins = same.whole; put = same.part }
   PutsRun-fault MayEnd run left before line skip room p s n p' s' n' kept kept' now after (AsideLimit offset size) given next none is more read can =
-      let all : after.taken ≡ Some next.took.sent = next.took.took [] none in
-      let first : next.took.sent ≡ line = cc in
-      let lines = next.took.whole ∙ ap (λ xs. xs ++ next.took.rest) first in
+      let short = next.1 in
+      let all : after.taken ≡ Some short.took.sent = short.took.took [] none in
+      let first : short.took.sent ≡ line = cc in
+      let lines = short.took.whole ∙ ap (λ xs. xs ++ short.took.rest) first in
       record {
         limit = can tt;
         given = given.text ++ line;
-        rest = next.took.rest ++ run_text form pdb F limit (tail left);
-        begins = begins_so run left before given.text line next.took.rest given.whole lines;
+        rest = short.took.rest ++ run_text form pdb F limit (tail left);
+        begins = begins_so run left before given.text line short.took.rest given.whole lines;
         put = more;
       }
   PutsRun-fault MayEnd run left before line skip room p s n p' s' n' kept kept' now after Out given next none is more read can = tt

@@ -15,31 +15,31 @@ use Rattle.mdmp_tool.specs.Text.{run_text}
 use Rattle.mdmp_tool.specs.Runs.{ListEnds, ListsRun, ListsFile}
 use Rattle.mdmp_words.specs.declared.request.LineForm.{LineForm}
 
-WritesText-behind : (run : Run) (head text : List ℕ) (before now after : OutState) (r : Result (Unit {0}) ToolFault) → ListEnds run r
+WritesText-behind : (pdb : Bool) (limit : ℕ) (run : Run) (head text : List ℕ) (before now after : OutState) (r : Result (Unit {0}) ToolFault) → ListEnds pdb limit run r
     → PutsAll before head now → WritesText up_to_a_fault text now r after → WritesText up_to_a_fault (head ++ text) before r after
-WritesText-behind run head text before now after (Ok x) ends first put = PutsAll-PutsAll before now after head text first put
-WritesText-behind run head text before now after (Err (BadList f)) ends first put = PutsAll-PutsAll before now after head text first put
-WritesText-behind run head text before now after (Err (Source f)) ends first short = record {
+WritesText-behind pdb limit run head text before now after (Ok x) ends first put = PutsAll-PutsAll before now after head text first put
+WritesText-behind pdb limit run head text before now after (Err (BadList f)) ends first put = PutsAll-PutsAll before now after head text first put
+WritesText-behind pdb limit run head text before now after (Err (Source f)) ends first short = record {
   took = TakesPrefix-last before.taken now.taken after.taken head text first.took short.took;
   steady = short.steady ∙ first.steady;
 }
-WritesText-behind run head text before now after (Err (Budget offset size)) ends first short = record {
+WritesText-behind pdb limit run head text before now after (Err (Budget offset size)) ends first short = record {
   took = TakesPrefix-last before.taken now.taken after.taken head text first.took short.took;
   steady = short.steady ∙ first.steady;
 }
-WritesText-behind run head text before now after (Err (AsideLimit offset size)) ends first short = record {
+WritesText-behind pdb limit run head text before now after (Err (AsideLimit offset size)) ends first short = record {
   took = TakesPrefix-last before.taken now.taken after.taken head text first.took short.took;
   steady = short.steady ∙ first.steady;
 }
-WritesText-behind run head text before now after (Err Out) ends first cut = PutsPrefix-last before now after head text first cut
-WritesText-behind run head text before now after (Err f) ends first put = absurd ends
+WritesText-behind pdb limit run head text before now after (Err Out) ends first cut = PutsPrefix-last before now after head text first cut
+WritesText-behind pdb limit run head text before now after (Err f) ends first put = absurd ends
 
 -- the items behind the line of the header
 pub ListsFile-behind : (form : LineForm) (pdb : Bool) (F : List ℕ) (limit : ℕ) (h : Header) (run : Run) (before now after : OutState) (r : Result (Unit {0}) ToolFault)
     → PutsAll before (dump_line_in form h) now → ListsRun form pdb F limit run now r after → ListsFile form pdb F limit h run before r after
 ListsFile-behind form pdb F limit h run before now after r head listed = record {
   ends = listed.ends;
-  writes = WritesText-behind run (dump_line_in form h) (run_text form pdb F limit run) before now after r listed.ends head listed.writes;
+  writes = WritesText-behind pdb limit run (dump_line_in form h) (run_text form pdb F limit run) before now after r listed.ends head listed.writes;
 }
 
 -- the end of the items is that of all that is printed

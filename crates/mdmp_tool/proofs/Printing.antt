@@ -1,5 +1,5 @@
 -- Items printed one by one.
-use Rattle.std.proofs.Common.{◌≡◌, ◌∙◌, ◌++◌, ℕ, List, [], Bool, false, Option, Some, None, refl, ap, subst, sym, append_assoc, append-nil}
+use Rattle.std.proofs.Common.{◌≡◌, ◌∙◌, ◌++◌, ◌∷◌, ℕ, List, [], Bool, false, Option, Some, None, refl, ap, subst, sym, append_assoc, append-nil}
 use Rattle.std.specs.Prelude.{Ok, Err, Result, drop, take}
 use Rattle.std.specs.List.{flat_map}
 use Rattle.std.proofs.lemmas.List.{take-append-drop}
@@ -100,8 +100,18 @@ module _ (form : LineForm) (pdb : Bool) (F : List ℕ) (limit : ℕ) where
       steady = ap (λ (o : OutState). o.failures) same ∙ printed.text.steady;
     };
   }
-  ListsRun-fault run left before now after (AsideLimit offset size) printed short = record {
-    ends = tt;
+  ListsRun-fault run left before now after (AsideLimit offset size) printed (among, short) = record {
+    ends = record {
+      before = printed.given ++ among.before;
+      item = among.item;
+      after = among.after ++ drop 1 left.items;
+      is =
+          printed.items
+          ∙ ap (λ (xs : List Item). printed.given ++ xs)
+          (sym (take-append-drop 1 left.items) ∙ ap (λ (xs : List Item). xs ++ drop 1 left.items) among.is ∙ append_assoc among.before (among.item ∷ among.after) (drop 1 left.items))
+          ∙ sym (append_assoc printed.given among.before (among.item ∷ (among.after ++ drop 1 left.items)));
+      at = among.at;
+    };
     writes = record {
       took =
           rw (text_split run left before now printed)

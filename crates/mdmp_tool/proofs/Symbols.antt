@@ -35,7 +35,7 @@ use Rattle.mdmp_tool.specs.Engines.{EndsAtFault, IsBehind, Leaves, Pace, UnlessE
 use Rattle.mdmp_tool.specs.Forms.{item_line_in}
 use Rattle.mdmp_tool.specs.Runs.{IsBehindNext, ListsNext, PutsSymbols}
 use Rattle.mdmp_tool.specs.Telling.{listing_told, told_by}
-use Rattle.mdmp_tool.specs.Symbols.{inside_only, symbols_of}
+use Rattle.mdmp_tool.specs.Symbols.{IsRecordAt, inside_only, symbols_of}
 use Rattle.mdmp_tool.specs.Text.{item_lines, next_lines, symbols_text}
 use Rattle.mdmp_tool.specs.declared.list.ModuleSymbols.{ModuleSymbols}
 use Rattle.mdmp_words.specs.declared.request.LineForm.{LineForm}
@@ -96,19 +96,27 @@ module _ (form : LineForm) (pdb : Bool) (F : List ℕ) (limit : ℕ) (left : Run
     )
 
     -- the listing ends in it
-    pub ListsNext-cut : (f : ToolFault) → PutsSymbols (symbols_text form F limit (symbols_of pdb x)) mid (Err f) after → ListsNext form pdb F limit left before (Err f) after
+    pub ListsNext-cut : (f : ToolFault) → PutsSymbols limit (symbols_of pdb x) (symbols_text form F limit (symbols_of pdb x)) mid (Err f) after → ListsNext form pdb F limit left before (Err f) after
     ListsNext-cut (Source fault) same =
         let whole : PutsAll before (item_line_in form x) after = subst (PutsAll before (item_line_in form x)) (sym same) line in
         rw next_is (record {
           took = TakesPrefix-front before.taken after.taken (item_line_in form x) (symbols_text form F limit (symbols_of pdb x)) whole.took;
           steady = whole.steady;
         })
-    ListsNext-cut (AsideLimit offset size) same =
-        let whole : PutsAll before (item_line_in form x) after = subst (PutsAll before (item_line_in form x)) (sym same) line in
-        rw next_is (record {
-          took = TakesPrefix-front before.taken after.taken (item_line_in form x) (symbols_text form F limit (symbols_of pdb x)) whole.took;
-          steady = whole.steady;
-        })
+    ListsNext-cut (AsideLimit offset size) (at, same) =
+        let whole : PutsAll before (item_line_in form x) after = subst (PutsAll before (item_line_in form x)) (sym same) line in (
+          record {
+            before = [];
+            item = plain x;
+            after = [];
+            is = first_then (plain x) left.items first;
+            at = subst (λ (s : Option ModuleSymbols). IsRecordAt limit s offset size) (sym (symbols_of-plain pdb x)) at;
+          },
+          rw next_is (record {
+            took = TakesPrefix-front before.taken after.taken (item_line_in form x) (symbols_text form F limit (symbols_of pdb x)) whole.took;
+            steady = whole.steady;
+          }),
+        )
     ListsNext-cut Out cut = rw next_is (PutsPrefix-last before mid after (item_line_in form x) (symbols_text form F limit (symbols_of pdb x)) line cut)
     ListsNext-cut _ told = absurd told
 

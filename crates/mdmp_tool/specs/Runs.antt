@@ -1,5 +1,5 @@
 -- What a run of `list` answers, and what it leaves written.
-use Rattle.std.specs.Prelude.{◌≡◌, ◌<◌, ◌≤◌, ◌+◌, ◌++◌, ℕ, Bool, true, false, List, None, Some, Result, Ok, Err, length, take}
+use Rattle.std.specs.Prelude.{◌≡◌, ◌<◌, ◌≤◌, ◌+◌, ◌++◌, ℕ, Bool, true, false, List, Option, None, Some, Result, Ok, Err, length, take}
 use Rattle.std.specs.Option.{option_map}
 use Rattle.mdmp_source.specs.Output.{OutState, PutsAll, PutsPrefix}
 use Rattle.mdmp_lister.specs.declared.choice.Choice.TheVariants.{All}
@@ -12,37 +12,39 @@ use Rattle.mdmp_wire.specs.declared.header.Header.{Header}
 use Rattle.mdmp_tool.specs.Engines.{Runs, RunsThrough, StopsShort, WritesText, up_to_a_fault}
 use Rattle.mdmp_tool.specs.Forms.{dump_line_in}
 use Rattle.mdmp_words.specs.declared.request.LineForm.{LineForm}
-use Rattle.mdmp_tool.specs.Symbols.{symbols_bytes}
+use Rattle.mdmp_tool.specs.Symbols.{IsRecordAmong, IsRecordAt, symbols_bytes}
+use Rattle.mdmp_tool.specs.declared.list.ModuleSymbols.{ModuleSymbols}
 use Rattle.mdmp_tool.specs.Text.{run_text, list_text, next_lines}
 
--- what may end the printing of a run: its fault, or none; the store's, the budget's or the output's
-abbrev pub ListEnds : Run → Result (Unit {0}) ToolFault → Type 0
-ListEnds run (Ok x) = run.fault ≡ None
-ListEnds run (Err (BadList fault)) = run.fault ≡ Some fault
-ListEnds run (Err (Source fault)) = Unit {0}
-ListEnds run (Err (Budget offset size)) = Unit {0}
-ListEnds run (Err (AsideLimit offset size)) = Unit {0}
-ListEnds run (Err Out) = Unit {0}
-ListEnds run (Err fault) = ⊥
+-- what may end the printing of a run: its fault, or none; the store's, the budget's or the output's; or the limit of what is read of
+-- CodeView records, which is told of one of its items
+abbrev pub ListEnds : Bool → ℕ → Run → Result (Unit {0}) ToolFault → Type 0
+ListEnds pdb limit run (Ok x) = run.fault ≡ None
+ListEnds pdb limit run (Err (BadList fault)) = run.fault ≡ Some fault
+ListEnds pdb limit run (Err (Source fault)) = Unit {0}
+ListEnds pdb limit run (Err (Budget offset size)) = Unit {0}
+ListEnds pdb limit run (Err (AsideLimit offset size)) = IsRecordAmong pdb limit run.items offset size
+ListEnds pdb limit run (Err Out) = Unit {0}
+ListEnds pdb limit run (Err fault) = ⊥
 
 -- the items of a run over F were printed, all of them up to its fault or none
 pub record ListsRun (form : LineForm) (pdb : Bool) (F : List ℕ) (limit : ℕ) (run : Run) (before : OutState) (answer : Result (Unit {0}) ToolFault) (after : OutState) : Type 0 where
-  pub ends : ListEnds run answer
+  pub ends : ListEnds pdb limit run answer
   pub writes : WritesText up_to_a_fault (run_text form pdb F limit run) before answer after
 
 -- the same behind the line of a header
 pub record ListsFile (form : LineForm) (pdb : Bool) (F : List ℕ) (limit : ℕ) (h : Header) (run : Run) (before : OutState) (answer : Result (Unit {0}) ToolFault)
     (after : OutState) : Type 0 where
-  pub ends : ListEnds run answer
+  pub ends : ListEnds pdb limit run answer
   pub writes : WritesText up_to_a_fault (dump_line_in form h ++ run_text form pdb F limit run) before answer after
 
 -- the line of a CodeView record was printed; or its bytes were not read, and nothing was; or the output refused in it
-abbrev pub PutsSymbols : List ℕ → OutState → Result (Unit {0}) ToolFault → OutState → Type 0
-PutsSymbols text before (Ok x) after = PutsAll before text after
-PutsSymbols text before (Err (Source fault)) after = after ≡ before
-PutsSymbols text before (Err (AsideLimit offset size)) after = after ≡ before
-PutsSymbols text before (Err Out) after = PutsPrefix before text after
-PutsSymbols text before (Err fault) after = ⊥
+abbrev pub PutsSymbols : ℕ → Option ModuleSymbols → List ℕ → OutState → Result (Unit {0}) ToolFault → OutState → Type 0
+PutsSymbols limit symbols text before (Ok x) after = PutsAll before text after
+PutsSymbols limit symbols text before (Err (Source fault)) after = after ≡ before
+PutsSymbols limit symbols text before (Err (AsideLimit offset size)) after = IsRecordAt limit symbols offset size × (after ≡ before)
+PutsSymbols limit symbols text before (Err Out) after = PutsPrefix before text after
+PutsSymbols limit symbols text before (Err fault) after = ⊥
 
 -- of what is left of a run over F the lines of its next item were printed; or nothing was, since no item is left, the fault
 -- stands there or the budget was reached; or the store failed or the output refused in these lines
@@ -52,7 +54,7 @@ ListsNext form pdb F limit left before (Ok false) after = (left ≡ nothing) × 
 ListsNext form pdb F limit left before (Err (BadList fault)) after = (left ≡ only_fault fault) × (after ≡ before)
 ListsNext form pdb F limit left before (Err (Source fault)) after = StopsShort before (next_lines form pdb F limit left) after
 ListsNext form pdb F limit left before (Err (Budget offset size)) after = after ≡ before
-ListsNext form pdb F limit left before (Err (AsideLimit offset size)) after = StopsShort before (next_lines form pdb F limit left) after
+ListsNext form pdb F limit left before (Err (AsideLimit offset size)) after = IsRecordAmong pdb limit (take 1 left.items) offset size × StopsShort before (next_lines form pdb F limit left) after
 ListsNext form pdb F limit left before (Err Out) after = PutsPrefix before (next_lines form pdb F limit left) after
 ListsNext form pdb F limit left before (Err fault) after = ⊥
 
@@ -80,8 +82,8 @@ pub record ReadsLeft (pdb : Bool) (old new : ListerState) : Type 0 where
 
 -- a run of `list` over F, of which the text is printed while it is read: with `pdb` the CodeView records of modules are told
 abbrev pub Lists : LineForm → Bool → List ℕ → ℕ → OutState → Result (Unit {0}) ToolFault → OutState → Type 0
-Lists form pdb F limit = Runs F All (ListEnds (listing F All limit)) up_to_a_fault (list_text form pdb F limit)
+Lists form pdb F limit = Runs F All (ListEnds pdb limit (listing F All limit)) up_to_a_fault (list_text form pdb F limit)
 
 -- the same through blocks
 abbrev pub ListsThrough : LineForm → Bool → List ℕ → ℕ → OutState → Result (Unit {0}) ToolFault → OutState → Type 0
-ListsThrough form pdb F limit = RunsThrough F All (ListEnds (listing F All limit)) up_to_a_fault (list_text form pdb F limit)
+ListsThrough form pdb F limit = RunsThrough F All (ListEnds pdb limit (listing F All limit)) up_to_a_fault (list_text form pdb F limit)

@@ -99,7 +99,7 @@ impl Engine for ListEngine {
 
     ghost reads = { λ e. list_beside e.pdb };
 
-    ghost Ends = { λ _ file limit. ListEnds (listing file All limit) };
+    ghost Ends = { λ e file limit. ListEnds e.pdb limit (listing file All limit) };
 
     ghost text = { λ e file limit. dump_line_in e.form (header_at file 0) ++ run_text e.form e.pdb file limit (listing file All limit) };
 
@@ -244,7 +244,7 @@ fn put_symbols<S: Store + Drop, A: Allocator + Copy, O: Out>(
 ) -> Result<(), ToolFault>
     requires { IfSome symbols (λ of. IsInside of.location.rva of.location.size lister.old.source.size) }
     ensures puts { (file : List ℕ) → lister.old.source.store.content ≡ Some file
-        → PutsSymbols (symbols_text form file lister.old.limit symbols) (O.state out.old) result (O.state out.new) }
+        → PutsSymbols lister.old.limit symbols (symbols_text form file lister.old.limit symbols) (O.state out.old) result (O.state out.new) }
     ensures stays { lister.new ≡ record lister.old { source = lister.new.source; counts = lister.new.counts } }
     ensures leaves { Leaves up_to_a_fault ⊥ lister.old.source (O.state out.old) result lister.new.source (O.state out.new) }
     ensures same { IsSameRun lister.old lister.new }

@@ -1,10 +1,12 @@
-use Rattle.std.proofs.Common.{◌≡◌, ◌∙◌, ◌+◌, ℕ, Bool, List, Some, Err, arith, false, refl, subst}
+use Rattle.std.proofs.Common.{◌≡◌, ◌∙◌, ◌+◌, ℕ, Bool, List, Option, Some, Err, arith, false, refl, subst}
 use Rattle.std.specs.Prelude.{slice_get}
 use Rattle.mdmp_source.specs.SourceLaws.{fetches_then}
 use Rattle.mdmp_lister.specs.FaultLaws.{next_fits}
 use Rattle.mdmp_lister.specs.Format.Item.{plain}
 use Rattle.mdmp_tool.specs.Engines.{up_to_a_fault}
 use Rattle.mdmp_tool.specs.Runs.{PutsSymbols}
+use Rattle.mdmp_tool.specs.Text.{symbols_text}
+use Rattle.mdmp_tool.specs.declared.list.ModuleSymbols.{ModuleSymbols}
 use Rattle.mdmp_tool.proofs.Symbols.{IsBehindNext-aside, Leaves-cut, Leaves-done, Leaves-fault, Leaves-later, Leaves-listed, ListsNext-cut, ListsNext-fault, ListsNext-line, ListsNext-symbols, end-more, fault-more, refused_by, symbols-inside, symbols_text-is}
 use Rattle.mdmp_tool.proofs.Besides.{ReadsNext-none, ReadsNext-record}
 use Rattle.mdmp_tool.proofs.Reached.{names_fault, names_next, names_none}
@@ -24,9 +26,12 @@ returns-in_err-put_symbols-clause-lists g c = λ file content left known.
     let f = c.in_err-put_symbols.field-0.0 in
     let is = refused_by c.from_residual.result f c.from_residual.ensures.1 in
     let first : slice_get left.items 0 ≡ Some (plain x) = rw c.in-Ok-Some.field-0-is at (c.in-Ok-Some.ensures.gives left known) in
-    let line = symbols_text-is c.args.form file _ _ _ _ holds.same.limit c.symbols_of.ensures in
-    let end = λ (text : List ℕ). PutsSymbols text (g.O.Out.state c.put_item.new.out) (Err f) (g.O.Out.state c.put_symbols.new.out) in
-    let cut = subst end line (c.in_err-put_symbols.ensures.puts file (holds.spends.fetches.same_content ∙ content)) in
+    let limited = subst
+    (λ (n : ℕ). PutsSymbols n c.symbols_of.result (symbols_text c.args.form file n c.symbols_of.result) (g.O.Out.state c.put_item.new.out) (Err f) (g.O.Out.state c.put_symbols.new.out))
+    holds.same.limit (c.in_err-put_symbols.ensures.puts file (holds.spends.fetches.same_content ∙ content)) in
+    let cut = subst
+    (λ (s : Option ModuleSymbols). PutsSymbols c.args.lister.now.limit s (symbols_text c.args.form file c.args.lister.now.limit s) (g.O.Out.state c.put_item.new.out) (Err f) (g.O.Out.state c.put_symbols.new.out))
+    c.symbols_of.ensures limited in
     rw is (ListsNext-cut c.args.form c.args.pdb file c.args.lister.now.limit left x first _ _ _ c.in-Ok.ensures f cut)
 
 pub returns-in_err-put_symbols-clause-leaves : goal.returns-in_err-put_symbols-clause-leaves
