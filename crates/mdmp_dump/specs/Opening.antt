@@ -153,6 +153,8 @@ module _ {S A : Type 0} {G : Ghosts S} where
     pub held : held_by v ≡ window + 24 * entries_in v
     -- its two lists have room for one number of 4 and one of 8 bytes for each entry, and no more
     pub lists : 4 * vec_capacity v.counts + 8 * vec_capacity v.rooms ≡ 12 * entries_in v
+    -- it is these parts, and holds no other list
+    pub whole : v ≡ record { walk = v.walk; limit = v.limit; counts = v.counts; rooms = v.rooms; pass = v.pass; passed = v.passed; asked = v.asked; last = v.last; needed = v.needed; sound = v.sound }
     -- a copy holds no more than the limit of memory, if there is one
     pub within : is_within memory (copy_held window (entries_in v)) ≡ true
     -- it needs no less than three passes over each stream cost

@@ -21,5 +21,5 @@ returns-clause-gives c = λ types_fit.
     let told = IsCopyTold-of Global file _ types c.in-Some-new.types c.args.limits.now c.in-Some.limits _ _ _ bytes answer c.copy_answer.result known (ap length whole)
     c.in-Some-new.ensures.value c.in-Some.ensures none wrote good c.copy_answer.ensures c.run_copy-answer.ensures.copies c.run_copy-answer.ensures.budget c.run_copy-answer.ensures.memory in
     let valid : AreLimits c.args.limits.now = c.in-Some.ensures.valid in
-    Ends-given (IsCopyTold Global file types c.args.limits.now) (AreLimits c.args.limits.now) (λ _. ⊥) bad_limits c.copy_answer.result bytes c.give_or_want.result c.give_or_want.new.size
-    c.give_or_want.new.fault c.args.out.now c.give_or_want.new.out valid (inr (inl told)) c.give_or_want.ensures
+    Ends-given (IsCopyTold Global file types c.args.limits.now) (AreLimits c.args.limits.now) (Unit {0}) (λ _. ⊥) bad_limits c.copy_answer.result bytes c.give_or_want.result c.give_or_want.new.size
+    c.give_or_want.new.fault c.args.out.now c.give_or_want.new.out valid (inr (inl (tt, told))) c.give_or_want.ensures

@@ -58,6 +58,7 @@ returns-in-Ok-walk_all-clause-new g c =
       needed = view_needed g.row.A.Denot c.args.source c.args.limits.window c.args.limits.name c.args.choice c.in-Ok.walk c.walk_all.new.walk c.in-Ok-walk_all.field-0.counts.items c.in-Ok-walk_all.field-0.rooms.items c.in-Ok.ensures.opened c.in-Ok.ensures.of_file sized c.size-size.ensures.bytes of.pays of.counts.0 of.counts.1 of.goes light of.of_file of.bare costs asks c.saturating_add.result of.costs.0 needed;
       within = subst (λ (n : ℕ). is_within c.args.limits.memory (copy_held c.args.limits.window n) ≡ true) (ap (λ (h : Header). h.number_of_streams) (sym of.pays.same.header)) c.in-Ok.ensures.memory;
       lists = omega (arith, of.lists.0, of.lists.1, ap (λ (h : Header). h.number_of_streams) of.pays.same.header);
+      whole = refl;
       passed = refl;
       asked = refl;
       last = refl;
