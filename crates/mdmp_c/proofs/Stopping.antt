@@ -20,8 +20,8 @@ use Rattle.mdmp_lister.specs.declared.limits.Limits.{Limits}
 use Rattle.mdmp_lister.specs.Counts.{AreHeld, AreOfFile, AreSpent, numbers_of}
 use Rattle.mdmp_lister.specs.Fault.{IsOfStore, IsUnobtained}
 use Rattle.mdmp_lister.specs.Format.Bounds.{fetch_bound}
-use Rattle.mdmp_lister.specs.Format.Listing.{entry_count, listing}
-use Rattle.mdmp_lister.specs.Format.Numbers.{listed_bytes}
+use Rattle.mdmp_lister.specs.Format.Listing.{Run, entry_count, listing}
+use Rattle.mdmp_tool.specs.Symbols.{IsRecordAmong}
 use Rattle.mdmp_lister.specs.Lister.{IsRefusedIn, IsSameLister, ListerState, Rooms}
 use Rattle.mdmp_lister.specs.Memory.{IsRefusalWithin, TellsMemory, earlier_fault, is_within, leaving, mapped_fault, opening_fault_within, unmapped_fault}
 use Rattle.mdmp_lister.specs.Format.Refusal.{behind_directory, directory_refusal, opening_fault, range_fault}
@@ -37,7 +37,6 @@ use Rattle.mdmp_tool.specs.Engines.{IsReadThrough, IsSameRun, check_access}
 use Rattle.mdmp_tool.specs.declared.fault.ToolFault.{ToolFault}
 use Rattle.mdmp_tool.specs.declared.fault.ToolFault.TheVariants.{AsideLimit, Budget, MemoryLimit, Opening}
 use Rattle.mdmp_c.specs.declared.limits.PlainLimits.{PlainLimits}
-use Rattle.mdmp_c.specs.declared.fault.PlainFault.{PlainFault}
 use Rattle.mdmp_c.specs.Fault.{budget_fault, open_fault}
 use Rattle.mdmp_c.specs.Limits.{AreGiven, EndsChecking, EndsText, IsLimit, KeepsMemory, ReachesLimit, ends_aside, ends_text, limit_of, most_read, names_checked, names_listed, reaches_budget, reaches_memory}
 use Rattle.mdmp_c.specs.Table.{EndsListAt, IsEndedAt}
@@ -221,20 +220,24 @@ is_budget kind never unobtained = absurd unobtained
 -- ---- texts
 
 -- the lines of a listing ended by a limit
-pub text_over : (old v : ListerState) (F : List ℕ) (names : ℕ) (aside : Option ℕ) (c : Counts) (f : ToolFault) → IsSameRun old v → v.source.size ≡ old.source.size → c ≡ numbers_of v
-    → AreOfFile F v.choice c → v.counts.names ≤ old.counts.names + names + 1 → AreHeld v c → AreSpent v c → HasBudgetCause {T = Bool} (Err f) v → KeepsAside {T = Bool} aside (Err f) v → IsTextLimit f
-    → EndsTextAt old (most_read F old.choice old.limit (old.counts.names + names)) aside f
-text_over old v F names aside c (Budget offset size) same sized is of most held spent over kept told =
+pub text_over : (old v : ListerState) (F : List ℕ) (run : Run) (aside : Option ℕ) (pdb : Bool) (c : Counts) (f : ToolFault)
+    → ((offset size : ℕ) → f ≡ AsideLimit offset size → IsRecordAmong pdb old.limit run.items offset size) → IsSameRun old v → v.source.size ≡ old.source.size → c ≡ numbers_of v
+    → AreOfFile F v.choice c → v.counts.names ≤ old.counts.names + names_of_all run.items + 1 → AreHeld v c → AreSpent v c → HasBudgetCause {T = Bool} (Err f) v → KeepsAside {T = Bool} aside (Err f) v → IsTextLimit f
+    → EndsTextAt old (most_read F old.choice old.limit (old.counts.names + names_of_all run.items)) aside pdb run f
+text_over old v F run aside pdb c (Budget offset size) place same sized is of most held spent over kept told =
     let ended = ended_before old v _ offset size same.budget same.rooms same.limit sized (ended_by v c offset size is held spent over) in
-    ended_as old _ (Some (most_read F old.choice old.limit (old.counts.names + names))) offset size ended (omega (arith, ended.bound, most_by old v F names c same.choice same.limit is of most))
-text_over old v F names aside c (AsideLimit offset size) same sized is of most held spent over kept told = record {
-  read = v.counts.aside.bytes;
-  kept = kept.kept;
-  passes = kept.over.0;
-  inside = rw sized at kept.over.1.0;
-  few = rw same.limit at kept.over.1.1;
-}
-text_over old v F names aside c f same sized is of most held spent over kept told = absurd told
+    ended_as old _ (Some (most_read F old.choice old.limit (old.counts.names + names_of_all run.items))) offset size ended (omega (arith, ended.bound, most_by old v F (names_of_all run.items) c same.choice same.limit is of most))
+text_over old v F run aside pdb c (AsideLimit offset size) place same sized is of most held spent over kept told = (
+  record {
+    read = v.counts.aside.bytes;
+    kept = kept.kept;
+    passes = kept.over.0;
+    inside = rw sized at kept.over.1.0;
+    few = rw same.limit at kept.over.1.1;
+  },
+  place offset size refl,
+)
+text_over old v F run aside pdb c f place same sized is of most held spent over kept told = absurd told
 
 -- bytes that pass the limit of what is read of CodeView records, and others that do not
 aside_passed : (n read total : ℕ) (aside : Option ℕ) → aside ≡ limit_of n → is_within aside read ≡ true → is_within aside total ≡ false → IsLimit n × ((read ≤ n) × (n < total))
@@ -251,22 +254,23 @@ aside_passed n read total aside is keeps passes = by (n == 2 ^ 64 - 1) refl wher
       (is_limit n aside is none_passed, (grind (arith, nat_tests, keep), grind (arith, nat_tests, pass)))
 
 -- and it is told so
-pub text_ended : (plain : PlainLimits) (limits : Limits) (F : List ℕ) (v : ListerState) (most : ℕ) → AreGiven plain limits → v.counts.budget ≡ limits.budget → v.rooms.window ≡ limits.window
-    → v.limit ≡ limits.name → v.source.size ≡ length F → most ≡ most_read F All plain.name (names_listed F All plain.name) → (f : ToolFault) → EndsTextAt v most limits.aside f
-    → EndsText plain F (list_answer (Err f))
-text_ended plain limits F v most given budget window limit size is (Budget offset len) ended =
+pub text_ended : (plain : PlainLimits) (limits : Limits) (F : List ℕ) (v : ListerState) (most : ℕ) (pdb : Bool) → AreGiven plain limits → v.counts.budget ≡ limits.budget → v.rooms.window ≡ limits.window
+    → v.limit ≡ limits.name → v.source.size ≡ length F → most ≡ most_read F All plain.name (names_listed F All plain.name) → (f : ToolFault)
+    → EndsTextAt v most limits.aside pdb (listing F All plain.name) f → EndsText plain F pdb (list_answer (Err f))
+text_ended plain limits F v most pdb given budget window limit size is (Budget offset len) ended =
     ends_text (ended_over plain limits F All _ v offset len given budget window limit size (subst (λ n. IsEndedAt v (Some n) offset len) is ended))
-text_ended plain limits F v most given budget window limit size is (AsideLimit offset len) ended =
-    let over = aside_passed plain.aside ended.read (ended.read + len) limits.aside given.aside ended.kept ended.passes in
+text_ended plain limits F v most pdb given budget window limit size is (AsideLimit offset len) ended =
+    let over = aside_passed plain.aside ended.0.read (ended.0.read + len) limits.aside given.aside ended.0.kept ended.0.passes in
     ends_aside over.0 offset len refl
     record {
-      read = ended.read;
+      read = ended.0.read;
       kept = over.1.0;
       passes = over.1.1;
-      inside = rw size at ended.inside;
-      few = rw (limit, given.name) at ended.few;
+      inside = rw size at ended.0.inside;
+      few = rw (limit, given.name) at ended.0.few;
     }
-text_ended plain limits F v most given budget window limit size is f ended = absurd ended
+    (subst (λ n. IsRecordAmong pdb n (listing F All plain.name).items offset len) (limit ∙ given.name) ended.1)
+text_ended plain limits F v most pdb given budget window limit size is f ended = absurd ended
 
 -- ---- a check
 

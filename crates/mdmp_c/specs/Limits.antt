@@ -1,5 +1,5 @@
 -- Which limits are good, and when a call says that one was reached.
-use Rattle.std.specs.Prelude.{◌≡◌, ◌≤◌, ◌<◌, ◌+◌, ◌==◌, ◌-◌, ◌^◌, ℕ, IfSome, List, length, max, Option, Some, None, if◌then◌else◌}
+use Rattle.std.specs.Prelude.{◌≡◌, ◌≤◌, ◌<◌, ◌+◌, ◌==◌, ◌-◌, ◌^◌, ℕ, Bool, IfSome, List, length, max, Option, Some, None, if◌then◌else◌}
 use Rattle.mdmp_source.specs.Range.{IsInside}
 use Rattle.mdmp_c.specs.declared.fault.PlainFault.{PlainFault}
 use Rattle.mdmp_c.specs.Fault.{aside_fault, budget_fault, wide_fault}
@@ -17,6 +17,7 @@ use Rattle.mdmp_lister.specs.Format.Refusal.{opening_fault}
 use Rattle.mdmp_lister.specs.Limits.{most_bytes}
 use Rattle.mdmp_lister.specs.Memory.{opening_fault_within}
 use Rattle.mdmp_lister.specs.Sink.{names_of_all}
+use Rattle.mdmp_tool.specs.Symbols.{IsRecordAmong}
 
 -- a window of at least the greatest record, neither it nor a name of more than 2^30 bytes
 abbrev pub AreLimits : PlainLimits → Type 0
@@ -100,6 +101,7 @@ abbrev pub EndsChecking : PlainLimits → List ℕ → PlainFault → Type 0
 EndsChecking limits F = ReachesLimit limits F All (Some (most_read F All limits.name (names_checked F All limits.name)))
 
 -- a call that gives the text of a list, which also reads CodeView records: of these the budget counts nothing
-pub data EndsText (limits : PlainLimits) (F : List ℕ) (told : PlainFault) : Type 0 where
-  ends_text : EndsListing limits F All told → EndsText limits F told
-  ends_aside : IsLimit limits.aside → (offset size : ℕ) → told ≡ aside_fault offset size → PassesAside limits F offset size → EndsText limits F told
+pub data EndsText (limits : PlainLimits) (F : List ℕ) (pdb : Bool) (told : PlainFault) : Type 0 where
+  ends_text : EndsListing limits F All told → EndsText limits F pdb told
+  ends_aside : IsLimit limits.aside → (offset size : ℕ) → told ≡ aside_fault offset size → PassesAside limits F offset size
+      → IsRecordAmong pdb limits.name (listing F All limits.name).items offset size → EndsText limits F pdb told

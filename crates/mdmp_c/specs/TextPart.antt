@@ -12,6 +12,7 @@ use Rattle.mdmp_lister.specs.Lister.{ListerState}
 use Rattle.mdmp_lister.specs.Memory.{is_within}
 use Rattle.mdmp_tool.specs.declared.fault.ToolFault.{ToolFault}
 use Rattle.mdmp_tool.specs.declared.fault.ToolFault.TheVariants.{List as BadList, Budget, AsideLimit, Memory, Out}
+use Rattle.mdmp_tool.specs.Symbols.{IsRecordAmong}
 use Rattle.mdmp_tool.specs.Text.{list_text}
 use Rattle.mdmp_words.specs.declared.request.LineForm.{LineForm}
 
@@ -37,11 +38,12 @@ pub record IsAsideEnd (v : ListerState) (aside : Option ℕ) (offset size : ℕ)
   pub inside : IsInside offset size v.source.size
   pub few : size ≤ 24 + v.limit
 
--- a lister v reached its budget, below what it may read at most, or this limit of what is read of CodeView records, at this fault
-abbrev pub EndsTextAt : ListerState → (most : ℕ) → Option ℕ → ToolFault → Type 0
-EndsTextAt v most aside (Budget offset size) = IsEndedAt v (Some most) offset size
-EndsTextAt v most aside (AsideLimit offset size) = IsAsideEnd v aside offset size
-EndsTextAt v most aside fault = ⊥
+-- a lister v reached its budget, below what it may read at most, or this limit of what is read of CodeView records, at this fault: that
+-- is told of a record of one of these items
+abbrev pub EndsTextAt : ListerState → (most : ℕ) → Option ℕ → Bool → Run → ToolFault → Type 0
+EndsTextAt v most aside pdb run (Budget offset size) = IsEndedAt v (Some most) offset size
+EndsTextAt v most aside pdb run (AsideLimit offset size) = IsAsideEnd v aside offset size × IsRecordAmong pdb v.limit run.items offset size
+EndsTextAt v most aside pdb run fault = ⊥
 
 -- the first bytes of a text were put somewhere, and then a limit was reached so
 pub record PutsFirst (IsPut : List ℕ → Type 0) (reached : Type 0) (text : List ℕ) : Type 0 where

@@ -35,7 +35,7 @@ pub extern "C" fn mdmp_list_part_(
     size: &mut u64,
     fault: &mut PlainFault,
 ) -> u32
-    ensures { Ends (IsListPart Text pdb skip file.now limits.now.name) (AreLimits limits.now) (KeepsMemory limits.now file.now All) (EndsText limits.now file.now) bad_limits result size.new fault.new out.old out.new }
+    ensures { Ends (IsListPart Text pdb skip file.now limits.now.name) (AreLimits limits.now) (KeepsMemory limits.now file.now All) (EndsText limits.now file.now pdb) bad_limits result size.new fault.new out.old out.new }
 {
     give_list(
         alloc,
@@ -65,7 +65,7 @@ pub(crate) fn give_list(
     size: &mut u64,
     fault: &mut PlainFault,
 ) -> u32
-    ensures { Ends (IsListPart form pdb skip file.now limits.now.name) (AreLimits limits.now) (KeepsMemory limits.now file.now All) (EndsText limits.now file.now) bad_limits result size.new fault.new out.old out.new }
+    ensures { Ends (IsListPart form pdb skip file.now limits.now.name) (AreLimits limits.now) (KeepsMemory limits.now file.now All) (EndsText limits.now file.now pdb) bad_limits result size.new fault.new out.old out.new }
 {
     let Some(limits) = limits_of(limits) else {
         return refuse(of_kind(67), size, fault);
@@ -93,7 +93,7 @@ fn put_list<S: Store + Drop, A: Allocator + Copy>(
     requires kept { is_within aside lister.old.counts.aside.bytes ≡ true }
     ensures { (file : List ℕ) → IsGood lister.old.source.store file → (left : Run) → lister.old.left ≡ Some left → (skip room : ℕ) (given : List ℕ)
         → IsPartOf skip room given part.old.skip part.old.room part.old.size part.old.kept.items
-        → PutsRun (λ text. IsPartOf skip room text part.new.skip part.new.room part.new.size part.new.kept.items) (EndsTextAt lister.old (most_read file lister.old.choice lister.old.limit (lister.old.counts.names + names_of_all left.items)) aside)
+        → PutsRun (λ text. IsPartOf skip room text part.new.skip part.new.room part.new.size part.new.kept.items) (EndsTextAt lister.old (most_read file lister.old.choice lister.old.limit (lister.old.counts.names + names_of_all left.items)) aside pdb left)
         (given ++ (dump_line_in form lister.old.header ++ run_text form pdb file lister.old.limit left)) left result }
 {
     let mut line = WriteOut::new(Vec::new(alloc));
@@ -120,7 +120,7 @@ fn put_items<S: Store + Drop, A: Allocator + Copy>(
     requires kept { is_within aside lister.old.counts.aside.bytes ≡ true }
     ensures { (file : List ℕ) → IsGood lister.old.source.store file → (left : Run) → lister.old.left ≡ Some left → (skip room : ℕ) (given : List ℕ)
         → IsPartOf skip room given part.old.skip part.old.room part.old.size part.old.kept.items
-        → PutsRun (λ text. IsPartOf skip room text part.new.skip part.new.room part.new.size part.new.kept.items) (EndsTextAt lister.old (most_read file lister.old.choice lister.old.limit (lister.old.counts.names + names_of_all left.items)) aside)
+        → PutsRun (λ text. IsPartOf skip room text part.new.skip part.new.room part.new.size part.new.kept.items) (EndsTextAt lister.old (most_read file lister.old.choice lister.old.limit (lister.old.counts.names + names_of_all left.items)) aside pdb left)
         (given ++ run_text form pdb file lister.old.limit left) left result }
 {
     let mut line = line;

@@ -57,7 +57,7 @@ pub extern "C" fn mdmp_list_(
     size: &mut u64,
     fault: &mut PlainFault,
 ) -> u32
-    ensures { Ends (IsList Text pdb file.now limits.now.name) (AreLimits limits.now) (KeepsMemory limits.now file.now All) (EndsText limits.now file.now) bad_limits result size.new fault.new out.old out.new }
+    ensures { Ends (IsList Text pdb file.now limits.now.name) (AreLimits limits.now) (KeepsMemory limits.now file.now All) (EndsText limits.now file.now pdb) bad_limits result size.new fault.new out.old out.new }
 {
     list_in(alloc, file, limits, LineForm::Text, pdb, out, size, fault)
 }
@@ -73,7 +73,7 @@ pub extern "C" fn mdmp_list_json_(
     size: &mut u64,
     fault: &mut PlainFault,
 ) -> u32
-    ensures { Ends (IsList Json pdb file.now limits.now.name) (AreLimits limits.now) (KeepsMemory limits.now file.now All) (EndsText limits.now file.now) bad_limits result size.new fault.new out.old out.new }
+    ensures { Ends (IsList Json pdb file.now limits.now.name) (AreLimits limits.now) (KeepsMemory limits.now file.now All) (EndsText limits.now file.now pdb) bad_limits result size.new fault.new out.old out.new }
 {
     list_in(alloc, file, limits, LineForm::Json, pdb, out, size, fault)
 }
@@ -111,7 +111,7 @@ fn list_in(
     size: &mut u64,
     fault: &mut PlainFault,
 ) -> u32
-    ensures { Ends (IsList form pdb file.now limits.now.name) (AreLimits limits.now) (KeepsMemory limits.now file.now All) (EndsText limits.now file.now) bad_limits result size.new fault.new out.old out.new }
+    ensures { Ends (IsList form pdb file.now limits.now.name) (AreLimits limits.now) (KeepsMemory limits.now file.now All) (EndsText limits.now file.now pdb) bad_limits result size.new fault.new out.old out.new }
 {
     give_list(alloc, file, limits, form, pdb, 0, out, size, fault)
 }

@@ -1,5 +1,5 @@
 -- What a command reads beside its listing, and over which lister.
-use Rattle.std.proofs.Common.{◌≡◌, ◌≤◌, ◌∙◌, ◌+◌, ◌*◌, ℕ, Bool, List, [], ◌∷◌, Option, Some, None, true, false, ap, arith, length, refl, subst, sym}
+use Rattle.std.proofs.Common.{◌≡◌, ◌≤◌, ◌∙◌, ◌+◌, ◌*◌, ℕ, Bool, List, [], Option, Some, None, true, false, ap, arith, length, refl, subst, sym}
 use Rattle.std.specs.Prelude.{Result, slice_get, take, drop}
 use Rattle.std.specs.Option.{option_map}
 use Rattle.std.proofs.lemmas.List.{take-append-drop}

@@ -1,7 +1,7 @@
 -- The names that a command has reached.
 use Rattle.std.proofs.Common.{◌≡◌, ◌≤◌, ◌<◌, ◌∙◌, ◌+◌, ◌^◌, ◌++◌, ℕ, List, [], ◌∷◌, Some, ap, arith, sym, append_assoc}
 use Rattle.std.specs.List.{flat_map}
-use Rattle.std.specs.Prelude.{Err, Ok, Option, Result, length, slice_get, sum_by, take, drop}
+use Rattle.std.specs.Prelude.{Err, Ok, Result, length, slice_get, sum_by, take, drop}
 use Rattle.std.specs.Option.{option_map}
 use Rattle.std.proofs.lemmas.List.{take-append-drop}
 use Rattle.std.proofs.lemmas.List.Concat.{flat_map-append}

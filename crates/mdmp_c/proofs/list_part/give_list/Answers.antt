@@ -24,7 +24,7 @@ returns-in-Err c =
     let good : IsGood c.new-source.result.store file = search rules in
     let valid : AreLimits c.args.limits.now = c.in-Some.ensures.valid in
     Ends-refused (IsListPart c.args.form c.args.pdb c.args.skip file c.args.limits.now.name) file All (AreLimits c.args.limits.now) c.args.limits.now c.in-Some.limits c.in-Some.ensures
-    (EndsText c.args.limits.now file) (no_part c.args.form c.args.pdb file c.args.limits.now.name c.args.skip) (all_parts c.args.form c.args.pdb file c.args.limits.now.name c.args.skip)
+    (EndsText c.args.limits.now file c.args.pdb) (no_part c.args.form c.args.pdb file c.args.limits.now.name c.args.skip) (all_parts c.args.form c.args.pdb file c.args.limits.now.name c.args.skip)
     c.in-Err.refused.fault _ _ _ _ _ valid (λ told. ends_text (opening_over c.args.limits.now c.in-Some.limits file All _ _ c.in-Err.refused.fault _ c.in-Some.ensures good.known (sized file c.new-source.result good.known c.new-source.ensures.content) (search rules)
     (least_read file All c.args.limits.now.name _) c.in-Err.ensures.kept c.in-Err.ensures.over (c.in-Err.ensures.within file good.known) told))
     (c.in-Err.ensures.opens file good.known) (c.in-Err.ensures.within file good.known) (c.in-Err.ensures.good file good)
@@ -48,14 +48,14 @@ returns c =
     let lister = c.in-Ok.lister in
     let run = listing file All name in
     let IsPut : List ℕ → Type 0 = λ text. IsPartOf skip (length c.args.out.now) text c.put_list-answer.new.part.skip c.put_list-answer.new.part.room c.put_list-answer.new.part.size c.put_list-answer.new.part.kept.items in
-    let named = subst (λ n. PutsRun IsPut (EndsTextAt lister (most_read file lister.choice lister.limit (lister.counts.names + names_of_all run.items)) c.in-Some.limits.aside) (dump_line_in c.args.form lister.header ++ run_text c.args.form pdb file n run) run c.put_list-answer.result)
+    let named = subst (λ n. PutsRun IsPut (EndsTextAt lister (most_read file lister.choice lister.limit (lister.counts.names + names_of_all run.items)) c.in-Some.limits.aside pdb run) (dump_line_in c.args.form lister.header ++ run_text c.args.form pdb file n run) run c.put_list-answer.result)
     (new.list.asked.limit_is ∙ limit) puts in
-    let told = subst (λ (h : Header). PutsRun IsPut (EndsTextAt lister (most_read file lister.choice lister.limit (lister.counts.names + names_of_all run.items)) c.in-Some.limits.aside) (dump_line_in c.args.form h ++ run_text c.args.form pdb file name run) run c.put_list-answer.result)
+    let told = subst (λ (h : Header). PutsRun IsPut (EndsTextAt lister (most_read file lister.choice lister.limit (lister.counts.names + names_of_all run.items)) c.in-Some.limits.aside pdb run) (dump_line_in c.args.form h ++ run_text c.args.form pdb file name run) run c.put_list-answer.result)
     (new.list.read.header_is file good.known) named in
     let size : lister.source.size ≡ length file = new.fetches.same_size ∙ sized file c.new-source.result good.known c.new-source.ensures.content in
-    let can : (f : ToolFault) → EndsTextAt lister (most_read file lister.choice lister.limit (lister.counts.names + names_of_all run.items)) c.in-Some.limits.aside f → EndsText c.args.limits.now file (list_answer (Err f)) =
-    text_ended c.args.limits.now c.in-Some.limits file lister _ c.in-Some.ensures new.list.counts.budget_is new.list.asked.window_room new.list.asked.limit_is size
+    let can : (f : ToolFault) → EndsTextAt lister (most_read file lister.choice lister.limit (lister.counts.names + names_of_all run.items)) c.in-Some.limits.aside pdb run f → EndsText c.args.limits.now file pdb (list_answer (Err f)) =
+    text_ended c.args.limits.now c.in-Some.limits file lister _ pdb c.in-Some.ensures new.list.counts.budget_is new.list.asked.window_room new.list.asked.limit_is size
     (most_listed file All name name lister new.list.asked.choice_is (new.list.asked.limit_is ∙ limit) new.list.counts.names refl) in
-    Ends-part c.args.form pdb file name skip (AreLimits c.args.limits.now) (KeepsMemory c.args.limits.now file All) (EndsText c.args.limits.now file) (EndsTextAt lister (most_read file lister.choice lister.limit (lister.counts.names + names_of_all run.items)) c.in-Some.limits.aside)
+    Ends-part c.args.form pdb file name skip (AreLimits c.args.limits.now) (KeepsMemory c.args.limits.now file All) (EndsText c.args.limits.now file c.args.pdb) (EndsTextAt lister (most_read file lister.choice lister.limit (lister.counts.names + names_of_all run.items)) c.in-Some.limits.aside pdb run)
     (keeps_memory c.args.limits.now c.in-Some.limits file All None c.in-Some.ensures (c.in-Ok.ensures.within file good.known) (c.in-Ok.ensures.opens file good.known)) c.put_list-answer.result c.give.result c.give.new.size c.give.new.fault c.args.out.now c.give.new.out _ _ _ _ valid can
     (c.in-Ok.ensures.opens file good.known) told (rw c.list_answer.ensures at c.give.ensures.gives) (rw c.list_answer.ensures at c.give.ensures.wants)

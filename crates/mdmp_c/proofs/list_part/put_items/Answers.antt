@@ -7,7 +7,7 @@ use Rattle.mdmp_lister.specs.Lister.{tail}
 use Rattle.mdmp_tool.proofs.Printing.{next_told, next_within}
 use Rattle.mdmp_tool.specs.Text.{next_lines}
 use Rattle.mdmp_tool.proofs.SameRuns.{run_then}
-use Rattle.mdmp_c.proofs.Listed.{HasGiven-next, PutsRun-end, PutsRun-ended, lines_taken}
+use Rattle.mdmp_c.proofs.Listed.{HasGiven-next, among_given, PutsRun-end, PutsRun-ended, lines_taken}
 use Rattle.mdmp_c.specs.Limits.{most_read}
 use Rattle.mdmp_c.specs.TextPart.{EndsTextAt}
 use Rattle.mdmp_lister.specs.Sink.{names_of_all}
@@ -21,7 +21,7 @@ returns-in-Ok-false g c = λ file good run known skip room before part.
     let given = so_far.part file good run known skip room before part in
     let content = so_far.source.fetches.same_content ∙ good.known in
     let next = next_told c.args.form c.args.pdb file _ _ given.0 _ c.in-Ok-false.field-0 false _ so_far.run.limit c.in-Ok-false.field-0-test (c.in-Ok-false.ensures.lists file content given.0 given.1.0) in
-    PutsRun-end c.args.form c.args.pdb file c.args.lister.now.limit (EndsTextAt c.args.lister.now (most_read file c.args.lister.now.choice c.args.lister.now.limit (c.args.lister.now.counts.names + names_of_all run.items)) c.args.aside) run given.0 before skip room _ _ _ _ _ _ given.1.1 next
+    PutsRun-end c.args.form c.args.pdb file c.args.lister.now.limit (EndsTextAt c.args.lister.now (most_read file c.args.lister.now.choice c.args.lister.now.limit (c.args.lister.now.counts.names + names_of_all run.items)) c.args.aside c.args.pdb run) run given.0 before skip room _ _ _ _ _ _ given.1.1 next
 
 pub returns-in-Err : goal.returns-in-Err
 returns-in-Err g c = λ file good run known skip room before part.
@@ -29,9 +29,9 @@ returns-in-Err g c = λ file good run known skip room before part.
     let given = so_far.part file good run known skip room before part in
     let now : IsGood c.loop-lines.lister.source.store file = IsGood-later file _ _ _ so_far.source.fetches good in
     let next = next_within c.args.form c.args.pdb file _ _ given.0 _ (Err c.in-Err.fault) _ so_far.run.limit (c.in-Err.ensures.lists file now.known given.0 given.1.0) in
-    PutsRun-ended c.args.form c.args.pdb file c.args.lister.now.limit (EndsTextAt c.args.lister.now (most_read file c.args.lister.now.choice c.args.lister.now.limit (c.args.lister.now.counts.names + names_of_all run.items)) c.args.aside) run given.0 before _ skip room _ _ _ _ _ _ _ _ _ _ c.in-Err.fault _ given.1.1 next
+    PutsRun-ended c.args.form c.args.pdb file c.args.lister.now.limit (EndsTextAt c.args.lister.now (most_read file c.args.lister.now.choice c.args.lister.now.limit (c.args.lister.now.counts.names + names_of_all run.items)) c.args.aside c.args.pdb run) run given.0 before _ skip room _ _ _ _ _ _ _ _ _ _ c.in-Err.fault _ given.1.1 next
     (ap (λ (o : OutState). o.taken) c.new-lines.ensures ∙ ap Some c.clear.ensures.items) (sym c.into_inner.ensures) (c.end_items.ensures skip room) (c.in-Err.ensures.leaves.good file now)
-    (text_over c.args.lister.now c.list_next.new.lister file (names_of_all run.items) c.args.aside c.counts-counts.result c.in-Err.fault (run_then _ _ _ so_far.run c.in-Err.ensures.same)
+    (text_over c.args.lister.now c.list_next.new.lister file run c.args.aside c.args.pdb c.counts-counts.result c.in-Err.fault (among_given c.args.form c.args.pdb file c.args.lister.now.limit run given.0 before skip room _ _ _ _ _ _ c.in-Err.fault given.1.1 next) (run_then _ _ _ so_far.run c.in-Err.ensures.same)
     (c.in-Err.ensures.leaves.reads.fetches.fetches.same_size ∙ so_far.source.fetches.same_size) c.counts-counts.ensures.value
     (c.counts-counts.ensures.of_file file (c.in-Err.ensures.leaves.reads.fetches.fetches.same_content ∙ now.known)) (HasNamed-fault _ _ _ so_far.named c.in-Err.ensures.names run known)
     c.counts-counts.ensures.held c.counts-counts.ensures.spent

@@ -19,5 +19,5 @@ returns g c = λ file good run known skip room before part.
     (sym c.into_inner-line.ensures ∙ ap Some (sym c.deref.ensures.value)) ∙ ap (λ (h : Header). dump_line_in c.args.form h) c.header.ensures in
     let all : (before ++ line) ++ items ≡ before ++ (first ++ items) = append_assoc before line items ∙ ap (λ xs. before ++ (xs ++ items)) is in
     let end = λ (text : List ℕ). PutsRun (λ part. IsPartOf skip room part c.put_items.new.part.skip c.put_items.new.part.room c.put_items.new.part.size c.put_items.new.part.kept.items)
-    (EndsTextAt c.args.lister.now (most_read file c.args.lister.now.choice c.args.lister.now.limit (c.args.lister.now.counts.names + names_of_all run.items)) c.args.aside) text run c.put_items.result in
+    (EndsTextAt c.args.lister.now (most_read file c.args.lister.now.choice c.args.lister.now.limit (c.args.lister.now.counts.names + names_of_all run.items)) c.args.aside c.args.pdb run) text run c.put_items.result in
     subst end all (c.put_items.ensures file good run known skip room (before ++ line) (c.in_default-take.ensures skip room before part))
