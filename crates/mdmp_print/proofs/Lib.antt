@@ -1,0 +1,9 @@
+pub mod BufferLemmas
+pub mod DigitPairs
+pub mod HexLanes
+pub mod LeftLemmas
+pub mod PartLemmas
+pub mod PlainUnits
+pub mod Printing
+pub mod Texts
+pub mod Unitwise

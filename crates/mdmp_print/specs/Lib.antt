@@ -1,0 +1,15 @@
+pub mod Buffer
+pub mod Digits
+pub mod Escapes
+pub mod Forms
+pub mod ItemLines
+pub mod Joined
+pub mod Json
+pub mod JsonLaws
+pub mod JsonLines
+pub mod JsonPieces
+pub mod NameLaws
+pub mod Parts
+pub mod PlacedLaws
+pub mod PlainUnits
+pub mod Versions

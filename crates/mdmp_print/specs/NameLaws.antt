@@ -1,0 +1,34 @@
+-- What a name prints as a value.
+use Rattle.std.proofs.Common.{◌≡◌, ◌∙◌, ℕ, Bool, true, false, List, [], ◌∷◌, ◌++◌, refl, ap, codes, append_assoc, append-nil}
+use Rattle.std.specs.Char.Utf16.{has_unpaired_surrogate}
+use Rattle.json.specs.Token.{Token}
+use Rattle.json.specs.Print.{escape, escape_byte, print_from}
+use Rattle.mdmp_wire.specs.Units.{units_in, utf8_of}
+use Rattle.mdmp_lister.specs.declared.name.Name.{Name}
+use Rattle.mdmp_lister.specs.declared.name.Name.TheVariants.{Units, Long}
+use Rattle.mdmp_lister.specs.declared.name.Name.TheVariants as names
+use Rattle.mdmp_print.specs.Json.{lossy_member, name_value, spelled}
+use Rattle.mdmp_print.specs.JsonLaws.{IsShown}
+use Rattle.mdmp_print.specs.JsonPieces.{lossy_text, name_value_text, spelled_text}
+
+lossy-then : (b : Bool) (rest : List Token) → print_from true (lossy_member b ++ rest) ≡ lossy_text b ++ print_from true rest
+unfolding print_from escape_byte
+lossy-then true rest = refl
+lossy-then false rest = refl
+
+around : (s l t : List ℕ) → (34 ∷ (s ++ 34 ∷ [])) ++ (l ++ t) ≡ (codes "\"" ++ (s ++ (codes "\"" ++ l))) ++ t
+around s l t = simp append_assoc refl
+
+IsShown-spelled : (s : List ℕ) (b : Bool) → IsShown (spelled s b) (spelled_text s b)
+unfolding print_from
+IsShown-spelled s b = record {
+  first = λ rest. ap (λ (x : List ℕ). (34 ∷ (escape s ++ 34 ∷ [])) ++ x) (lossy-then b rest) ∙ around (escape s) (lossy_text b) (print_from true rest);
+  next = λ rest. ap (λ (x : List ℕ). 44 ∷ (34 ∷ (escape s ++ 34 ∷ [])) ++ x) (lossy-then b rest)
+      ∙ ap (λ (x : List ℕ). 44 ∷ x) (around (escape s) (lossy_text b) (print_from true rest));
+}
+
+pub IsShown-name : (n : Name) → IsShown (name_value n) (name_value_text n)
+unfolding print_from escape_byte
+IsShown-name names.None = record { first = λ rest. refl; next = λ rest. refl }
+IsShown-name (Units units) = IsShown-spelled (utf8_of (units_in units)) (has_unpaired_surrogate (units_in units))
+IsShown-name (Long length) = record { first = λ rest. simp (append_assoc, append-nil) refl; next = λ rest. simp (append_assoc, append-nil) refl }

@@ -1,0 +1,23 @@
+-- A text that is put into a buffer part by part.
+use Rattle.std.specs.Prelude.{◌≡◌, ℕ, List, ◌++◌}
+use Rattle.mdmp_source.specs.Output.{OutState, PutsAll}
+use Rattle.mdmp_source.specs.Blocks.{BlockState}
+use Rattle.mdmp_print.specs.Buffer.{IsPutBehind}
+
+-- of a text a first part, of at most `most` bytes, stands behind the first `len` bytes of a buffer, and the rest is left
+pub record IsPartPut (before : List ℕ) (len : ℕ) (text rest : List ℕ) (most : ℕ) (after : List ℕ) (end : ℕ) : Type 0 where
+  pub part : List ℕ
+  pub whole : text ≡ part ++ rest
+  pub put : IsPutBehind before len part most after end
+
+-- of a text all went out but what is left
+pub record IsLeft (before : OutState) (text rest : List ℕ) (after : OutState) : Type 0 where
+  pub sent : List ℕ
+  pub whole : text ≡ sent ++ rest
+  pub went : PutsAll before sent after
+
+-- a first part of a text was put behind what is pending, and the rest is left
+pub record IsPartAppended (before : BlockState) (text rest : List ℕ) (after : BlockState) : Type 0 where
+  pub part : List ℕ
+  pub whole : text ≡ part ++ rest
+  pub put : after ≡ record before { pending = before.pending ++ part }

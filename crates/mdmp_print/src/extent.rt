@@ -1,0 +1,162 @@
+//! What bytes are in their file, as pieces of a line and as members of an object.
+ghost use Rattle.std.specs.Prelude.{[], ◌++◌, List, codes, true, refl};
+ghost use Rattle.mdmp_print.specs.ItemLines.{extent_text};
+ghost use Rattle.mdmp_print.specs.Json.{of_number, of_wide, part_members};
+ghost use Rattle.mdmp_print.specs.JsonPieces.{placed_text};
+ghost use Rattle.mdmp_print.specs.PlacedLaws.{AreShown-range, IsShown-placed};
+
+use crate::piece::Piece;
+use crate::row;
+use crate::values::{Json, Members};
+use mdmp_source::{Extent, Location};
+
+/// What the location of a part names: its class, its size, and where it stands.
+#[derive(Clone, Copy)]
+pub struct PartText(pub Extent, pub Location);
+
+impl Piece for PartText {
+    ghost text = { λ p. extent_text p.0 p.1.size p.1.rva };
+
+    ghost before = { λ p more. (extent_text p.0 p.1.size p.1.rva) ++ more };
+
+    ghost most = { 40 };
+
+    ghost joined = { λ p more. refl };
+
+    #[inline(always)]
+    fn put(&self, buffer: &mut [u8], at: usize) -> usize {
+        let Location { size, rva } = self.1;
+        match self.0 {
+            Extent::Empty => b"empty".put(buffer, at),
+            Extent::Absent => row![b"absent ", size].put(buffer, at),
+            Extent::Inside => row![b"inside ", size, b"@", rva].put(buffer, at),
+            Extent::Outside => row![b"outside ", size, b"@", rva].put(buffer, at),
+        }
+    }
+}
+
+/// The same as members of an object.
+#[derive(Clone, Copy)]
+pub struct PartMembers(pub Extent, pub Location);
+
+impl Piece for PartMembers {
+    ghost text = { λ p. placed_text [] p.0 p.1.size p.1.rva };
+
+    ghost before = { λ p more. (placed_text [] p.0 p.1.size p.1.rva) ++ more };
+
+    ghost most = { 80 };
+
+    ghost joined = { λ p more. refl };
+
+    fn put(&self, buffer: &mut [u8], at: usize) -> usize {
+        let Location { size, rva } = self.1;
+        match self.0 {
+            Extent::Empty => b"\"class\":\"empty\"".put(buffer, at),
+            Extent::Absent => row![b"\"class\":\"absent\",\"size\":", size].put(buffer, at),
+            Extent::Inside => {
+                row![
+                    b"\"class\":\"inside\",\"size\":",
+                    size,
+                    b",\"offset\":",
+                    rva
+                ]
+                .put(buffer, at)
+            }
+            Extent::Outside => {
+                row![
+                    b"\"class\":\"outside\",\"size\":",
+                    size,
+                    b",\"offset\":",
+                    rva
+                ]
+                .put(buffer, at)
+            }
+        }
+    }
+}
+
+impl Json for PartMembers {
+    ghost tokens = { λ p. part_members of_number p.0 p.1.size p.1.rva };
+
+    ghost is_plain = { λ p. true };
+
+    ghost shown = { λ p plain. IsShown-placed p.0 p.1.size p.1.rva };
+}
+
+/// What a range is in its file, behind a space: its class, its size, and where it stands.
+#[derive(Clone, Copy)]
+pub struct RangeText {
+    pub extent: Extent,
+    pub size: u64,
+    pub offset: u128,
+}
+
+impl Piece for RangeText {
+    ghost text = { λ p. codes " " ++ extent_text p.extent p.size p.offset };
+
+    ghost before = { λ p more. (codes " " ++ extent_text p.extent p.size p.offset) ++ more };
+
+    ghost most = { 70 };
+
+    ghost joined = { λ p more. refl };
+
+    fn put(&self, buffer: &mut [u8], at: usize) -> usize {
+        match self.extent {
+            Extent::Empty => b" empty".put(buffer, at),
+            Extent::Absent => row![b" absent ", self.size].put(buffer, at),
+            Extent::Inside => row![b" inside ", self.size, b"@", self.offset].put(buffer, at),
+            Extent::Outside => row![b" outside ", self.size, b"@", self.offset].put(buffer, at),
+        }
+    }
+}
+
+/// The same as members of an object, each behind a comma; the numbers are strings.
+#[derive(Clone, Copy)]
+pub struct RangeMembers {
+    pub extent: Extent,
+    pub size: u64,
+    pub offset: u128,
+}
+
+impl Piece for RangeMembers {
+    ghost text = { λ p. codes "," ++ placed_text (codes "\"") p.extent p.size p.offset };
+
+    ghost before = { λ p more. (codes "," ++ placed_text (codes "\"") p.extent p.size p.offset) ++ more };
+
+    ghost most = { 110 };
+
+    ghost joined = { λ p more. refl };
+
+    fn put(&self, buffer: &mut [u8], at: usize) -> usize {
+        match self.extent {
+            Extent::Empty => b",\"class\":\"empty\"".put(buffer, at),
+            Extent::Absent => {
+                row![b",\"class\":\"absent\",\"size\":\"", self.size, b"\""].put(buffer, at)
+            }
+            Extent::Inside => row![
+                b",\"class\":\"inside\",\"size\":\"",
+                self.size,
+                b"\",\"offset\":\"",
+                self.offset,
+                b"\"",
+            ]
+            .put(buffer, at),
+            Extent::Outside => row![
+                b",\"class\":\"outside\",\"size\":\"",
+                self.size,
+                b"\",\"offset\":\"",
+                self.offset,
+                b"\"",
+            ]
+            .put(buffer, at),
+        }
+    }
+}
+
+impl Members for RangeMembers {
+    ghost onto = { λ p more. part_members of_wide p.extent p.size p.offset ++ more };
+
+    ghost is_plain = { λ p. true };
+
+    ghost shown = { λ p plain. AreShown-range p.extent p.size p.offset };
+}

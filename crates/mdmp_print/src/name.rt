@@ -1,0 +1,94 @@
+//! Names in lines of text.
+ghost use Rattle.std.specs.Prelude.{◌≤◌, ◌+◌, ◌++◌, drop, length, refl};
+ghost use Rattle.mdmp_source.specs.Blocks.{output_state};
+ghost use Rattle.mdmp_source.specs.Output.{Puts};
+ghost use Rattle.mdmp_wire.specs.Escape.{escaped};
+ghost use Rattle.mdmp_wire.specs.Units.{units_in};
+ghost use Rattle.mdmp_print.specs.ItemLines.{name_text, units_text};
+
+use crate::line_out::LineOut;
+use crate::parts::{PartEnd, Parts};
+use crate::piece::Piece;
+use crate::row;
+use crate::text::Text;
+use mdmp_lister::Name;
+use mdmp_source::{Out, OutFailed};
+use mdmp_wire::UnitsRef;
+
+/// How many units are a part, at most: each of them takes six bytes at most.
+const PART: usize = 160;
+
+/// Units as they are printed between double quotes.
+#[derive(Clone, Copy)]
+struct Escaped<'a> {
+    units: UnitsRef<'a>,
+}
+
+impl<'a> Parts for Escaped<'a> {
+    ghost text_from = { λ t i. escaped (drop i (units_in t.units)) };
+
+    ghost places = { λ t. length (units_in t.units) };
+
+    fn places(&self) -> usize {
+        self.units.len()
+    }
+
+    fn put_part(&self, place: usize, buffer: &mut [u8], len: usize) -> PartEnd {
+        let next = place + (self.units.len() - place).min(PART);
+        PartEnd {
+            next,
+            len: self.units.escape_at(buffer, len, place, next),
+        }
+    }
+}
+
+impl<'a> Text for Escaped<'a> {
+    ghost text = { λ t. escaped (units_in t.units) };
+
+    fn print<O: Out>(&self, out: &mut LineOut<'_, O>) -> Result<(), OutFailed> {
+        out.print_parts(self)
+    }
+}
+
+/// At most [`PART`] units between double quotes.
+#[derive(Clone, Copy)]
+struct ShortName<'a> {
+    units: UnitsRef<'a>,
+    ghost few: { length (units_in units) ≤ 160 },
+}
+
+impl<'a> Piece for ShortName<'a> {
+    ghost text = { λ p. units_text p.units };
+
+    ghost before = { λ p more. (units_text p.units) ++ more };
+
+    ghost most = { 962 };
+
+    ghost joined = { λ p more. refl };
+
+    #[inline(always)]
+    fn put(&self, buffer: &mut [u8], at: usize) -> usize {
+        let at = b"\"".put(buffer, at);
+        let at = self.units.escape_at(buffer, at, 0, self.units.len());
+        b"\"".put(buffer, at)
+    }
+}
+
+/// A name as it stands in a line of text.
+#[derive(Drop)]
+pub struct NameText<'n, 'a>(pub &'n Name<'a>);
+
+impl<'n, 'a> Text for NameText<'n, 'a> {
+    ghost text = { λ t. name_text t.0.now };
+
+    fn print<O: Out>(&self, out: &mut LineOut<'_, O>) -> Result<(), OutFailed> {
+        match self.0 {
+            Name::None => out.print(&b"none"),
+            Name::Units(units) if units.len() <= PART => out.print(&ShortName { units: *units }),
+            Name::Units(units) => {
+                out.print_around(&row![b"\""], &Escaped { units: *units }, &row![b"\""])
+            }
+            Name::Long(length) => out.print(&row![b"long ", *length]),
+        }
+    }
+}

@@ -1,0 +1,184 @@
+//! Pieces of a line, which are put into a buffer one behind the other.
+ghost use Rattle.std.specs.Prelude.{◌+◌, ◌≤◌, ◌++◌, List, ℕ, length, [], ◌≡◌, refl};
+ghost use Rattle.mdmp_print.specs.Joined.{joined-then};
+ghost use Rattle.std.specs.Fmt.{decimal};
+ghost use Rattle.mdmp_wire.specs.Digits.{hex};
+ghost use Rattle.mdmp_print.specs.Buffer.{IsPutBehind};
+
+use crate::digits::{decimal_at, decimal32_at, wide_decimal_at};
+use crate::hex::hex16_at;
+use crate::in_buffer::text_at;
+
+/// A text of a bounded length, that is put behind others.
+pub trait Piece {
+    // Its bytes.
+    ghost text: { Self → List ℕ };
+
+    // The same in front of others. Rows nest to the right in it, so that texts compute to the same term.
+    ghost before: { Self → List ℕ → List ℕ };
+
+    // How many they are, at most.
+    ghost most: { ℕ };
+
+    /// Puts it behind the first `at` bytes of a buffer, and answers where it ends. What stands in the
+    /// buffer behind it is not stated.
+    fn put(&self, buffer: &mut [u8], at: usize) -> usize
+        requires { at + most ≤ length buffer.old }
+        ensures { IsPutBehind buffer.old at (text self.now) most buffer.new result };
+
+    ghost joined: { (x : Self) (more : List ℕ) → before x more ≡ text x ++ more };
+}
+
+/// Nothing: the end of a row of pieces.
+impl Piece for () {
+    ghost text = { λ p. [] };
+
+    ghost before = { λ p more. more };
+
+    ghost most = { 0 };
+
+    ghost joined = { λ p more. refl };
+
+    #[inline(always)]
+    fn put(&self, _buffer: &mut [u8], at: usize) -> usize {
+        at
+    }
+}
+
+/// A piece, and those behind it.
+impl<A: Piece, B: Piece> Piece for (A, B) {
+    ghost text = { λ p. A.text p.0 ++ B.text p.1 };
+
+    ghost before = { λ p more. A.before p.0 (B.before p.1 more) };
+
+    ghost most = { A.most + B.most };
+
+    ghost joined = { λ p more. joined-then (A.text p.0) (B.text p.1) (A.before p.0) (B.before p.1) (A.joined p.0) (B.joined p.1) more };
+
+    #[inline(always)]
+    fn put(&self, buffer: &mut [u8], at: usize) -> usize {
+        let at = self.0.put(buffer, at);
+        self.1.put(buffer, at)
+    }
+}
+
+/// Seven pieces, and those behind them: a long row is made of such, since the proofs of a row take the
+/// longer the deeper it is.
+impl<A: Piece, B: Piece, C: Piece, D: Piece, E: Piece, F: Piece, G: Piece, H: Piece> Piece
+    for (A, B, C, D, E, F, G, H) {
+    ghost text = { λ p. A.text p.0 ++ (B.text p.1 ++ (C.text p.2 ++ (D.text p.3 ++ (E.text p.4 ++ (F.text p.5 ++ (G.text p.6 ++ H.text p.7)))))) };
+
+    ghost before = { λ p more. A.before p.0 (B.before p.1 (C.before p.2 (D.before p.3 (E.before p.4 (F.before p.5 (G.before p.6 (H.before p.7 more))))))) };
+
+    ghost most = { A.most + (B.most + (C.most + (D.most + (E.most + (F.most + (G.most + H.most)))))) };
+
+    ghost joined = { λ p. joined-then _ _ _ _ (A.joined p.0) (joined-then _ _ _ _ (B.joined p.1) (joined-then _ _ _ _ (C.joined p.2) (joined-then _ _ _ _ (D.joined p.3) (joined-then _ _ _ _ (E.joined p.4) (joined-then _ _ _ _ (F.joined p.5) (joined-then _ _ _ _ (G.joined p.6) (H.joined p.7))))))) };
+
+    #[inline(always)]
+    fn put(&self, buffer: &mut [u8], at: usize) -> usize {
+        let at = self.0.put(buffer, at);
+        let at = self.1.put(buffer, at);
+        let at = self.2.put(buffer, at);
+        let at = self.3.put(buffer, at);
+        let at = self.4.put(buffer, at);
+        let at = self.5.put(buffer, at);
+        let at = self.6.put(buffer, at);
+        self.7.put(buffer, at)
+    }
+}
+
+/// A text of known length.
+impl<'a, const N: usize> Piece for &'a [u8; N] {
+    ghost text = { λ p. p.now };
+
+    ghost before = { λ p more. (p.now) ++ more };
+
+    ghost most = { N };
+
+    ghost joined = { λ p more. refl };
+
+    #[inline(always)]
+    fn put(&self, buffer: &mut [u8], at: usize) -> usize {
+        text_at(buffer, at, **self)
+    }
+}
+
+/// A number in decimal digits.
+impl Piece for u64 {
+    ghost text = { decimal };
+
+    ghost before = { λ p more. (decimal p) ++ more };
+
+    ghost most = { 20 };
+
+    ghost joined = { λ p more. refl };
+
+    #[inline(always)]
+    fn put(&self, buffer: &mut [u8], at: usize) -> usize {
+        decimal_at(buffer, at, *self)
+    }
+}
+
+/// A number in decimal digits.
+impl Piece for u32 {
+    ghost text = { decimal };
+
+    ghost before = { λ p more. (decimal p) ++ more };
+
+    ghost most = { 10 };
+
+    ghost joined = { λ p more. refl };
+
+    #[inline(always)]
+    fn put(&self, buffer: &mut [u8], at: usize) -> usize {
+        decimal32_at(buffer, at, *self)
+    }
+}
+
+/// A number in decimal digits.
+impl Piece for u128 {
+    ghost text = { decimal };
+
+    ghost before = { λ p more. (decimal p) ++ more };
+
+    ghost most = { 39 };
+
+    ghost joined = { λ p more. refl };
+
+    #[inline(always)]
+    fn put(&self, buffer: &mut [u8], at: usize) -> usize {
+        if *self < 0x1_0000_0000_0000_0000 {
+            return decimal_at(buffer, at, *self as u64);
+        }
+        wide_decimal_at(buffer, at, *self)
+    }
+}
+
+/// A number in sixteen hexadecimal digits.
+#[derive(Clone, Copy)]
+pub struct Hex16(pub u64);
+
+impl Piece for Hex16 {
+    ghost text = { λ p. hex 16 p.0 };
+
+    ghost before = { λ p more. (hex 16 p.0) ++ more };
+
+    ghost most = { 16 };
+
+    ghost joined = { λ p more. refl };
+
+    #[inline(always)]
+    fn put(&self, buffer: &mut [u8], at: usize) -> usize {
+        hex16_at(buffer, at, self.0)
+    }
+}
+
+/// A row of pieces.
+#[macro_export]
+macro_rules! row {
+    () => { () };
+    ($a:expr, $b:expr, $c:expr, $d:expr, $e:expr, $f:expr, $g:expr, $($rest:expr),+ $(,)?) => {
+        ($a, $b, $c, $d, $e, $f, $g, $crate::row!($($rest),+))
+    };
+    ($piece:expr $(, $rest:expr)* $(,)?) => { ($piece, $crate::row!($($rest),*)) };
+}
