@@ -1,9 +1,14 @@
 pub mod BufferLemmas
+pub mod Bytewise
 pub mod DigitPairs
+pub mod FormLemmas
 pub mod HexLanes
+pub mod HexLemmas
 pub mod LeftLemmas
 pub mod PartLemmas
 pub mod PlainUnits
 pub mod Printing
+pub mod Sixteens
 pub mod Texts
+pub mod Underway
 pub mod Unitwise

@@ -1,5 +1,7 @@
--- What a name prints as a value.
-use Rattle.std.proofs.Common.{◌≡◌, ◌∙◌, ℕ, Bool, true, false, List, [], ◌∷◌, ◌++◌, refl, ap, codes, append_assoc, append-nil}
+-- What a name and bytes of a file name print as values.
+use Rattle.std.specs.Str.{is_utf8}
+use Rattle.std.specs.Str.Lossy.{utf8_lossy}
+use Rattle.std.proofs.Common.{◌≡◌, ◌∙◌, ℕ, Bool, true, false, not, List, [], ◌∷◌, ◌++◌, refl, ap, codes, append_assoc, append-nil}
 use Rattle.std.specs.Char.Utf16.{has_unpaired_surrogate}
 use Rattle.json.specs.Token.{Token}
 use Rattle.json.specs.Print.{escape, escape_byte, print_from}
@@ -7,9 +9,9 @@ use Rattle.mdmp_wire.specs.Units.{units_in, utf8_of}
 use Rattle.mdmp_lister.specs.declared.name.Name.{Name}
 use Rattle.mdmp_lister.specs.declared.name.Name.TheVariants.{Units, Long}
 use Rattle.mdmp_lister.specs.declared.name.Name.TheVariants as names
-use Rattle.mdmp_print.specs.Json.{lossy_member, name_value, spelled}
-use Rattle.mdmp_print.specs.JsonLaws.{IsShown}
-use Rattle.mdmp_print.specs.JsonPieces.{lossy_text, name_value_text, spelled_text}
+use Rattle.mdmp_print.specs.Json.{bytes_value, lossy_member, name_value, spelled}
+use Rattle.mdmp_print.specs.Shown.{IsShown}
+use Rattle.mdmp_print.specs.JsonPieces.{bytes_value_text, lossy_text, name_value_text, spelled_text}
 
 lossy-then : (b : Bool) (rest : List Token) → print_from true (lossy_member b ++ rest) ≡ lossy_text b ++ print_from true rest
 unfolding print_from escape_byte
@@ -26,6 +28,9 @@ IsShown-spelled s b = record {
   next = λ rest. ap (λ (x : List ℕ). 44 ∷ (34 ∷ (escape s ++ 34 ∷ [])) ++ x) (lossy-then b rest)
       ∙ ap (λ (x : List ℕ). 44 ∷ x) (around (escape s) (lossy_text b) (print_from true rest));
 }
+
+pub IsShown-bytes : (bytes : List ℕ) → IsShown (bytes_value bytes) (bytes_value_text bytes)
+IsShown-bytes bytes = IsShown-spelled (utf8_lossy bytes) (not (is_utf8 bytes))
 
 pub IsShown-name : (n : Name) → IsShown (name_value n) (name_value_text n)
 unfolding print_from escape_byte

@@ -7,7 +7,7 @@ use Rattle.mdmp_source.specs.declared.location.Extent.{Extent}
 use Rattle.mdmp_source.specs.declared.location.Extent.TheVariants.{Empty, Absent, Inside, Outside}
 use Rattle.mdmp_print.specs.Escapes.{escape-decimal}
 use Rattle.mdmp_print.specs.Json.{of_number, of_wide, part_members}
-use Rattle.mdmp_print.specs.JsonLaws.{AreShown, IsShown}
+use Rattle.mdmp_print.specs.Shown.{AreShown, IsShown}
 use Rattle.mdmp_print.specs.JsonPieces.{placed_text}
 
 -- texts one behind the other, in two lots

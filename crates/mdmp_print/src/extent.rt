@@ -5,12 +5,13 @@ ghost use Rattle.mdmp_print.specs.Json.{of_number, of_wide, part_members};
 ghost use Rattle.mdmp_print.specs.JsonPieces.{placed_text};
 ghost use Rattle.mdmp_print.specs.PlacedLaws.{AreShown-range, IsShown-placed};
 
+use crate::fields::{Fields, Value};
+use crate::json::{Json, Members, Object};
 use crate::piece::Piece;
 use crate::row;
-use crate::values::{Json, Members};
 use mdmp_source::{Extent, Location};
 
-/// What the location of a part names: its class, its size, and where it stands.
+/// What a part is in its file: its class, its size and its offset.
 #[derive(Clone, Copy)]
 pub struct PartText(pub Extent, pub Location);
 
@@ -35,7 +36,18 @@ impl Piece for PartText {
     }
 }
 
-/// The same as members of an object.
+impl Value for PartText {
+    type Json = Object<PartMembers, ()>;
+
+    ghost json_of = { λ p. record { 0 = record { 0 = p.0; 1 = p.1 }; 1 = tt } };
+
+    #[inline(always)]
+    fn json(&self) -> Object<PartMembers, ()> {
+        Object(PartMembers(self.0, self.1), ())
+    }
+}
+
+/// A part as members of an object.
 #[derive(Clone, Copy)]
 pub struct PartMembers(pub Extent, pub Location);
 
@@ -83,7 +95,7 @@ impl Json for PartMembers {
     ghost shown = { λ p plain. IsShown-placed p.0 p.1.size p.1.rva };
 }
 
-/// What a range is in its file, behind a space: its class, its size, and where it stands.
+/// What a range is in its file, behind a space: its class, its size and its offset.
 #[derive(Clone, Copy)]
 pub struct RangeText {
     pub extent: Extent,
@@ -110,7 +122,22 @@ impl Piece for RangeText {
     }
 }
 
-/// The same as members of an object, each behind a comma; the numbers are strings.
+impl Fields for RangeText {
+    type Members = RangeMembers;
+
+    ghost members_of = { λ p. record { extent = p.extent; size = p.size; offset = p.offset } };
+
+    #[inline(always)]
+    fn members(&self) -> RangeMembers {
+        RangeMembers {
+            extent: self.extent,
+            size: self.size,
+            offset: self.offset,
+        }
+    }
+}
+
+/// A range as members of an object, each behind a comma; the numbers are strings.
 #[derive(Clone, Copy)]
 pub struct RangeMembers {
     pub extent: Extent,

@@ -3,7 +3,7 @@ ghost use Rattle.mdmp_print.specs.Joined.{joined-field};
 ghost use Rattle.std.specs.Prelude.{◌≡◌, ◌+◌, ◌++◌, codes, refl};
 
 use crate::piece::Piece;
-use crate::values::{Json, Member, Members, Next};
+use crate::json::{Json, Member, Members, Next};
 
 /// A value of a field: a piece of a line of text, and what stands for it in an object.
 pub trait Value: Piece {

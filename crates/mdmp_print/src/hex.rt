@@ -1,8 +1,16 @@
-//! Numbers in hexadecimal digits, all digits at once.
-ghost use Rattle.std.specs.Prelude.{◌≡◌, ◌+◌, ◌≤◌, length};
+//! Numbers in hexadecimal digits.
+ghost use Rattle.std.specs.Prelude.{◌≡◌, ◌+◌, ◌≤◌, ◌<◌, ◌++◌, codes, length, refl, true};
+ghost use Rattle.std.specs.Fmt.{digit_glyph, digits};
 ghost use Rattle.mdmp_wire.specs.Digits.{hex};
 ghost use Rattle.mdmp_print.specs.Buffer.{IsPutBehind};
+ghost use Rattle.mdmp_print.specs.Escapes.{escape-hex};
+ghost use Rattle.mdmp_print.specs.Shown.{both, escape-plain};
 
+use crate::fields::Value;
+use crate::in_buffer::{slice_at, text_at};
+use crate::json::{InQuotes, Plain};
+use crate::piece::Piece;
+use mdmp_wire::hex_digits;
 use std::simd::prelude::*;
 
 /// The hexadecimal digits.
@@ -11,6 +19,20 @@ static HEX_DIGITS: [u8; 16] = *b"0123456789abcdef";
 /// The high half of each byte stands among the first eight lanes, and its low half among the last: where
 /// they stand from the highest byte on.
 static HALVES: [u8; 16] = [7, 15, 6, 14, 5, 13, 4, 12, 3, 11, 2, 10, 1, 9, 0, 8];
+
+/// The hexadecimal digit of a number below 16, in upper case or in lower.
+pub(crate) fn hex_digit(upper: bool, number: u8) -> u8
+    requires { number < 16 }
+    ensures { result ≡ digit_glyph upper number }
+{
+    if number < 10 {
+        b'0' + number
+    } else if upper {
+        b'A' - 10 + number
+    } else {
+        b'a' - 10 + number
+    }
+}
 
 /// The sixteen digits of a number.
 #[inline(always)]
@@ -30,4 +52,154 @@ pub(crate) fn hex16_at(text: &mut [u8], len: usize, number: u64) -> usize
 {
     hex_lanes(number).copy_to_slice(&mut text[len..]);
     len + 16
+}
+
+/// A byte in two hexadecimal digits.
+#[derive(Clone, Copy)]
+pub struct Hex2(pub u8);
+
+impl Piece for Hex2 {
+    ghost text = { λ p. hex 2 p.0 };
+
+    ghost before = { λ p more. hex 2 p.0 ++ more };
+
+    ghost most = { 2 };
+
+    ghost joined = { λ p more. refl };
+
+    #[inline(always)]
+    fn put(&self, buffer: &mut [u8], at: usize) -> usize {
+        text_at(buffer, at, [hex_digit(false, self.0 / 16), hex_digit(false, self.0 % 16)])
+    }
+}
+
+/// A number in four hexadecimal digits.
+#[derive(Clone, Copy)]
+pub struct Hex4(pub u16);
+
+impl Piece for Hex4 {
+    ghost text = { λ p. hex 4 p.0 };
+
+    ghost before = { λ p more. hex 4 p.0 ++ more };
+
+    ghost most = { 4 };
+
+    ghost joined = { λ p more. refl };
+
+    fn put(&self, buffer: &mut [u8], at: usize) -> usize {
+        let mut digits = [0; 4];
+        hex_digits(u64::from(self.0), &mut digits);
+        text_at(buffer, at, digits)
+    }
+}
+
+/// A number in eight hexadecimal digits.
+#[derive(Clone, Copy)]
+pub struct Hex8(pub u32);
+
+impl Piece for Hex8 {
+    ghost text = { λ p. hex 8 p.0 };
+
+    ghost before = { λ p more. hex 8 p.0 ++ more };
+
+    ghost most = { 8 };
+
+    ghost joined = { λ p more. refl };
+
+    fn put(&self, buffer: &mut [u8], at: usize) -> usize {
+        let mut digits = [0; 8];
+        hex_digits(u64::from(self.0), &mut digits);
+        text_at(buffer, at, digits)
+    }
+}
+
+/// A number in sixteen hexadecimal digits.
+#[derive(Clone, Copy)]
+pub struct Hex16(pub u64);
+
+impl Piece for Hex16 {
+    ghost text = { λ p. hex 16 p.0 };
+
+    ghost before = { λ p more. hex 16 p.0 ++ more };
+
+    ghost most = { 16 };
+
+    ghost joined = { λ p more. refl };
+
+    #[inline(always)]
+    fn put(&self, buffer: &mut [u8], at: usize) -> usize {
+        hex16_at(buffer, at, self.0)
+    }
+}
+
+impl Plain for Hex4 {
+    ghost is_plain = { λ p. true };
+
+    ghost same = { λ p plain. escape-hex 4 p.0 };
+}
+
+impl Plain for Hex8 {
+    ghost is_plain = { λ p. true };
+
+    ghost same = { λ p plain. escape-hex 8 p.0 };
+}
+
+impl Plain for Hex16 {
+    ghost is_plain = { λ p. true };
+
+    ghost same = { λ p plain. escape-hex 16 p.0 };
+}
+
+/// `0x` and hexadecimal digits.
+#[derive(Clone, Copy)]
+pub struct Prefixed<H>(pub H);
+
+impl<H: Plain> Piece for Prefixed<H> {
+    ghost text = { λ p. codes "0x" ++ H.text p.0 };
+
+    ghost before = { λ p more. (codes "0x" ++ H.text p.0) ++ more };
+
+    ghost most = { 2 + H.most };
+
+    ghost joined = { λ p more. refl };
+
+    #[inline(always)]
+    fn put(&self, buffer: &mut [u8], at: usize) -> usize {
+        let at = b"0x".put(buffer, at);
+        self.0.put(buffer, at)
+    }
+}
+
+impl<H: Plain> Plain for Prefixed<H> {
+    ghost is_plain = { λ p. H.is_plain p.0 };
+
+    ghost same = { λ p plain. both true (H.is_plain p.0) (codes "0x") (H.text p.0) plain (λ e. escape-plain (codes "0x") refl) (H.same p.0) };
+}
+
+impl<H: Plain + Copy> Value for Prefixed<H> {
+    type Json = InQuotes<Prefixed<H>>;
+
+    ghost json_of = { λ p. record { 0 = p } };
+
+    #[inline(always)]
+    fn json(&self) -> InQuotes<Prefixed<H>> {
+        InQuotes(*self)
+    }
+}
+
+/// Puts a number in hexadecimal digits, in upper case and without zeros in front, behind the first `len` bytes.
+pub(crate) fn upper_hex_at(text: &mut [u8], len: usize, number: u32) -> usize
+    requires { len + 8 ≤ length text.old }
+    ensures { IsPutBehind text.old len (digits 16 true number) 8 text.new result }
+{
+    let mut places = [0; 8];
+    let mut first = 7;
+    let mut left = number;
+    while left >= 16 {
+        places[first] = hex_digit(true, (left % 16) as u8);
+        left /= 16;
+        first -= 1;
+    }
+    places[first] = hex_digit(true, left as u8);
+    slice_at(text, len, &places[first..])
 }

@@ -1,49 +1,77 @@
 //! Lines of text and objects of JSON, put together of pieces.
 //!
-//! A [`Piece`] is a text whose length has a bound, and a row of pieces ([`row!`]) is one: its bound is
-//! the sum of theirs, by its type. A [`LineOut`] prints a piece by one test of room, straight into its
-//! buffer. A [`Text`] may be of any length; it goes out by as many pieces as it takes.
+//! A [`Piece`] is a text whose length has a bound. A row of pieces ([`row!`]) is a piece too: its bound is
+//! the sum of theirs, by its type. A [`Printer`] prints a piece; a [`LineOut`] does so by one test of
+//! room, straight into its buffer. A [`Text`] may be of any length: it is printed by as many pieces as
+//! it takes.
 //!
 //! In an object a [`Json`] is a piece that knows which tokens it prints, and [`Members`] are some of
-//! them with their commas. A [`Field`] is a piece of a line of text that knows its member, so that a
-//! kind of record is one row of fields, from which [`print_record`] prints either form.
+//! them with their commas. A [`Field`] is a piece of a line of text that knows its member. So a kind of
+//! record is one row of fields, from which [`print_record`] prints either form.
+//!
+//! [`print_dump`], [`print_item`], [`print_symbols`] and [`print_verdict`] print the lines of `list` and
+//! `check`, [`print_hex_lines`] those of `hex`. What is said of an error is a piece, as [`ListWords`].
 #![tactic(auto)]
 
+mod bytes;
+mod codeview;
 mod digits;
+mod element;
+mod entry;
+mod exception;
 mod extent;
-mod field_values;
+mod fault_words;
 mod fields;
 mod form;
 mod hex;
+mod hex_lines;
 mod in_buffer;
+mod item;
+mod json;
 mod json_strings;
+mod json_text;
+mod json_units;
 mod line_out;
 mod name;
+mod number;
 mod object_line;
 mod parts;
 mod piece;
+mod printer;
 mod record;
 mod records;
+mod stack;
+mod symbols;
 #[cfg(test)]
 mod tests;
 mod text;
-mod values;
+mod verdict;
+mod version;
 
+pub use crate::bytes::{LongBytes, SHORT, ShortBytes};
+pub use crate::codeview::{Cut, DebugId, Guid, Signature};
+pub use crate::entry::{At, AtMembers, Entry, EntryMember, EntryOnly};
+pub use crate::exception::{Information, InformationMember};
 pub use crate::extent::{PartMembers, PartText, RangeMembers, RangeText};
-pub use crate::field_values::{
-    Address, At, AtMembers, Build, EntryMembers, EntryOnly, Stack, StackStart, Version,
+pub use crate::fault_words::{
+    BudgetWords, ItemMember, ItemWords, KindWords, ListWords, OpenWords, SourceWords,
 };
 pub use crate::fields::{Field, Fields, LineEnd, Value};
 pub use crate::form::LineForm;
-pub use crate::json_strings::NameValue;
-pub use crate::line_out::{LINE_ROOM, LineOut};
+pub use crate::hex::{Hex2, Hex4, Hex8, Hex16, Prefixed};
+pub use crate::hex_lines::print_hex_lines;
+pub use crate::item::{print_dump, print_item};
+pub use crate::json::{InQuotes, Json, LongValue, Member, Members, Next, Null, Object, Plain, Word};
+pub use crate::json_text::{BytesValue, NameValue};
+pub use crate::line_out::LineOut;
 pub use crate::name::NameText;
-pub use crate::object_line::{print_object, print_object_with};
+pub use crate::object_line::{print_object, print_object_around};
 pub use crate::parts::{PartEnd, Parts};
-pub use crate::piece::{Hex16, Piece};
+pub use crate::piece::{LINE_ROOM, Piece};
+pub use crate::printer::Printer;
 pub use crate::record::{print_named_record, print_record};
-pub use crate::records::{
-    put_module, put_range, put_region, put_system, put_thread, put_thread_name, put_unloaded,
-};
-pub use crate::text::Text;
-pub use crate::values::{InQuotes, Json, LongValue, Member, Members, Next, Object, Plain};
+pub use crate::stack::{Stack, StackStart};
+pub use crate::symbols::{ModulePlace, print_symbols};
+pub use crate::text::{Text, print_around, print_parts};
+pub use crate::verdict::print_verdict;
+pub use crate::version::{Build, Version};

@@ -5,20 +5,17 @@ ghost use Rattle.mdmp_source.specs.Output.{Puts, PutsPrefix, refused_if};
 ghost use Rattle.mdmp_print.specs.Parts.{IsLeft, IsPartAppended};
 
 use crate::parts::Parts;
-use crate::piece::Piece;
-use crate::text::Text;
+use crate::piece::{LINE_ROOM, Piece};
+use crate::printer::Printer;
 use mdmp_source::{Out, OutFailed, send};
 use std::marker::Model;
 
-/// How many bytes a line, or a part of one, has at most: there is room for so many before each.
-pub const LINE_ROOM: usize = 1024;
-
-/// An output of lines, over a buffer that holds them back until it is full, so that they reach the
-/// inner output by few writes.
+/// An output of lines over a buffer, which holds lines back until it is full: they reach the inner
+/// output by few writes.
 ///
-/// What it took is what the inner output took and what is pending. It refuses where the inner
-/// output refuses a block: nothing is lost then, and what is pending stays pending. `flush` before
-/// it goes out of scope, since what is pending then goes nowhere.
+/// What it took is what the inner output took and what is pending. It refuses if the inner output
+/// refuses: what is pending then stays pending. Call `flush` before it goes out of scope: what is
+/// still pending then goes nowhere.
 #[derive(Drop)]
 pub struct LineOut<'b, O: Out> {
     inner: O,
@@ -47,6 +44,20 @@ impl<'b, O: Out> LineOut<'b, O> {
             buffer,
             len: 0,
         }
+    }
+
+    /// The inner output, given back. What is pending goes nowhere: call `flush` before.
+    pub fn into_inner(self) -> O
+        ensures { O.state result ≡ self.entry.inner }
+    {
+        self.inner
+    }
+
+    /// The bytes that the inner output has yet to take.
+    pub fn pending(&self) -> &[u8]
+        ensures { result.now ≡ self.now.pending }
+    {
+        &self.buffer[..self.len]
     }
 
     /// Writes what is pending to the inner output. Where that refuses, what it did not take is
@@ -88,17 +99,6 @@ impl<'b, O: Out> LineOut<'b, O> {
         self.len = piece.put(self.buffer, self.len);
     }
 
-    /// Writes a piece. Where the inner output refuses, a first part of it went out.
-    #[inline(always)]
-    pub fn print<P: Piece>(&mut self, piece: &P) -> Result<(), OutFailed>
-        requires { P.most ≤ LINE_ROOM }
-        ensures { Puts result (output_state self.old) (P.text piece.now) (output_state self.new) }
-    {
-        self.reserve()?;
-        self.append(piece);
-        Ok(())
-    }
-
     /// Puts the part of a text from a place on behind what is pending, and answers where the next one begins.
     fn append_part<T: Parts>(&mut self, text: &T, place: usize) -> usize
         requires place { place < T.places text.now }
@@ -110,47 +110,23 @@ impl<'b, O: Out> LineOut<'b, O> {
         self.len = end.len;
         end.next
     }
+}
 
-    /// Writes the part of a text from a place on, and answers where the next one begins.
-    fn print_part<T: Parts>(&mut self, text: &T, place: usize) -> Result<usize, OutFailed>
-        requires { place < T.places text.now }
-        ensures next { IfOk result (λ next. place < next × next ≤ T.places text.now) }
-        ensures puts { MatchResult result
-            (λ next. IsLeft (output_state self.old) (T.text_from text.now place) (T.text_from text.now next) (output_state self.new))
-            (λ _. PutsPrefix (output_state self.old) (T.text_from text.now place) (output_state self.new)) }
-    {
+impl<'b, O: Out> Printer for LineOut<'b, O> {
+    ghost state = { output_state };
+
+    #[inline(always)]
+    fn print<P: Piece>(&mut self, piece: &P) -> Result<(), OutFailed> {
+        self.reserve()?;
+        self.append(piece);
+        Ok(())
+    }
+
+    fn print_part<T: Parts>(&mut self, text: &T, place: usize) -> Result<usize, OutFailed> {
         match self.reserve() {
             Ok(()) => Ok(self.append_part(text, place)),
             Err(failed) => Err(failed),
         }
-    }
-
-    /// Writes a text of any length. Where the inner output refuses, a first part of it went out.
-    pub fn print_parts<T: Parts>(&mut self, text: &T) -> Result<(), OutFailed>
-        ensures { Puts result (output_state self.old) (T.text_from text.now 0) (output_state self.new) }
-    {
-        let places = text.places();
-        let mut place = 0;
-        while place < places {
-            place = self.print_part(text, place)?;
-        }
-        Ok(())
-    }
-
-    /// Writes a text of any length between two pieces.
-    pub fn print_around<P: Piece, T: Text, Q: Piece>(
-        &mut self,
-        front: &P,
-        middle: &T,
-        end: &Q,
-    ) -> Result<(), OutFailed>
-        requires front { P.most ≤ LINE_ROOM }
-        requires end { Q.most ≤ LINE_ROOM }
-        ensures { Puts result (output_state self.old) (P.text front.now ++ (T.text middle.now ++ Q.text end.now)) (output_state self.new) }
-    {
-        self.print(front)?;
-        middle.print(self)?;
-        self.print(end)
     }
 }
 

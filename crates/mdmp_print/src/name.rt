@@ -1,18 +1,16 @@
 //! Names in lines of text.
 ghost use Rattle.std.specs.Prelude.{◌≤◌, ◌+◌, ◌++◌, drop, length, refl};
-ghost use Rattle.mdmp_source.specs.Blocks.{output_state};
-ghost use Rattle.mdmp_source.specs.Output.{Puts};
 ghost use Rattle.mdmp_wire.specs.Escape.{escaped};
 ghost use Rattle.mdmp_wire.specs.Units.{units_in};
 ghost use Rattle.mdmp_print.specs.ItemLines.{name_text, units_text};
 
-use crate::line_out::LineOut;
 use crate::parts::{PartEnd, Parts};
 use crate::piece::Piece;
+use crate::printer::Printer;
 use crate::row;
-use crate::text::Text;
+use crate::text::{Text, print_around, print_parts};
 use mdmp_lister::Name;
-use mdmp_source::{Out, OutFailed};
+use mdmp_source::OutFailed;
 use mdmp_wire::UnitsRef;
 
 /// How many units are a part, at most: each of them takes six bytes at most.
@@ -45,8 +43,8 @@ impl<'a> Parts for Escaped<'a> {
 impl<'a> Text for Escaped<'a> {
     ghost text = { λ t. escaped (units_in t.units) };
 
-    fn print<O: Out>(&self, out: &mut LineOut<'_, O>) -> Result<(), OutFailed> {
-        out.print_parts(self)
+    fn print<O: Printer>(&self, out: &mut O) -> Result<(), OutFailed> {
+        print_parts(out, self)
     }
 }
 
@@ -81,12 +79,12 @@ pub struct NameText<'n, 'a>(pub &'n Name<'a>);
 impl<'n, 'a> Text for NameText<'n, 'a> {
     ghost text = { λ t. name_text t.0.now };
 
-    fn print<O: Out>(&self, out: &mut LineOut<'_, O>) -> Result<(), OutFailed> {
+    fn print<O: Printer>(&self, out: &mut O) -> Result<(), OutFailed> {
         match self.0 {
             Name::None => out.print(&b"none"),
             Name::Units(units) if units.len() <= PART => out.print(&ShortName { units: *units }),
             Name::Units(units) => {
-                out.print_around(&row![b"\""], &Escaped { units: *units }, &row![b"\""])
+                print_around(out, &row![b"\""], &Escaped { units: *units }, &row![b"\""])
             }
             Name::Long(length) => out.print(&row![b"long ", *length]),
         }

@@ -2,9 +2,9 @@
 ghost use Rattle.std.specs.Prelude.{◌≡◌, ◌+◌, ◌≤◌, ◌<◌, List, ℕ, length, []};
 ghost use Rattle.mdmp_print.specs.Parts.{IsPartPut};
 
-use crate::line_out::LINE_ROOM;
+use crate::piece::LINE_ROOM;
 
-/// Up to where a part goes.
+/// Where a part ends.
 #[derive(Clone, Copy)]
 pub struct PartEnd {
     /// In the text: the place of the next part.
@@ -13,7 +13,7 @@ pub struct PartEnd {
     pub len: usize,
 }
 
-/// A text of any length, in parts that have room in a line. A part begins at a place, a number
+/// A text of any length, in parts of at most [`LINE_ROOM`] bytes. A part begins at a place, a number
 /// below that of the places.
 pub trait Parts {
     // The bytes from a place on.

@@ -1,13 +1,12 @@
 //! Pieces of a line, which are put into a buffer one behind the other.
 ghost use Rattle.std.specs.Prelude.{◌+◌, ◌≤◌, ◌++◌, List, ℕ, length, [], ◌≡◌, refl};
 ghost use Rattle.mdmp_print.specs.Joined.{joined-then};
-ghost use Rattle.std.specs.Fmt.{decimal};
-ghost use Rattle.mdmp_wire.specs.Digits.{hex};
 ghost use Rattle.mdmp_print.specs.Buffer.{IsPutBehind};
 
-use crate::digits::{decimal_at, decimal32_at, wide_decimal_at};
-use crate::hex::hex16_at;
 use crate::in_buffer::text_at;
+
+/// How many bytes a line, or a part of one, has at most.
+pub const LINE_ROOM: usize = 1024;
 
 /// A text of a bounded length, that is put behind others.
 pub trait Piece {
@@ -100,76 +99,6 @@ impl<'a, const N: usize> Piece for &'a [u8; N] {
     #[inline(always)]
     fn put(&self, buffer: &mut [u8], at: usize) -> usize {
         text_at(buffer, at, **self)
-    }
-}
-
-/// A number in decimal digits.
-impl Piece for u64 {
-    ghost text = { decimal };
-
-    ghost before = { λ p more. (decimal p) ++ more };
-
-    ghost most = { 20 };
-
-    ghost joined = { λ p more. refl };
-
-    #[inline(always)]
-    fn put(&self, buffer: &mut [u8], at: usize) -> usize {
-        decimal_at(buffer, at, *self)
-    }
-}
-
-/// A number in decimal digits.
-impl Piece for u32 {
-    ghost text = { decimal };
-
-    ghost before = { λ p more. (decimal p) ++ more };
-
-    ghost most = { 10 };
-
-    ghost joined = { λ p more. refl };
-
-    #[inline(always)]
-    fn put(&self, buffer: &mut [u8], at: usize) -> usize {
-        decimal32_at(buffer, at, *self)
-    }
-}
-
-/// A number in decimal digits.
-impl Piece for u128 {
-    ghost text = { decimal };
-
-    ghost before = { λ p more. (decimal p) ++ more };
-
-    ghost most = { 39 };
-
-    ghost joined = { λ p more. refl };
-
-    #[inline(always)]
-    fn put(&self, buffer: &mut [u8], at: usize) -> usize {
-        if *self < 0x1_0000_0000_0000_0000 {
-            return decimal_at(buffer, at, *self as u64);
-        }
-        wide_decimal_at(buffer, at, *self)
-    }
-}
-
-/// A number in sixteen hexadecimal digits.
-#[derive(Clone, Copy)]
-pub struct Hex16(pub u64);
-
-impl Piece for Hex16 {
-    ghost text = { λ p. hex 16 p.0 };
-
-    ghost before = { λ p more. (hex 16 p.0) ++ more };
-
-    ghost most = { 16 };
-
-    ghost joined = { λ p more. refl };
-
-    #[inline(always)]
-    fn put(&self, buffer: &mut [u8], at: usize) -> usize {
-        hex16_at(buffer, at, self.0)
     }
 }
 

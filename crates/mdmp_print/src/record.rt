@@ -1,35 +1,35 @@
 //! Records of streams, printed in either form.
 ghost use Rattle.std.specs.Prelude.{◌≡◌, ◌+◌, ◌≤◌, ◌++◌, ◌&&◌, [], true, codes};
-ghost use Rattle.mdmp_source.specs.Blocks.{output_state};
 ghost use Rattle.mdmp_source.specs.Output.{Puts};
 ghost use Rattle.mdmp_print.specs.Forms.{in_form, name_member};
 ghost use Rattle.mdmp_print.specs.ItemLines.{name_text};
 ghost use Rattle.mdmp_print.specs.Json.{object_line};
-ghost use Rattle.mdmp_print.specs.JsonLaws.{are_plain, line_tokens};
+ghost use Rattle.mdmp_print.specs.Shown.{are_plain, line_tokens};
 
 use crate::fields::Fields;
 use crate::form::LineForm;
-use crate::json_strings::NameValue;
-use crate::line_out::LineOut;
+use crate::json_text::NameValue;
 use crate::name::NameText;
-use crate::object_line::{print_object, print_object_with};
+use crate::object_line::{print_object, print_object_around};
+use crate::printer::Printer;
 use crate::row;
+use crate::text::print_around;
 use mdmp_lister::Name;
-use mdmp_source::{Out, OutFailed};
+use mdmp_source::OutFailed;
 
-/// Prints a record of a stream: its kind, where it stands, and its fields.
+/// Prints a record: its kind and its fields.
 #[inline(always)]
-pub fn print_record<O: Out, F: Fields + Drop, const N: usize>(
+pub fn print_record<O: Printer, F: Fields + Drop, const N: usize>(
     form: LineForm,
-    out: &mut LineOut<'_, O>,
+    out: &mut O,
     kind: &[u8; N],
     fields: F,
 ) -> Result<(), OutFailed>
     requires fits { (N + F.most ≤ 900) × (N + F.Members.most ≤ 900) }
     requires plain { (are_plain kind.now && F.Members.is_plain (F.members_of fields)) ≡ true }
-    ensures { Puts result (output_state out.old)
+    ensures { Puts result (O.state out.old)
         (in_form form (kind.now ++ F.text fields) (object_line (line_tokens kind.now (F.Members.onto (F.members_of fields) []))))
-        (output_state out.new) }
+        (O.state out.new) }
 {
     match form {
         LineForm::Text => out.print(&(kind, fields)),
@@ -37,11 +37,11 @@ pub fn print_record<O: Out, F: Fields + Drop, const N: usize>(
     }
 }
 
-/// Prints a record of a stream that has a name: its kind, where it stands, its fields, and the name.
+/// Prints a record that has a name: its kind, its fields and its name.
 #[inline(always)]
-pub fn print_named_record<O: Out, F: Fields + Drop, const N: usize, const K: usize>(
+pub fn print_named_record<O: Printer, F: Fields + Drop, const N: usize, const K: usize>(
     form: LineForm,
-    out: &mut LineOut<'_, O>,
+    out: &mut O,
     kind: &[u8; N],
     fields: F,
     key: &[u8; K],
@@ -49,18 +49,21 @@ pub fn print_named_record<O: Out, F: Fields + Drop, const N: usize, const K: usi
 ) -> Result<(), OutFailed>
     requires fits { (N + (K + F.most) ≤ 900) × (N + (K + F.Members.most) ≤ 900) }
     requires plain { (are_plain kind.now && (F.Members.is_plain (F.members_of fields) && are_plain key.now)) ≡ true }
-    ensures { Puts result (output_state out.old)
+    ensures { Puts result (O.state out.old)
         (in_form form (kind.now ++ F.before fields (codes " " ++ (key.now ++ (codes " " ++ (name_text name.now ++ codes "\n")))))
         (object_line (line_tokens kind.now (F.Members.onto (F.members_of fields) (name_member key.now name.now ++ [])))))
-        (output_state out.new) }
+        (O.state out.new) }
 {
     match form {
-        LineForm::Text => out.print_around(
+        LineForm::Text => print_around(
+            out,
             &(kind, (fields, (b" ", (key, b" ")))),
             &NameText(name),
             &row![b"\n"],
         ),
-        LineForm::Json => print_object_with(out, kind, fields.members(), key, &NameValue(name)),
+        LineForm::Json => {
+            print_object_around(out, kind, fields.members(), key, &NameValue(name), row![])
+        }
     }
 }
 

@@ -1,31 +1,57 @@
 //! The lines of records, in either form.
-ghost use Rattle.mdmp_source.specs.Blocks.{output_state};
 ghost use Rattle.mdmp_source.specs.Output.{Puts};
 ghost use Rattle.mdmp_print.specs.Forms.{in_form};
-ghost use Rattle.mdmp_print.specs.ItemLines.{module_line, range_line, region_line, system_line, thread_line, thread_name_line, unloaded_line};
+ghost use Rattle.mdmp_print.specs.ItemLines.{entry_line, exception_line, module_line, range_line, region_line, system_line, thread_line, thread_name_line, unloaded_line};
 ghost use Rattle.mdmp_print.specs.Json.{object, object_line};
-ghost use Rattle.mdmp_print.specs.JsonLines.{module_members, range_members, region_members, system_members, thread_members, thread_name_members, unloaded_members};
+ghost use Rattle.mdmp_print.specs.JsonLines.{exception_members, module_members, range_members, region_members, stream_members, system_members, thread_members, thread_name_members, unloaded_members};
 
+use crate::entry::{At, Entry, EntryOnly};
+use crate::exception::Information;
 use crate::extent::{PartText, RangeText};
-use crate::field_values::{Address, At, Build, EntryOnly, Stack, Version};
 use crate::fields::Field;
 use crate::form::LineForm;
-use crate::line_out::LineOut;
+use crate::hex::{Hex8, Hex16, Prefixed};
+use crate::printer::Printer;
 use crate::record::{print_named_record, print_record};
+use crate::stack::Stack;
+use crate::version::{Build, Version};
 use crate::{fields, fields_and_name};
 use mdmp_lister::{
-    MemoryInfoItem, ModuleItem, RangeItem, SystemItem, ThreadItem, ThreadNameItem, UnloadedItem,
+    ExceptionItem, MemoryInfoItem, ModuleItem, RangeItem, StreamItem, SystemItem, ThreadItem,
+    ThreadNameItem, UnloadedItem,
 };
-use mdmp_source::{Out, OutFailed};
+use mdmp_source::OutFailed;
+
+/// Prints an entry of the directory.
+pub(crate) fn print_stream<O: Printer>(
+    form: LineForm,
+    item: &StreamItem,
+    out: &mut O,
+) -> Result<(), OutFailed>
+    ensures { Puts result (O.state out.old)
+        (in_form form (entry_line item.now) (object_line (object (stream_members item.now)))) (O.state out.new) }
+{
+    print_record(
+        form,
+        out,
+        b"stream",
+        fields![
+            Entry(item.entry),
+            Field(b"type", item.stream_type),
+            Field(b"size", item.location.size),
+            Field(b"rva", item.location.rva),
+        ],
+    )
+}
 
 /// Prints a region.
-pub fn put_region<O: Out>(
+pub(crate) fn print_region<O: Printer>(
     form: LineForm,
     item: &MemoryInfoItem,
-    out: &mut LineOut<'_, O>,
+    out: &mut O,
 ) -> Result<(), OutFailed>
-    ensures { Puts result (output_state out.old)
-        (in_form form (region_line item.now) (object_line (object (region_members item.now)))) (output_state out.new) }
+    ensures { Puts result (O.state out.old)
+        (in_form form (region_line item.now) (object_line (object (region_members item.now)))) (O.state out.new) }
 {
     print_record(
         form,
@@ -33,8 +59,8 @@ pub fn put_region<O: Out>(
         b"region",
         fields![
             At(item.entry, item.index),
-            Field(b"base", Address(item.fields.base_address)),
-            Field(b"allocation", Address(item.fields.allocation_base)),
+            Field(b"base", Prefixed(Hex16(item.fields.base_address))),
+            Field(b"allocation", Prefixed(Hex16(item.fields.allocation_base))),
             Field(b"initial", item.fields.allocation_protect),
             Field(b"size", item.fields.region_size),
             Field(b"state", item.fields.state),
@@ -45,13 +71,13 @@ pub fn put_region<O: Out>(
 }
 
 /// Prints a module.
-pub fn put_module<O: Out>(
+pub(crate) fn print_module<O: Printer>(
     form: LineForm,
     item: &ModuleItem<'_>,
-    out: &mut LineOut<'_, O>,
+    out: &mut O,
 ) -> Result<(), OutFailed>
-    ensures { Puts result (output_state out.old)
-        (in_form form (module_line item.now) (object_line (object (module_members item.now)))) (output_state out.new) }
+    ensures { Puts result (O.state out.old)
+        (in_form form (module_line item.now) (object_line (object (module_members item.now)))) (O.state out.new) }
 {
     let version = &item.fields.version_info;
     print_named_record(
@@ -60,7 +86,7 @@ pub fn put_module<O: Out>(
         b"module",
         fields_and_name![
             At(item.entry, item.index),
-            Field(b"base", Address(item.fields.base_of_image)),
+            Field(b"base", Prefixed(Hex16(item.fields.base_of_image))),
             Field(b"size", item.fields.size_of_image),
             Field(b"checksum", item.fields.checksum),
             Field(b"time", item.fields.time_date_stamp),
@@ -77,13 +103,13 @@ pub fn put_module<O: Out>(
 }
 
 /// Prints a thread.
-pub fn put_thread<O: Out>(
+pub(crate) fn print_thread<O: Printer>(
     form: LineForm,
     item: &ThreadItem,
-    out: &mut LineOut<'_, O>,
+    out: &mut O,
 ) -> Result<(), OutFailed>
-    ensures { Puts result (output_state out.old)
-        (in_form form (thread_line item.now) (object_line (object (thread_members item.now)))) (output_state out.new) }
+    ensures { Puts result (O.state out.old)
+        (in_form form (thread_line item.now) (object_line (object (thread_members item.now)))) (O.state out.new) }
 {
     let stack = &item.fields.stack;
     print_record(
@@ -96,11 +122,11 @@ pub fn put_thread<O: Out>(
             Field(b"suspend", item.fields.suspend_count),
             Field(b"class", item.fields.priority_class),
             Field(b"priority", item.fields.priority),
-            Field(b"teb", Address(item.fields.teb)),
+            Field(b"teb", Prefixed(Hex16(item.fields.teb))),
             Field(
                 b"stack",
                 Stack(
-                    Address(stack.start_of_memory_range),
+                    stack.start_of_memory_range,
                     PartText(item.stack, stack.memory)
                 )
             ),
@@ -113,13 +139,13 @@ pub fn put_thread<O: Out>(
 }
 
 /// Prints a range.
-pub fn put_range<O: Out>(
+pub(crate) fn print_range<O: Printer>(
     form: LineForm,
     item: &RangeItem,
-    out: &mut LineOut<'_, O>,
+    out: &mut O,
 ) -> Result<(), OutFailed>
-    ensures { Puts result (output_state out.old)
-        (in_form form (range_line item.now) (object_line (object (range_members item.now)))) (output_state out.new) }
+    ensures { Puts result (O.state out.old)
+        (in_form form (range_line item.now) (object_line (object (range_members item.now)))) (O.state out.new) }
 {
     print_record(
         form,
@@ -127,7 +153,7 @@ pub fn put_range<O: Out>(
         b"range",
         fields![
             At(item.entry, item.index),
-            Field(b"start", Address(item.start)),
+            Field(b"start", Prefixed(Hex16(item.start))),
             RangeText {
                 extent: item.extent,
                 size: item.size,
@@ -138,13 +164,13 @@ pub fn put_range<O: Out>(
 }
 
 /// Prints a module that was unloaded.
-pub fn put_unloaded<O: Out>(
+pub(crate) fn print_unloaded<O: Printer>(
     form: LineForm,
     item: &UnloadedItem<'_>,
-    out: &mut LineOut<'_, O>,
+    out: &mut O,
 ) -> Result<(), OutFailed>
-    ensures { Puts result (output_state out.old)
-        (in_form form (unloaded_line item.now) (object_line (object (unloaded_members item.now)))) (output_state out.new) }
+    ensures { Puts result (O.state out.old)
+        (in_form form (unloaded_line item.now) (object_line (object (unloaded_members item.now)))) (O.state out.new) }
 {
     print_named_record(
         form,
@@ -152,7 +178,7 @@ pub fn put_unloaded<O: Out>(
         b"unloaded",
         fields_and_name![
             At(item.entry, item.index),
-            Field(b"base", Address(item.fields.base_of_image)),
+            Field(b"base", Prefixed(Hex16(item.fields.base_of_image))),
             Field(b"size", item.fields.size_of_image),
             Field(b"checksum", item.fields.checksum),
             Field(b"time", item.fields.time_date_stamp),
@@ -163,13 +189,13 @@ pub fn put_unloaded<O: Out>(
 }
 
 /// Prints the name of a thread.
-pub fn put_thread_name<O: Out>(
+pub(crate) fn print_thread_name<O: Printer>(
     form: LineForm,
     item: &ThreadNameItem<'_>,
-    out: &mut LineOut<'_, O>,
+    out: &mut O,
 ) -> Result<(), OutFailed>
-    ensures { Puts result (output_state out.old)
-        (in_form form (thread_name_line item.now) (object_line (object (thread_name_members item.now)))) (output_state out.new) }
+    ensures { Puts result (O.state out.old)
+        (in_form form (thread_name_line item.now) (object_line (object (thread_name_members item.now)))) (O.state out.new) }
 {
     print_named_record(
         form,
@@ -184,14 +210,47 @@ pub fn put_thread_name<O: Out>(
     )
 }
 
+/// Prints an exception.
+pub(crate) fn print_exception<O: Printer>(
+    form: LineForm,
+    item: &ExceptionItem,
+    out: &mut O,
+) -> Result<(), OutFailed>
+    ensures { Puts result (O.state out.old)
+        (in_form form (exception_line item.now) (object_line (object (exception_members item.now)))) (O.state out.new) }
+{
+    print_record(
+        form,
+        out,
+        b"exception",
+        fields![
+            EntryOnly(item.entry),
+            Field(b"thread", item.fields.thread_id),
+            Field(b"code", Prefixed(Hex8(item.fields.exception_code))),
+            Field(b"flags", item.fields.exception_flags),
+            Field(b"record", Prefixed(Hex16(item.fields.exception_record))),
+            Field(b"address", Prefixed(Hex16(item.fields.exception_address))),
+            Field(b"parameters", item.fields.number_parameters),
+            Information {
+                count: item.fields.number_parameters,
+                values: &item.fields.exception_information,
+            },
+            Field(
+                b"context",
+                PartText(item.context, item.fields.thread_context)
+            ),
+        ],
+    )
+}
+
 /// Prints the system.
-pub fn put_system<O: Out>(
+pub(crate) fn print_system<O: Printer>(
     form: LineForm,
     item: &SystemItem<'_>,
-    out: &mut LineOut<'_, O>,
+    out: &mut O,
 ) -> Result<(), OutFailed>
-    ensures { Puts result (output_state out.old)
-        (in_form form (system_line item.now) (object_line (object (system_members item.now)))) (output_state out.new) }
+    ensures { Puts result (O.state out.old)
+        (in_form form (system_line item.now) (object_line (object (system_members item.now)))) (O.state out.new) }
 {
     print_named_record(
         form,

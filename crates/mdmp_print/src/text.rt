@@ -1,18 +1,48 @@
 //! Texts of any length.
-ghost use Rattle.mdmp_source.specs.Blocks.{output_state};
+ghost use Rattle.std.specs.Prelude.{◌≤◌, ◌++◌};
 ghost use Rattle.mdmp_source.specs.Output.{Puts};
 
-use crate::line_out::LineOut;
-use mdmp_source::{Out, OutFailed};
+use crate::parts::Parts;
+use crate::piece::{LINE_ROOM, Piece};
+use crate::printer::Printer;
+use mdmp_source::OutFailed;
 
-/// A text of any length, that goes out by as many pieces as it takes.
+/// A text of any length, which is printed by as many pieces as it takes.
 pub trait Text {
     ghost use Rattle.std.specs.Prelude.{List, ℕ};
 
     // Its bytes.
     ghost text: { Self → List ℕ };
 
-    /// Writes it. Where the output refuses, a first part of it went out.
-    fn print<O: Out>(&self, out: &mut LineOut<'_, O>) -> Result<(), OutFailed>
-        ensures { Puts result (output_state out.old) (text self.now) (output_state out.new) };
+    /// Prints the text. If the output refuses, a first part of the text went out.
+    fn print<O: Printer>(&self, out: &mut O) -> Result<(), OutFailed>
+        ensures { Puts result (O.state out.old) (text self.now) (O.state out.new) };
+}
+
+/// Prints a text part by part. If the output refuses, a first part of the text went out.
+pub fn print_parts<O: Printer, T: Parts>(out: &mut O, text: &T) -> Result<(), OutFailed>
+    ensures { Puts result (O.state out.old) (T.text_from text.now 0) (O.state out.new) }
+{
+    let places = text.places();
+    let mut place = 0;
+    while place < places {
+        place = out.print_part(text, place)?;
+    }
+    Ok(())
+}
+
+/// Prints a text of any length between two pieces.
+pub fn print_around<O: Printer, P: Piece, T: Text, Q: Piece>(
+    out: &mut O,
+    front: &P,
+    middle: &T,
+    end: &Q,
+) -> Result<(), OutFailed>
+    requires front { P.most ≤ LINE_ROOM }
+    requires end { Q.most ≤ LINE_ROOM }
+    ensures { Puts result (O.state out.old) (P.before front.now (T.text middle.now ++ Q.text end.now)) (O.state out.new) }
+{
+    out.print(front)?;
+    middle.print(out)?;
+    out.print(end)
 }

@@ -1,4 +1,4 @@
-use Rattle.mdmp_print.specs.JsonLaws.{object_line-members}
+use Rattle.mdmp_print.specs.Shown.{object_line-members}
 use Rattle.mdmp_print.proofs.Printing.{Puts-as}
 use Rattle.mdmp_print.proofs.object_line.print_object.Goals as goal
 

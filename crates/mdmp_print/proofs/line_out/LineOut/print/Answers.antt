@@ -1,8 +1,0 @@
-use Rattle.std.proofs.Common.{[]}
-use Rattle.std.proofs.lemmas.Result.{MatchResult-from_err}
-use Rattle.mdmp_source.specs.OutputLaws.{PutsPrefix-front}
-use Rattle.mdmp_print.proofs.line_out.LineOut.print.Goals as goal
-
-pub returns-in_err-reserve : goal.returns-in_err-reserve
-returns-in_err-reserve g c =
-    MatchResult-from_err _ _ _ c.from_residual.ensures.0 (λ _. PutsPrefix-front _ _ [] (g.P.Piece.text c.args.piece.now) c.in_err-reserve.ensures.nothing)

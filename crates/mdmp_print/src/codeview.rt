@@ -1,0 +1,121 @@
+//! What a CodeView record says, as pieces of lines.
+ghost use Rattle.std.specs.Prelude.{◌++◌, codes, length, refl, true};
+ghost use Rattle.mdmp_print.specs.PdbLines.{cut_text, debug_id, digits_text, guid_text};
+ghost use Rattle.mdmp_print.specs.Escapes.{escape-debug_id, escape-digits, escape-guid};
+
+use crate::element::{Element, each_at};
+use crate::hex::{Hex2, upper_hex_at};
+use crate::in_buffer::slice_at;
+use crate::json::Plain;
+use crate::piece::Piece;
+use uuid::Uuid;
+
+/// The identity of a symbol file, with hyphens.
+#[derive(Clone, Copy)]
+pub struct Guid(pub Uuid);
+
+impl Piece for Guid {
+    ghost text = { λ p. guid_text p.0 };
+
+    ghost before = { λ p more. guid_text p.0 ++ more };
+
+    ghost most = { 36 };
+
+    ghost joined = { λ p more. refl };
+
+    #[inline(never)]
+    fn put(&self, buffer: &mut [u8], at: usize) -> usize {
+        let mut text = Uuid::encode_buffer();
+        slice_at(buffer, at, self.0.hyphenated().encode_lower(&mut text).as_bytes())
+    }
+}
+
+impl Plain for Guid {
+    ghost is_plain = { λ p. true };
+
+    ghost same = { λ p plain. escape-guid p.0 };
+}
+
+/// What a symbol store is asked for: an identity and an age.
+#[derive(Clone, Copy)]
+pub struct DebugId(pub Uuid, pub u32);
+
+impl Piece for DebugId {
+    ghost text = { λ p. debug_id p.0 p.1 };
+
+    ghost before = { λ p more. debug_id p.0 p.1 ++ more };
+
+    ghost most = { 40 };
+
+    ghost joined = { λ p more. refl };
+
+    #[inline(never)]
+    fn put(&self, buffer: &mut [u8], at: usize) -> usize {
+        let mut text = Uuid::encode_buffer();
+        let at = slice_at(buffer, at, self.0.simple().encode_upper(&mut text).as_bytes());
+        upper_hex_at(buffer, at, self.1)
+    }
+}
+
+impl Plain for DebugId {
+    ghost is_plain = { λ p. true };
+
+    ghost same = { λ p plain. escape-debug_id p.0 p.1 };
+}
+
+/// The four bytes that a record begins with.
+#[derive(Clone, Copy)]
+pub struct Signature(pub [u8; 4]);
+
+impl Piece for Signature {
+    ghost text = { λ p. digits_text p.0 };
+
+    ghost before = { λ p more. digits_text p.0 ++ more };
+
+    ghost most = { 8 };
+
+    ghost joined = { λ p more. refl };
+
+    #[inline(never)]
+    fn put(&self, buffer: &mut [u8], at: usize) -> usize {
+        each_at::<u8, Hex2>(buffer, at, &self.0)
+    }
+}
+
+impl Plain for Signature {
+    ghost is_plain = { λ p. true };
+
+    ghost same = { λ p plain. escape-digits p.0 };
+}
+
+impl Element<u8> for Hex2 {
+    ghost of = { λ x. record { 0 = x } };
+
+    fn of(element: u8) -> Self {
+        Hex2(element)
+    }
+}
+
+/// That a name was cut, if no zero byte ended it.
+#[derive(Clone, Copy)]
+pub struct Cut {
+    /// Whether a zero byte ended the name.
+    pub ended: bool,
+}
+
+impl Piece for Cut {
+    ghost text = { λ p. cut_text p.ended };
+
+    ghost before = { λ p more. cut_text p.ended ++ more };
+
+    ghost most = { 4 };
+
+    ghost joined = { λ p more. refl };
+
+    fn put(&self, buffer: &mut [u8], at: usize) -> usize {
+        if self.ended {
+            return at;
+        }
+        b" cut".put(buffer, at)
+    }
+}

@@ -1,0 +1,115 @@
+//! The line of the CodeView record of a module.
+ghost use Rattle.mdmp_source.specs.Output.{Puts};
+ghost use Rattle.mdmp_wire.specs.CodeView.{codeview_value};
+ghost use Rattle.mdmp_print.specs.Forms.{pdb_line_in};
+ghost use Rattle.mdmp_print.specs.Json.{object_line};
+ghost use Rattle.mdmp_print.specs.JsonLines.{pdb_object};
+ghost use Rattle.mdmp_print.specs.PdbLines.{pdb_line};
+
+use crate::bytes::EscapedBytes;
+use crate::codeview::{Cut, DebugId, Guid, Signature};
+use crate::entry::AtMembers;
+use crate::form::LineForm;
+use crate::json::{InQuotes, Member, Next, Word};
+use crate::json_text::BytesValue;
+use crate::object_line::{print_object, print_object_around};
+use crate::printer::Printer;
+use crate::row;
+use crate::text::print_around;
+use mdmp_source::OutFailed;
+use mdmp_wire::CodeView;
+
+/// The place of a module: the number of its entry, and its own in the stream.
+#[derive(Clone, Copy)]
+pub struct ModulePlace {
+    /// The number of the entry.
+    pub entry: u32,
+    /// The number of the module in its stream.
+    pub index: u64,
+}
+
+/// Prints the line of the CodeView record of a module.
+pub fn print_symbols<O: Printer>(
+    form: LineForm,
+    place: ModulePlace,
+    codeview: &CodeView<'_>,
+    out: &mut O,
+) -> Result<(), OutFailed>
+    ensures { Puts result (O.state out.old) (pdb_line_in form place.entry place.index (codeview_value codeview.now)) (O.state out.new) }
+{
+    match form {
+        LineForm::Text => print_text(codeview, out),
+        LineForm::Json => print_json(place, codeview, out),
+    }
+}
+
+fn print_text<O: Printer>(codeview: &CodeView<'_>, out: &mut O) -> Result<(), OutFailed>
+    ensures { Puts result (O.state out.old) (pdb_line (codeview_value codeview.now)) (O.state out.new) }
+{
+    match codeview {
+        CodeView::Rsds {
+            guid,
+            age,
+            name,
+            ended,
+        } => print_around(
+            out,
+            &row![b"pdb ", Guid(*guid), b" age ", *age, b" name \""],
+            &EscapedBytes(name),
+            &row![b"\"", Cut { ended: *ended }, b"\n"],
+        ),
+        CodeView::Other { signature, size } => {
+            out.print(&row![b"pdb other ", Signature(*signature), b" size ", *size, b"\n"])
+        }
+        CodeView::Short { size } => out.print(&row![b"pdb short ", *size, b"\n"]),
+    }
+}
+
+fn print_json<O: Printer>(
+    place: ModulePlace,
+    codeview: &CodeView<'_>,
+    out: &mut O,
+) -> Result<(), OutFailed>
+    ensures { Puts result (O.state out.old) (object_line (pdb_object place.entry place.index (codeview_value codeview.now))) (O.state out.new) }
+{
+    match codeview {
+        CodeView::Rsds {
+            guid,
+            age,
+            name,
+            ended,
+        } => print_object_around(
+            out,
+            b"pdb",
+            row![
+                AtMembers(place.entry, place.index),
+                Next(Member(b"kind", Word(b"rsds"))),
+                Next(Member(b"guid", InQuotes(Guid(*guid)))),
+                Next(Member(b"age", *age)),
+                Next(Member(b"debug_id", InQuotes(DebugId(*guid, *age)))),
+            ],
+            b"name",
+            &BytesValue(name),
+            row![Next(Member(b"cut", !*ended))],
+        ),
+        CodeView::Other { signature, size } => print_object(
+            out,
+            b"pdb",
+            row![
+                AtMembers(place.entry, place.index),
+                Next(Member(b"kind", Word(b"other"))),
+                Next(Member(b"signature", InQuotes(Signature(*signature)))),
+                Next(Member(b"size", *size)),
+            ],
+        ),
+        CodeView::Short { size } => print_object(
+            out,
+            b"pdb",
+            row![
+                AtMembers(place.entry, place.index),
+                Next(Member(b"kind", Word(b"short"))),
+                Next(Member(b"size", *size)),
+            ],
+        ),
+    }
+}
