@@ -13,6 +13,7 @@ from .objects import SPECS, Line, Object, fault_object, lines, part_forms, Scope
 from .sources import all_structures
 
 TABLE = ROOT / "docs/reference/lines.toml"
+TOOL_SPECS = CRATES / "mdmp_tool/specs"
 
 
 @dataclass(frozen=True)
@@ -45,7 +46,8 @@ class Form:
     """The form of a line, by the definition of its text."""
 
     def __init__(self, specs: str, entry: str = "<entry>") -> None:
-        self.specs = definitions(SPECS / f"{specs}.antt")
+        paths = [SPECS / f"{specs}.antt", TOOL_SPECS / f"{specs}.antt"]
+        self.specs = {name: one for path in paths if path.exists() for name, one in definitions(path).items()}
         self.entry = entry
 
     def of(self, name: str, clause: int = 0) -> str:
@@ -123,6 +125,7 @@ class Message:
 def messages() -> list[Message]:
     """The error lines, in the order of the page, with their exit statuses."""
     form = Form("Faults", "<e>")
+    form.specs |= Form("FaultWords").specs
     status = {clause.patterns.strip("()").split(" ")[0]: int(clause.body) for clause in form.specs["own_status"].clauses}
     made: list[Message] = []
 
@@ -152,9 +155,9 @@ def messages() -> list[Message]:
 def messages_of_code() -> list[Message]:
     """Those that no definition of a fault has: of names and of words."""
     code = (CRATES / "mdmp_tool/src/words.rt").read_text(encoding="utf-8")
-    name = int(found(r"Piece::Text\(why\), Piece::Text\(name\)\]\);\n\s+(\d)\n", code, "line of a name in words.rt")[1])
-    bad, status = found(r'Piece::Text\("([\w ]+)"\)\]\);\n\s+(\d)\n', code, "line of bad words in words.rt").groups()
-    names = re.findall(r'refuse_name\("([\w ]+)", \w+, err\)', code)
+    name = int(found(r"print_error_named\(.+\);\n\s+(\d)\n", code, "line of a name in words.rt")[1])
+    bad, status = found(r'print_error\(err, b"([\w ]+)"\);\n\s+(\d)\n', code, "line of bad words in words.rt").groups()
+    names = re.findall(r'refuse_name\(b"([\w ]+)", \w+, err\)', code)
     return [*[Message(f"{why}<name>", name) for why in dict.fromkeys(names)], Message(bad, int(status))]
 
 
@@ -297,7 +300,7 @@ INTRO = """
 # Printed lines
 
 This page has every line that the commands print, as text and as JSON.
-`docs/generate` makes it from the definitions in [crates/mdmp_tool/specs](../../crates/mdmp_tool/specs) and from [lines.toml](lines.toml).
+`docs/generate` makes it from the definitions in [crates/mdmp_print/specs](../../crates/mdmp_print/specs) and from [lines.toml](lines.toml).
 [format.md](../format.md) has the rules, and [cli.md](../cli.md) has the commands.
 
 ## Text

@@ -1,4 +1,4 @@
-"""The objects of JSON that `list` and `check` print, by the definitions of crates/mdmp_tool/specs/JsonLines.antt."""
+"""The objects of JSON that `list` and `check` print, by the definitions of crates/mdmp_print/specs/JsonLines.antt."""
 
 from __future__ import annotations
 
@@ -9,7 +9,7 @@ from typing import Any
 from .definitions import CRATES, Clause, Expression, Mistake, definitions, items, text_of
 from .sources import Structure, all_structures
 
-SPECS = CRATES / "mdmp_tool/specs"
+SPECS = CRATES / "mdmp_print/specs"
 
 # A stream has fewer than 2^32 bytes and each of its records has some, so the index of a record has 32 bits.
 INDEX_BITS = 32
@@ -235,7 +235,7 @@ def of_text(scope: Scope, name: str, expression: Expression) -> Key:
     if head == "digits_text":
         return Key(name, "8 hexadecimal digits", SIGNATURE)
     if head == "kind_words":
-        words = [clause.expression for clause in definitions(SPECS / "Faults.antt")["kind_words"].clauses]
+        words = [clause.expression for clause in definitions(SPECS / "FaultWords.antt")["kind_words"].clauses]
         return Key(name, "words", {"enum": [text_of(one) for one in words if one != "[]"]})
     raise Mistake(f"no text of {name}: {expression!r}")
 

@@ -17,7 +17,7 @@ use Rattle.mdmp_c.proofs.Told.{Ends-given, IsTextLimit}
 use Rattle.mdmp_lister.specs.declared.choice.Choice.TheVariants.{All}
 use Rattle.mdmp_lister.specs.declared.fault.OpenFault.{OpenFault}
 use Rattle.mdmp_lister.specs.Format.Refusal.{opening_fault}
-use Rattle.mdmp_tool.specs.Forms.{dump_line_in}
+use Rattle.mdmp_print.specs.Forms.{dump_line_in}
 use Rattle.mdmp_wire.specs.Header.{header_at}
 use Rattle.mdmp_lister.specs.declared.fault.ListFault.{ListFault}
 use Rattle.mdmp_lister.specs.declared.item.Item.{Item}
@@ -30,7 +30,7 @@ use Rattle.mdmp_tool.specs.declared.fault.ToolFault.{ToolFault}
 use Rattle.mdmp_tool.specs.declared.fault.ToolFault.TheVariants.{List as BadList, Budget, Memory, Source, Out, AsideLimit}
 use Rattle.mdmp_tool.specs.Runs.{ListsNext}
 use Rattle.mdmp_tool.specs.Text.{item_lines, list_text, next_lines, run_text}
-use Rattle.mdmp_words.specs.declared.request.LineForm.{LineForm}
+use Rattle.mdmp_print.specs.declared.form.LineForm.{LineForm}
 
 module _ (form : LineForm) (pdb : Bool) (F : List ℕ) (limit : ℕ) where
   -- the text of a run is that of its next item, and of the rest

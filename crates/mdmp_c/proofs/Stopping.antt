@@ -27,7 +27,7 @@ use Rattle.mdmp_lister.specs.Memory.{IsRefusalWithin, TellsMemory, earlier_fault
 use Rattle.mdmp_lister.specs.Format.Refusal.{behind_directory, directory_refusal, opening_fault, range_fault}
 use Rattle.mdmp_source.specs.Output.{OutState}
 use Rattle.mdmp_tool.specs.CheckRuns.{Checks}
-use Rattle.mdmp_words.specs.declared.request.LineForm.{LineForm}
+use Rattle.mdmp_print.specs.declared.form.LineForm.{LineForm}
 use Rattle.std.proofs.lemmas.Option.{none-some}
 use Rattle.mdmp_lister.specs.Meter.{IsRefusedFetch, IsUnmade, KeepsTo, is_passed}
 use Rattle.mdmp_lister.specs.Opening.{KeepsToBudget}

@@ -10,7 +10,7 @@ use Rattle.mdmp_tool.specs.declared.fault.ToolFault.TheVariants as tool
 use Rattle.mdmp_tool.specs.Causes.{IsNoSourceFault}
 use Rattle.mdmp_tool.specs.CheckRuns.{Checks}
 use Rattle.mdmp_tool.specs.CheckText.{bad_count, check_text}
-use Rattle.mdmp_words.specs.declared.request.LineForm.{LineForm}
+use Rattle.mdmp_print.specs.declared.form.LineForm.{LineForm}
 use Rattle.mdmp_c.specs.declared.fault.PlainFault.{PlainFault}
 use Rattle.mdmp_c.specs.Fault.{no_memory, told_unless}
 use Rattle.mdmp_c.specs.Giving.{Ends, GivesOrWants, IsStopped, answers, given, stops, wanted, wants}

@@ -17,7 +17,7 @@ use Rattle.mdmp_tool.specs.declared.fault.ToolFault.TheVariants as tool
 use Rattle.mdmp_writer.specs.declared.fault.LayoutFault.TheVariants as layout
 use Rattle.mdmp_tool.specs.CheckText.{bad_text}
 use Rattle.mdmp_tool.specs.Faults.{fault_text}
-use Rattle.mdmp_tool.specs.Lines.{error_line}
+use Rattle.mdmp_print.specs.Lines.{error_line}
 use Rattle.mdmp_c.specs.declared.fault.PlainFault.{PlainFault}
 use Rattle.mdmp_c.specs.Fault.{plain_list_fault, no_fault, open_fault}
 use Rattle.mdmp_c.specs.FaultText.{FitsTool, FitsKind, FitsOpening, FitsReading, TellsWords, fault_in, fixed_words, told, words_of}

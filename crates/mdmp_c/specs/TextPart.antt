@@ -14,7 +14,7 @@ use Rattle.mdmp_tool.specs.declared.fault.ToolFault.{ToolFault}
 use Rattle.mdmp_tool.specs.declared.fault.ToolFault.TheVariants.{List as BadList, Budget, AsideLimit, Memory, Out}
 use Rattle.mdmp_tool.specs.Symbols.{IsRecordAmong}
 use Rattle.mdmp_tool.specs.Text.{list_text}
-use Rattle.mdmp_words.specs.declared.request.LineForm.{LineForm}
+use Rattle.mdmp_print.specs.declared.form.LineForm.{LineForm}
 
 -- what is told of F by a list in this form, and what stands behind the first `skip` bytes of its text
 pub record IsListPart (form : LineForm) (pdb : Bool) (skip : ℕ) (F : List ℕ) (limit : ℕ) (told : PlainFault) (part : List ℕ) : Type 0 where

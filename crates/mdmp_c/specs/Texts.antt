@@ -8,7 +8,7 @@ use Rattle.mdmp_lister.specs.Format.Listing.{listing, verdicts}
 use Rattle.mdmp_lister.specs.Format.Refusal.{opening_fault}
 use Rattle.mdmp_tool.specs.CheckText.{bad_count, check_text}
 use Rattle.mdmp_tool.specs.Text.{list_text}
-use Rattle.mdmp_words.specs.declared.request.LineForm.{LineForm}
+use Rattle.mdmp_print.specs.declared.form.LineForm.{LineForm}
 
 -- why F can't be opened, or how many of its entries have a fault; and the line of each entry, in this form
 pub record IsCheck (form : LineForm) (F : List ℕ) (limit : ℕ) (told : PlainFault) (text : List ℕ) : Type 0 where

@@ -8,9 +8,9 @@ ghost use Rattle.mdmp_lister.specs.declared.choice.Choice.TheVariants.{All};
 ghost use Rattle.mdmp_lister.specs.Format.Listing.{Run};
 ghost use Rattle.mdmp_lister.specs.Sink.{names_of_all};
 ghost use Rattle.mdmp_source.specs.Store.{IsGood};
-ghost use Rattle.mdmp_tool.specs.Forms.{dump_line_in};
+ghost use Rattle.mdmp_print.specs.Forms.{dump_line_in};
 ghost use Rattle.mdmp_tool.specs.Text.{run_text};
-ghost use Rattle.mdmp_words.specs.declared.request.LineForm.TheVariants.{Text};
+ghost use Rattle.mdmp_print.specs.declared.form.LineForm.TheVariants.{Text};
 
 use crate::fault::{PlainFault, of_kind, open_fault};
 use crate::giving::refuse;
@@ -19,7 +19,7 @@ use crate::text_part::TextPart;
 use crate::tool_fault::list_answer;
 use mdmp_lister::{Choice, Lister};
 use mdmp_source::{MemoryStore, OutFailed, Source, Store, WriteOut};
-use mdmp_tool::{LineForm, ToolFault, list_next, put_dump};
+use mdmp_tool::{LineForm, ToolFault, list_next, print_dump};
 use std::alloc::{AllocError, Allocator, Global};
 
 /// Gives what follows the first `skip` bytes of the text of `list`, as [`mdmp_list_`](crate::mdmp_list_)
@@ -97,7 +97,7 @@ fn put_list<S: Store + Drop, A: Allocator + Copy>(
         (given ++ (dump_line_in form lister.old.header ++ run_text form pdb file lister.old.limit left)) left result }
 {
     let mut line = WriteOut::new(Vec::new(alloc));
-    if let Err(OutFailed) = put_dump(form, &lister.header(), &mut line) {
+    if let Err(OutFailed) = print_dump(form, &lister.header(), &mut line) {
         return Err(ToolFault::Out);
     }
     let line = line.into_inner();

@@ -3,7 +3,7 @@ ghost use Rattle.mdmp_c.specs.Giving.{Ends, bad_limits};
 ghost use Rattle.mdmp_c.specs.Limits.{AreLimits, EndsChecking, EndsText, KeepsMemory};
 ghost use Rattle.mdmp_c.specs.Texts.{IsCheck, IsList};
 ghost use Rattle.mdmp_lister.specs.declared.choice.Choice.TheVariants.{All};
-ghost use Rattle.mdmp_words.specs.declared.request.LineForm.TheVariants.{Json, Text};
+ghost use Rattle.mdmp_print.specs.declared.form.LineForm.TheVariants.{Json, Text};
 
 use crate::fault::{PlainFault, of_kind};
 use crate::giving::{give_or_want, refuse};

@@ -7,9 +7,9 @@ ghost use Rattle.mdmp_words.specs.Requests.{IsPrintable};
 use crate::files::numbers_file;
 use crate::runs::{CommandEnd, ended, new_out, text_of};
 use crate::same::{assert_same, assert_same_at};
-use mdmp_source::{BlockOut, PatchyOut, PatchyStore, Source, Store};
+use mdmp_source::{PatchyOut, PatchyStore, Source, Store};
 use mdmp_test_support::{FOR_LONG_TEXT, Room, SIX};
-use mdmp_tool::{Limits, LineForm, Print, Span, TypeSet, copy_told, print_told};
+use mdmp_tool::{LINE_ROOM, Limits, LineForm, LineOut, Print, Span, TypeSet, copy_told, print_told};
 use std::alloc::{Allocator, Global};
 use std::process::Abort;
 
@@ -26,9 +26,6 @@ pub enum Shown {
     /// Two bytes from the address 16 on.
     Memory,
 }
-
-/// How many bytes the blocks of these runs have.
-const BLOCK: usize = 16;
 
 fn print_of(shown: Shown) -> Print
     ensures { IsPrintable result }
@@ -70,9 +67,8 @@ pub fn print_status<S: Store + Drop, A: Allocator + Copy>(
     out: &mut PatchyOut<Global>,
     err: &mut PatchyOut<Global>,
 ) -> u8 {
-    let mut blocks = BlockOut::with_room(alloc, BLOCK, out)
-        .ok()
-        .expect(rt, "memory for a block");
+    let mut buffer = vec![in alloc; 0; LINE_ROOM].expect(rt, "memory for a block");
+    let mut blocks = LineOut::over(&mut buffer, out);
     let source = Source::new(store);
     print_told(
         heap,

@@ -4,11 +4,13 @@ pub mod DigitPairs
 pub mod FormLemmas
 pub mod HexLanes
 pub mod HexLemmas
+pub mod HexRows
+pub mod ItemRows
 pub mod LeftLemmas
 pub mod PartLemmas
+pub mod PdbRows
 pub mod PlainUnits
 pub mod Printing
 pub mod Sixteens
 pub mod Texts
-pub mod Underway
 pub mod Unitwise

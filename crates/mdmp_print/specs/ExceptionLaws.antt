@@ -5,7 +5,7 @@ use Rattle.json.specs.Print.{escape, escape_byte, print_from}
 use Rattle.mdmp_wire.specs.Digits.{hex}
 use Rattle.mdmp_print.specs.Json.{hex_string, values_of}
 use Rattle.mdmp_print.specs.JsonPieces.{all_values_text, hex_strings_text, next_values_text}
-use Rattle.mdmp_print.specs.Shown.{AreShown, escape-address, in_quotes}
+use Rattle.mdmp_print.specs.Shown.{ArePrinted, escape-address, in_quotes}
 
 -- a string of digits, texts behind it, and more
 string_then : (h n t : List ℕ) → in_quotes (codes "0x" ++ h) ++ (n ++ t) ≡ ((codes "\"0x" ++ (h ++ (codes "\"" ++ []))) ++ n) ++ t
@@ -30,11 +30,11 @@ print-all (v ∷ vs) rest =
     ∙ string_then (hex 16 v) (next_values_text vs) (93 ∷ print_from true rest)
 
 -- as many of the values as it counts
-pub AreShown-information : (count : ℕ) (values : List ℕ)
-    → AreShown (λ more. (key (codes "information") ∷ begin_array ∷ (values_of count values ++ end_array ∷ [])) ++ more)
+pub ArePrinted-information : (count : ℕ) (values : List ℕ)
+    → ArePrinted (λ more. (key (codes "information") ∷ begin_array ∷ (values_of count values ++ end_array ∷ [])) ++ more)
     (codes ",\"information\":[" ++ (hex_strings_text count values ++ codes "]"))
 unfolding print_from escape_byte
-AreShown-information count values =
+ArePrinted-information count values =
     let few = take (min count 15) values in
     let front = codes ",\"information\":[" in
     record {

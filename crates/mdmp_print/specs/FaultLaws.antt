@@ -8,7 +8,7 @@ use Rattle.mdmp_print.specs.Escapes.{escape-decimal}
 use Rattle.mdmp_print.specs.FaultWords.{kind_words}
 use Rattle.mdmp_print.specs.JsonLines.{record_member}
 use Rattle.mdmp_print.specs.JsonPieces.{record_member_text}
-use Rattle.mdmp_print.specs.Shown.{AreShown}
+use Rattle.mdmp_print.specs.Shown.{ArePrinted}
 
 pub escape-kind : (k : FaultKind) → escape (kind_words k) ≡ kind_words k
 unfolding escape_byte
@@ -29,7 +29,7 @@ print-item None rest = refl
 print-item (Some k) rest = simp (escape-decimal, append_assoc, append-nil) refl
 
 -- the number of a record, if there is one
-pub AreShown-item : (k : Option ℕ) → AreShown (λ more. record_member k ++ more) (record_member_text k)
-AreShown-item k = record {
+pub ArePrinted-item : (k : Option ℕ) → ArePrinted (λ more. record_member k ++ more) (record_member_text k)
+ArePrinted-item k = record {
   print = λ more rest. ap (print_from true) (append_assoc (record_member k) more rest) ∙ print-item k (more ++ rest);
 }

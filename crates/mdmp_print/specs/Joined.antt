@@ -1,7 +1,7 @@
 -- Texts in front of others.
 use Rattle.std.proofs.Common.{◌≡◌, ◌∙◌, ℕ, ◌/◌, ◌%◌, List, ◌++◌, ap, codes, sym, append_assoc, append-nil, refl}
 use Rattle.std.specs.Fmt.{decimal}
-use Rattle.mdmp_print.specs.Versions.{build_text, version_text}
+use Rattle.mdmp_print.specs.Versions.{build_text, file_version_text}
 
 pub joined-then : (s t : List ℕ) (f g : List ℕ → List ℕ) → ((more : List ℕ) → f more ≡ s ++ more) → ((more : List ℕ) → g more ≡ t ++ more)
     → (more : List ℕ) → f (g more) ≡ (s ++ t) ++ more
@@ -18,7 +18,7 @@ abbrev pub version_onto : ℕ → ℕ → List ℕ → List ℕ
 version_onto ms ls more =
     decimal (ms / 65536) ++ (codes "." ++ (decimal (ms % 65536) ++ (codes "." ++ (decimal (ls / 65536) ++ (codes "." ++ (decimal (ls % 65536) ++ more))))))
 
-pub joined-version : (ms ls : ℕ) (more : List ℕ) → version_onto ms ls more ≡ version_text ms ls ++ more
+pub joined-version : (ms ls : ℕ) (more : List ℕ) → version_onto ms ls more ≡ file_version_text ms ls ++ more
 joined-version ms ls more = sym (simp (append_assoc, append-nil) refl)
 
 abbrev pub build_onto : ℕ → ℕ → ℕ → List ℕ → List ℕ

@@ -11,7 +11,7 @@ pub record IsPartPut (before : List ℕ) (len : ℕ) (text rest : List ℕ) (mos
   pub put : IsPutBehind before len part most after end
 
 -- of a text all went out but what is left
-pub record IsLeft (before : OutState) (text rest : List ℕ) (after : OutState) : Type 0 where
+pub record IsUnprinted (before : OutState) (text rest : List ℕ) (after : OutState) : Type 0 where
   pub sent : List ℕ
   pub whole : text ≡ sent ++ rest
   pub went : PutsAll before sent after

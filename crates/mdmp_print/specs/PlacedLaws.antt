@@ -7,7 +7,7 @@ use Rattle.mdmp_source.specs.declared.location.Extent.{Extent}
 use Rattle.mdmp_source.specs.declared.location.Extent.TheVariants.{Empty, Absent, Inside, Outside}
 use Rattle.mdmp_print.specs.Escapes.{escape-decimal}
 use Rattle.mdmp_print.specs.Json.{of_number, of_wide, part_members}
-use Rattle.mdmp_print.specs.Shown.{AreShown, IsShown}
+use Rattle.mdmp_print.specs.Shown.{ArePrinted, IsPrinted}
 use Rattle.mdmp_print.specs.JsonPieces.{placed_text}
 
 -- texts one behind the other, in two lots
@@ -32,8 +32,8 @@ placed-after Absent size offset rest = refl
 placed-after Inside size offset rest = refl
 placed-after Outside size offset rest = refl
 
-pub IsShown-placed : (e : Extent) (size offset : ℕ) → IsShown (part_members of_number e size offset) (placed_text [] e size offset)
-IsShown-placed e size offset = record {
+pub IsPrinted-placed : (e : Extent) (size offset : ℕ) → IsPrinted (part_members of_number e size offset) (placed_text [] e size offset)
+IsPrinted-placed e size offset = record {
   first = λ rest. print-placed e size offset rest;
   next = λ rest. placed-after e size offset rest ∙ ap (λ (x : List ℕ). 44 ∷ x) (print-placed e size offset rest);
 }
@@ -48,8 +48,8 @@ print-wide Absent size offset rest = simp (escape-decimal, append_assoc, append-
 print-wide Inside size offset rest = simp (escape-decimal, append_assoc, append-nil) refl
 print-wide Outside size offset rest = simp (escape-decimal, append_assoc, append-nil) refl
 
-pub AreShown-range : (e : Extent) (size offset : ℕ) → AreShown (λ more. part_members of_wide e size offset ++ more) (codes "," ++ placed_text (codes "\"") e size offset)
-AreShown-range e size offset = record {
+pub ArePrinted-range : (e : Extent) (size offset : ℕ) → ArePrinted (λ more. part_members of_wide e size offset ++ more) (codes "," ++ placed_text (codes "\"") e size offset)
+ArePrinted-range e size offset = record {
   print = λ more rest.
       ap (print_from true) (append_assoc (part_members of_wide e size offset) more rest) ∙ print-wide e size offset (more ++ rest);
 }

@@ -9,7 +9,7 @@ use Rattle.mdmp_wire.specs.Digits.{hex}
 use Rattle.mdmp_print.specs.Escapes.{escape-decimal, escape-hex}
 use Rattle.std.specs.Fmt.{decimal}
 use Rattle.std.specs.Prelude.{◌/◌, ◌%◌}
-use Rattle.mdmp_print.specs.Versions.{build_text, version_text}
+use Rattle.mdmp_print.specs.Versions.{build_text, file_version_text}
 use Rattle.mdmp_print.specs.Json.{object_line, of_hex, of_number, of_text}
 use Rattle.mdmp_print.specs.JsonPieces.{bool_text}
 
@@ -48,7 +48,7 @@ pointed n t same =
 last_number : (n : ℕ) → escape (decimal n ++ []) ≡ decimal n ++ []
 last_number n = both true true (decimal n) [] refl (λ _. escape-decimal n) (λ _. refl)
 
-pub escape-version : (ms ls : ℕ) → escape (version_text ms ls) ≡ version_text ms ls
+pub escape-version : (ms ls : ℕ) → escape (file_version_text ms ls) ≡ file_version_text ms ls
 escape-version ms ls = pointed (ms / 65536) _ (pointed (ms % 65536) _ (pointed (ls / 65536) _ (last_number (ls % 65536))))
 
 pub escape-build : (major minor build : ℕ) → escape (build_text major minor build) ≡ build_text major minor build
@@ -60,45 +60,45 @@ escape-address n = both true true (codes "0x") (hex 16 n) refl (λ e. escape-pla
 -- ---- a value, or a member
 
 -- these tokens print this text, at the beginning and behind a comma
-pub record IsShown (tokens : List Token) (text : List ℕ) : Type 0 where
+pub record IsPrinted (tokens : List Token) (text : List ℕ) : Type 0 where
   pub first : (rest : List Token) → print_from false (tokens ++ rest) ≡ text ++ print_from true rest
   pub next : (rest : List Token) → print_from true (tokens ++ rest) ≡ 44 ∷ (text ++ print_from true rest)
 
-pub IsShown-number : (s : List ℕ) → IsShown (number s ∷ []) s
+pub IsPrinted-number : (s : List ℕ) → IsPrinted (number s ∷ []) s
 unfolding print_from
-IsShown-number s = record { first = λ rest. refl; next = λ rest. refl }
+IsPrinted-number s = record { first = λ rest. refl; next = λ rest. refl }
 
-pub IsShown-null : IsShown (null ∷ []) (codes "null")
+pub IsPrinted-null : IsPrinted (null ∷ []) (codes "null")
 unfolding print_from
-IsShown-null = record { first = λ rest. refl; next = λ rest. refl }
+IsPrinted-null = record { first = λ rest. refl; next = λ rest. refl }
 
-pub IsShown-boolean : (b : Bool) → IsShown (boolean b ∷ []) (bool_text b)
+pub IsPrinted-boolean : (b : Bool) → IsPrinted (boolean b ∷ []) (bool_text b)
 unfolding print_from
-IsShown-boolean true = record { first = λ rest. refl; next = λ rest. refl }
-IsShown-boolean false = record { first = λ rest. refl; next = λ rest. refl }
+IsPrinted-boolean true = record { first = λ rest. refl; next = λ rest. refl }
+IsPrinted-boolean false = record { first = λ rest. refl; next = λ rest. refl }
 
 -- a text in quotes
 abbrev pub in_quotes : List ℕ → List ℕ
 in_quotes s = codes "\"" ++ (s ++ codes "\"")
 
-pub IsShown-string : (s : List ℕ) → escape s ≡ s → IsShown (string s ∷ []) (in_quotes s)
+pub IsPrinted-string : (s : List ℕ) → escape s ≡ s → IsPrinted (string s ∷ []) (in_quotes s)
 unfolding print_from
-IsShown-string s same = record {
+IsPrinted-string s same = record {
   first = λ rest. ap (λ (x : List ℕ). in_quotes x ++ print_from true rest) same;
   next = λ rest. ap (λ (x : List ℕ). 44 ∷ (in_quotes x ++ print_from true rest)) same;
 }
 
 -- a name with its colon, and a text
-abbrev pub named : List ℕ → List ℕ → List ℕ
-named name text = codes "\"" ++ (name ++ (codes "\":" ++ text))
+abbrev pub keyed : List ℕ → List ℕ → List ℕ
+keyed name text = codes "\"" ++ (name ++ (codes "\":" ++ text))
 
-quoted-then : (name x y : List ℕ) → ((34 ∷ (name ++ 34 ∷ [])) ++ 58 ∷ []) ++ (x ++ y) ≡ named name x ++ y
+quoted-then : (name x y : List ℕ) → ((34 ∷ (name ++ 34 ∷ [])) ++ 58 ∷ []) ++ (x ++ y) ≡ keyed name x ++ y
 quoted-then name x y = simp append_assoc refl
 
-pub IsShown-member : (name : List ℕ) (tokens : List Token) (text : List ℕ) (b : Bool) → (are_plain name && b) ≡ true → (b ≡ true → IsShown tokens text)
-    → IsShown (key name ∷ tokens) (named name text)
+pub IsPrinted-member : (name : List ℕ) (tokens : List Token) (text : List ℕ) (b : Bool) → (are_plain name && b) ≡ true → (b ≡ true → IsPrinted tokens text)
+    → IsPrinted (key name ∷ tokens) (keyed name text)
 unfolding print_from
-IsShown-member name tokens text b plain value =
+IsPrinted-member name tokens text b plain value =
     let parts = and_parts (are_plain name) b plain in
     let same = escape-plain name parts.0 in
     let shown = value parts.1 in
@@ -107,28 +107,28 @@ IsShown-member name tokens text b plain value =
       next = λ rest. ap (λ (x : List ℕ). 44 ∷ x) (rw (same, shown.first rest) (quoted-then name text (print_from true rest)));
     }
 
-pub IsShown-start : (n : ℕ) → IsShown (of_hex (codes "start") 16 n) (named (codes "start") (in_quotes (codes "0x" ++ hex 16 n)))
-IsShown-start n =
-    IsShown-member (codes "start") (string (codes "0x" ++ hex 16 n) ∷ []) (in_quotes (codes "0x" ++ hex 16 n)) true refl
-    (λ _. IsShown-string (codes "0x" ++ hex 16 n) (escape-address n))
+pub IsPrinted-start : (n : ℕ) → IsPrinted (of_hex (codes "start") 16 n) (keyed (codes "start") (in_quotes (codes "0x" ++ hex 16 n)))
+IsPrinted-start n =
+    IsPrinted-member (codes "start") (string (codes "0x" ++ hex 16 n) ∷ []) (in_quotes (codes "0x" ++ hex 16 n)) true refl
+    (λ _. IsPrinted-string (codes "0x" ++ hex 16 n) (escape-address n))
 
 -- ---- members behind others
 
 -- members with these tokens, in front of others, print this text with its commas
-pub record AreShown (onto : List Token → List Token) (text : List ℕ) : Type 0 where
+pub record ArePrinted (onto : List Token → List Token) (text : List ℕ) : Type 0 where
   pub print : (more rest : List Token) → print_from true (onto more ++ rest) ≡ text ++ print_from true (more ++ rest)
 
-pub AreShown-none : AreShown (λ more. more) []
-AreShown-none = record { print = λ more rest. refl }
+pub ArePrinted-none : ArePrinted (λ more. more) []
+ArePrinted-none = record { print = λ more rest. refl }
 
-pub AreShown-one : (tokens : List Token) (text : List ℕ) → IsShown tokens text → AreShown (λ more. tokens ++ more) (44 ∷ text)
-AreShown-one tokens text shown = record {
+pub ArePrinted-one : (tokens : List Token) (text : List ℕ) → IsPrinted tokens text → ArePrinted (λ more. tokens ++ more) (44 ∷ text)
+ArePrinted-one tokens text shown = record {
   print = λ more rest. ap (print_from true) (append_assoc tokens more rest) ∙ shown.next (more ++ rest);
 }
 
-pub AreShown-then : (f g : List Token → List Token) (s t : List ℕ) (a b : Bool) → (a && b) ≡ true → (a ≡ true → AreShown f s) → (b ≡ true → AreShown g t)
-    → AreShown (λ more. f (g more)) (s ++ t)
-AreShown-then f g s t a b plain first next =
+pub ArePrinted-then : (f g : List Token → List Token) (s t : List ℕ) (a b : Bool) → (a && b) ≡ true → (a ≡ true → ArePrinted f s) → (b ≡ true → ArePrinted g t)
+    → ArePrinted (λ more. f (g more)) (s ++ t)
+ArePrinted-then f g s t a b plain first next =
     let parts = and_parts a b plain in
     record {
       print = λ more rest.
@@ -141,19 +141,19 @@ AreShown-then f g s t a b plain first next =
 abbrev pub at_text : ℕ → ℕ → List ℕ
 at_text entry index = codes ",\"entry\":" ++ (decimal entry ++ (codes ",\"index\":" ++ decimal index))
 
-pub number-member : (name : List ℕ) (n : ℕ) → are_plain name ≡ true → AreShown (λ more. of_number name n ++ more) (44 ∷ named name (decimal n))
+pub number-member : (name : List ℕ) (n : ℕ) → are_plain name ≡ true → ArePrinted (λ more. of_number name n ++ more) (44 ∷ keyed name (decimal n))
 number-member name n plain =
-    AreShown-one (of_number name n) (named name (decimal n))
-    (IsShown-member name (number (decimal n) ∷ []) (decimal n) true (and_from (are_plain name) true plain refl) (λ _. IsShown-number (decimal n)))
+    ArePrinted-one (of_number name n) (keyed name (decimal n))
+    (IsPrinted-member name (number (decimal n) ∷ []) (decimal n) true (and_from (are_plain name) true plain refl) (λ _. IsPrinted-number (decimal n)))
 
-pub AreShown-at : (entry index : ℕ) → AreShown (λ more. of_number (codes "entry") entry ++ (of_number (codes "index") index ++ more)) (at_text entry index)
-AreShown-at entry index =
+pub ArePrinted-at : (entry index : ℕ) → ArePrinted (λ more. of_number (codes "entry") entry ++ (of_number (codes "index") index ++ more)) (at_text entry index)
+ArePrinted-at entry index =
     let first = number-member (codes "entry") entry refl in
     let next = number-member (codes "index") index refl in
     record {
       print = λ more rest.
           first.print (of_number (codes "index") index ++ more) rest
-          ∙ ap (λ (x : List ℕ). (44 ∷ named (codes "entry") (decimal entry)) ++ x) (next.print more rest)
+          ∙ ap (λ (x : List ℕ). (44 ∷ keyed (codes "entry") (decimal entry)) ++ x) (next.print more rest)
           ∙ simp append_assoc refl;
     }
 
@@ -163,10 +163,10 @@ AreShown-at entry index =
 abbrev pub braced : List Token → List Token
 braced members = begin_object ∷ (members ++ end_object ∷ [])
 
-pub IsShown-braced : (first : List Token) (onto : List Token → List Token) (s t : List ℕ) (a b : Bool) → (a && b) ≡ true → (a ≡ true → IsShown first s)
-    → (b ≡ true → AreShown onto t) → IsShown (braced (first ++ onto [])) (123 ∷ (s ++ (t ++ 125 ∷ [])))
+pub IsPrinted-braced : (first : List Token) (onto : List Token → List Token) (s t : List ℕ) (a b : Bool) → (a && b) ≡ true → (a ≡ true → IsPrinted first s)
+    → (b ≡ true → ArePrinted onto t) → IsPrinted (braced (first ++ onto [])) (123 ∷ (s ++ (t ++ 125 ∷ [])))
 unfolding print_from
-IsShown-braced first onto s t a b plain begin behind =
+IsPrinted-braced first onto s t a b plain begin behind =
     let parts = and_parts a b plain in
     let shown = begin parts.0 in
     let more = behind parts.1 in
@@ -180,7 +180,7 @@ IsShown-braced first onto s t a b plain begin behind =
     }
 
 -- the line of an object
-pub object_line-shown : (tokens : List Token) (text : List ℕ) → IsShown tokens text → object_line tokens ≡ text ++ codes "\n"
+pub object_line-shown : (tokens : List Token) (text : List ℕ) → IsPrinted tokens text → object_line tokens ≡ text ++ codes "\n"
 unfolding print_from
 object_line-shown tokens text shown =
     ap (λ (x : List ℕ). x ++ codes "\n")
@@ -196,26 +196,26 @@ line_tokens line members = braced (of_text (codes "line") line ++ members)
 abbrev pub line_bytes : List ℕ → List ℕ → List ℕ
 line_bytes line text = codes "{\"line\":\"" ++ (line ++ (codes "\"" ++ (text ++ codes "}\n")))
 
-IsShown-line : (line : List ℕ) → are_plain line ≡ true → IsShown (of_text (codes "line") line) (named (codes "line") (in_quotes line))
-IsShown-line line plain = IsShown-member (codes "line") (string line ∷ []) (in_quotes line) (are_plain line) plain (λ e. IsShown-string line (escape-plain line e))
+IsPrinted-line : (line : List ℕ) → are_plain line ≡ true → IsPrinted (of_text (codes "line") line) (keyed (codes "line") (in_quotes line))
+IsPrinted-line line plain = IsPrinted-member (codes "line") (string line ∷ []) (in_quotes line) (are_plain line) plain (λ e. IsPrinted-string line (escape-plain line e))
 
 pub object_line-members : (line : List ℕ) (onto : List Token → List Token) (text : List ℕ) (b : Bool) → (are_plain line && b) ≡ true
-    → (b ≡ true → AreShown onto text) → object_line (line_tokens line (onto [])) ≡ line_bytes line text
+    → (b ≡ true → ArePrinted onto text) → object_line (line_tokens line (onto [])) ≡ line_bytes line text
 object_line-members line onto text b plain shown =
     object_line-shown (line_tokens line (onto [])) _
-    (IsShown-braced (of_text (codes "line") line) onto (named (codes "line") (in_quotes line)) text (are_plain line) b plain (IsShown-line line) shown)
+    (IsPrinted-braced (of_text (codes "line") line) onto (keyed (codes "line") (in_quotes line)) text (are_plain line) b plain (IsPrinted-line line) shown)
     ∙ simp append_assoc refl
 
 -- the same with a member whose value may be long, and members behind it
 pub object_line-long : (line : List ℕ) (onto : List Token → List Token) (text : List ℕ) (b : Bool) (name : List ℕ) (tokens : List Token) (value : List ℕ)
     → (behind : List Token → List Token) (rest : List ℕ) (d : Bool)
-    → (are_plain line && (b && (are_plain name && d))) ≡ true → (b ≡ true → AreShown onto text) → IsShown tokens value → (d ≡ true → AreShown behind rest)
+    → (are_plain line && (b && (are_plain name && d))) ≡ true → (b ≡ true → ArePrinted onto text) → IsPrinted tokens value → (d ≡ true → ArePrinted behind rest)
     → object_line (line_tokens line (onto ((key name ∷ tokens) ++ behind [])))
     ≡ codes "{\"line\":\"" ++ (line ++ (codes "\"" ++ (text ++ (codes ",\"" ++ (name ++ (codes "\":" ++ (value ++ (rest ++ (codes "}\n" ++ [])))))))))
 object_line-long line onto text b name tokens value behind rest d plain shown long more =
-    let member = λ (e : are_plain name ≡ true). AreShown-one (key name ∷ tokens) (named name value)
-    (IsShown-member name tokens value true (and_from (are_plain name) true e refl) (λ _. long)) in
-    let last = λ (e : (are_plain name && d) ≡ true). AreShown-then (λ more. (key name ∷ tokens) ++ more) behind (44 ∷ named name value) rest (are_plain name) d e member more in
-    object_line-members line (λ more. onto ((key name ∷ tokens) ++ behind more)) (text ++ (44 ∷ named name value ++ rest)) (b && (are_plain name && d)) plain
-    (λ e. AreShown-then onto (λ more. (key name ∷ tokens) ++ behind more) text (44 ∷ named name value ++ rest) b (are_plain name && d) e shown last)
+    let member = λ (e : are_plain name ≡ true). ArePrinted-one (key name ∷ tokens) (keyed name value)
+    (IsPrinted-member name tokens value true (and_from (are_plain name) true e refl) (λ _. long)) in
+    let last = λ (e : (are_plain name && d) ≡ true). ArePrinted-then (λ more. (key name ∷ tokens) ++ more) behind (44 ∷ keyed name value) rest (are_plain name) d e member more in
+    object_line-members line (λ more. onto ((key name ∷ tokens) ++ behind more)) (text ++ (44 ∷ keyed name value ++ rest)) (b && (are_plain name && d)) plain
+    (λ e. ArePrinted-then onto (λ more. (key name ∷ tokens) ++ behind more) text (44 ∷ keyed name value ++ rest) b (are_plain name && d) e shown last)
     ∙ simp append_assoc refl

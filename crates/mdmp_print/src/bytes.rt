@@ -9,7 +9,7 @@ use crate::in_buffer::{slice_at, text_at};
 use crate::parts::{PartEnd, Parts};
 use crate::piece::Piece;
 use crate::printer::Printer;
-use crate::text::{Text, print_parts};
+use crate::text::{LongText, print_parts};
 use mdmp_source::OutFailed;
 use std::marker::PhantomData;
 
@@ -28,7 +28,7 @@ impl<'a, E: Element<u8>> EachByte<'a, E> {
     /// The pieces of some bytes.
     pub(crate) fn over(bytes: &'a [u8]) -> Self
         requires { E.most ≤ 6 }
-        ensures { result.bytes.now ≡ bytes.now }
+        ensures { result.bytes.now ≡ bytes.entry.now }
     {
         EachByte {
             bytes,
@@ -95,7 +95,7 @@ fn is_plain(byte: u8) -> bool
 #[derive(Drop)]
 pub(crate) struct EscapedBytes<'a>(pub(crate) &'a [u8]);
 
-impl<'a> Text for EscapedBytes<'a> {
+impl<'a> LongText for EscapedBytes<'a> {
     ghost text = { λ t. escaped_bytes t.0.now };
 
     fn print<O: Printer>(&self, out: &mut O) -> Result<(), OutFailed> {
@@ -150,7 +150,7 @@ impl<'a> Parts for LongBytes<'a> {
     }
 }
 
-impl<'a> Text for LongBytes<'a> {
+impl<'a> LongText for LongBytes<'a> {
     ghost text = { λ t. t.0.now };
 
     fn print<O: Printer>(&self, out: &mut O) -> Result<(), OutFailed> {

@@ -6,13 +6,13 @@ ghost use Rattle.mdmp_print.specs.Escapes.{escape-debug_id, escape-digits, escap
 use crate::element::{Element, each_at};
 use crate::hex::{Hex2, upper_hex_at};
 use crate::in_buffer::slice_at;
-use crate::json::Plain;
 use crate::piece::Piece;
+use crate::values::PlainPiece;
 use uuid::Uuid;
 
 /// The identity of a symbol file, with hyphens.
 #[derive(Clone, Copy)]
-pub struct Guid(pub Uuid);
+pub struct Guid(pub [u8; 16]);
 
 impl Piece for Guid {
     ghost text = { λ p. guid_text p.0 };
@@ -26,11 +26,12 @@ impl Piece for Guid {
     #[inline(never)]
     fn put(&self, buffer: &mut [u8], at: usize) -> usize {
         let mut text = Uuid::encode_buffer();
-        slice_at(buffer, at, self.0.hyphenated().encode_lower(&mut text).as_bytes())
+        let guid = Uuid::from_bytes(self.0).hyphenated();
+        slice_at(buffer, at, guid.encode_lower(&mut text).as_bytes())
     }
 }
 
-impl Plain for Guid {
+impl PlainPiece for Guid {
     ghost is_plain = { λ p. true };
 
     ghost same = { λ p plain. escape-guid p.0 };
@@ -38,7 +39,7 @@ impl Plain for Guid {
 
 /// What a symbol store is asked for: an identity and an age.
 #[derive(Clone, Copy)]
-pub struct DebugId(pub Uuid, pub u32);
+pub struct DebugId(pub [u8; 16], pub u32);
 
 impl Piece for DebugId {
     ghost text = { λ p. debug_id p.0 p.1 };
@@ -52,12 +53,13 @@ impl Piece for DebugId {
     #[inline(never)]
     fn put(&self, buffer: &mut [u8], at: usize) -> usize {
         let mut text = Uuid::encode_buffer();
-        let at = slice_at(buffer, at, self.0.simple().encode_upper(&mut text).as_bytes());
+        let guid = Uuid::from_bytes(self.0).simple();
+        let at = slice_at(buffer, at, guid.encode_upper(&mut text).as_bytes());
         upper_hex_at(buffer, at, self.1)
     }
 }
 
-impl Plain for DebugId {
+impl PlainPiece for DebugId {
     ghost is_plain = { λ p. true };
 
     ghost same = { λ p plain. escape-debug_id p.0 p.1 };
@@ -82,7 +84,7 @@ impl Piece for Signature {
     }
 }
 
-impl Plain for Signature {
+impl PlainPiece for Signature {
     ghost is_plain = { λ p. true };
 
     ghost same = { λ p plain. escape-digits p.0 };

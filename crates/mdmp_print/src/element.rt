@@ -16,7 +16,11 @@ pub(crate) trait Element<T>: Piece {
 
 /// Puts the pieces of some elements behind the first `len` bytes.
 #[inline(always)]
-pub(crate) fn each_at<T: Copy, E: Element<T> + Copy>(buffer: &mut [u8], len: usize, elements: &[T]) -> usize
+pub(crate) fn each_at<T: Copy, E: Element<T> + Copy>(
+    buffer: &mut [u8],
+    len: usize,
+    elements: &[T],
+) -> usize
     requires { len + E.most * length elements.now ≤ length buffer.old }
     ensures { IsPutBehind buffer.old len (flat_map (λ x. E.text (E.of x)) elements.now) (E.most * length elements.now) buffer.new result }
 {

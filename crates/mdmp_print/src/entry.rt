@@ -2,11 +2,11 @@
 ghost use Rattle.std.specs.Prelude.{[], ◌++◌, codes, refl, true};
 ghost use Rattle.std.specs.Fmt.{decimal};
 ghost use Rattle.mdmp_print.specs.Json.{of_number};
-ghost use Rattle.mdmp_print.specs.Shown.{AreShown-at, at_text, number-member};
+ghost use Rattle.mdmp_print.specs.Shown.{ArePrinted-at, at_text, number-member};
 
-use crate::fields::Fields;
-use crate::json::Members;
+use crate::fields::RecordFields;
 use crate::piece::Piece;
+use crate::values::Members;
 
 /// The entry of a record's stream, which its line of text leaves out, and its index in the stream.
 #[derive(Clone, Copy)]
@@ -27,7 +27,7 @@ impl Piece for At {
     }
 }
 
-impl Fields for At {
+impl RecordFields for At {
     type Members = AtMembers;
 
     ghost members_of = { λ p. record { 0 = p.0; 1 = p.1 } };
@@ -62,14 +62,14 @@ impl Members for AtMembers {
 
     ghost is_plain = { λ p. true };
 
-    ghost shown = { λ p plain. AreShown-at p.0 p.1 };
+    ghost shown = { λ p plain. ArePrinted-at p.0 p.1 };
 }
 
 /// The entry of a stream.
 #[derive(Clone, Copy)]
-pub struct Entry(pub u32);
+pub struct EntryNumber(pub u32);
 
-impl Piece for Entry {
+impl Piece for EntryNumber {
     ghost text = { λ p. codes " " ++ decimal p.0 };
 
     ghost before = { λ p more. (codes " " ++ decimal p.0) ++ more };
@@ -84,7 +84,7 @@ impl Piece for Entry {
     }
 }
 
-impl Fields for Entry {
+impl RecordFields for EntryNumber {
     type Members = EntryMember;
 
     ghost members_of = { λ p. record { 0 = p.0 } };
@@ -114,7 +114,7 @@ impl Piece for EntryOnly {
     }
 }
 
-impl Fields for EntryOnly {
+impl RecordFields for EntryOnly {
     type Members = EntryMember;
 
     ghost members_of = { λ p. record { 0 = p.0 } };

@@ -2,17 +2,17 @@
 ghost use Rattle.std.specs.Prelude.{◌≡◌, ◌+◌, ◌*◌, ◌≤◌, ◌++◌, ◌∷◌, [], codes, length, refl, true};
 ghost use Rattle.json.specs.Token.{begin_array, end_array, key};
 ghost use Rattle.mdmp_print.specs.Buffer.{IsPutBehind};
-ghost use Rattle.mdmp_print.specs.ExceptionLaws.{AreShown-information};
+ghost use Rattle.mdmp_print.specs.ExceptionLaws.{ArePrinted-information};
 ghost use Rattle.mdmp_print.specs.ItemLines.{information_text, value_text};
 ghost use Rattle.mdmp_print.specs.Json.{values_of};
 ghost use Rattle.mdmp_print.specs.JsonPieces.{all_values_text, hex_strings_text, hex_value_text, next_value_text};
 
 use crate::element::{Element, each_at};
-use crate::fields::Fields;
+use crate::fields::RecordFields;
 use crate::hex::Hex16;
-use crate::json::Members;
 use crate::piece::Piece;
 use crate::row;
+use crate::values::Members;
 
 /// As many of the values of an exception as it counts, at most fifteen.
 #[derive(Clone, Copy)]
@@ -40,7 +40,7 @@ impl<'a> Piece for Information<'a> {
     }
 }
 
-impl<'a> Fields for Information<'a> {
+impl<'a> RecordFields for Information<'a> {
     type Members = InformationMember<'a>;
 
     ghost members_of = { λ p. record { count = p.count; values = p.values } };
@@ -86,7 +86,7 @@ impl<'a> Members for InformationMember<'a> {
 
     ghost is_plain = { λ p. true };
 
-    ghost shown = { λ p plain. AreShown-information p.count p.values.now };
+    ghost shown = { λ p plain. ArePrinted-information p.count p.values.now };
 }
 
 /// Puts numbers as strings of hexadecimal digits, with commas between them, behind the first `len` bytes.

@@ -3,12 +3,12 @@ ghost use Rattle.std.specs.Prelude.{[], ◌++◌, List, codes, true, refl};
 ghost use Rattle.mdmp_print.specs.ItemLines.{extent_text};
 ghost use Rattle.mdmp_print.specs.Json.{of_number, of_wide, part_members};
 ghost use Rattle.mdmp_print.specs.JsonPieces.{placed_text};
-ghost use Rattle.mdmp_print.specs.PlacedLaws.{AreShown-range, IsShown-placed};
+ghost use Rattle.mdmp_print.specs.PlacedLaws.{ArePrinted-range, IsPrinted-placed};
 
-use crate::fields::{Fields, Value};
-use crate::json::{Json, Members, Object};
+use crate::fields::{RecordFields, Value};
 use crate::piece::Piece;
 use crate::row;
+use crate::values::{Json, Members, Object};
 use mdmp_source::{Extent, Location};
 
 /// What a part is in its file: its class, its size and its offset.
@@ -92,7 +92,7 @@ impl Json for PartMembers {
 
     ghost is_plain = { λ p. true };
 
-    ghost shown = { λ p plain. IsShown-placed p.0 p.1.size p.1.rva };
+    ghost shown = { λ p plain. IsPrinted-placed p.0 p.1.size p.1.rva };
 }
 
 /// What a range is in its file, behind a space: its class, its size and its offset.
@@ -122,7 +122,7 @@ impl Piece for RangeText {
     }
 }
 
-impl Fields for RangeText {
+impl RecordFields for RangeText {
     type Members = RangeMembers;
 
     ghost members_of = { λ p. record { extent = p.extent; size = p.size; offset = p.offset } };
@@ -185,5 +185,5 @@ impl Members for RangeMembers {
 
     ghost is_plain = { λ p. true };
 
-    ghost shown = { λ p plain. AreShown-range p.extent p.size p.offset };
+    ghost shown = { λ p plain. ArePrinted-range p.extent p.size p.offset };
 }

@@ -1,14 +1,14 @@
 //! What is said of the faults of a source, an opening and a listing, as pieces of lines.
 ghost use Rattle.std.specs.Prelude.{◌++◌, [], codes, refl, true};
-ghost use Rattle.mdmp_print.specs.FaultLaws.{AreShown-item, escape-kind};
+ghost use Rattle.mdmp_print.specs.FaultLaws.{ArePrinted-item, escape-kind};
 ghost use Rattle.mdmp_print.specs.FaultWords.{budget_text, item_text, kind_words, list_fault_text, opening_text, source_text};
 ghost use Rattle.mdmp_print.specs.JsonLines.{record_member};
 ghost use Rattle.mdmp_print.specs.JsonPieces.{record_member_text};
 
 use crate::hex::Hex4;
-use crate::json::{Members, Plain};
 use crate::piece::Piece;
 use crate::row;
+use crate::values::{Members, PlainPiece};
 use mdmp_lister::{FaultKind, ListFault, OpenFault};
 use mdmp_source::SourceFault;
 
@@ -53,7 +53,13 @@ impl Piece for BudgetWords {
     ghost joined = { λ p more. refl };
 
     fn put(&self, buffer: &mut [u8], at: usize) -> usize {
-        row![b"fetch budget reached: offset ", self.offset, b" size ", self.size].put(buffer, at)
+        row![
+            b"fetch budget reached: offset ",
+            self.offset,
+            b" size ",
+            self.size
+        ]
+        .put(buffer, at)
     }
 }
 
@@ -72,17 +78,29 @@ impl Piece for OpenWords {
 
     fn put(&self, buffer: &mut [u8], at: usize) -> usize {
         match self.0 {
-            OpenFault::TooShort { size } => row![b"file of ", size, b" bytes is too short"].put(buffer, at),
+            OpenFault::TooShort { size } => row![b"file of ", size, b" bytes is too short"].put(
+                buffer, at,
+            ),
             OpenFault::BadSignature => b"bad signature".put(buffer, at),
             OpenFault::BadVersion { low } => row![b"bad version 0x", Hex4(low)].put(buffer, at),
             OpenFault::DirectoryOutside { offset, size } => {
-                row![b"directory outside the file: offset ", offset, b" size ", size].put(buffer, at)
+                row![
+                    b"directory outside the file: offset ",
+                    offset,
+                    b" size ",
+                    size
+                ]
+                .put(buffer, at)
             }
             OpenFault::Source(fault) => SourceWords(fault).put(buffer, at),
             OpenFault::Budget { offset, size } => BudgetWords { offset, size }.put(buffer, at),
             OpenFault::Memory => b"out of memory".put(buffer, at),
-            OpenFault::MemoryLimit { held } => row![b"memory limit reached: ", held].put(buffer, at),
-            OpenFault::TooManyRanges { count } => row![b"too many memory ranges: ", count].put(buffer, at),
+            OpenFault::MemoryLimit { held } => row![b"memory limit reached: ", held].put(
+                buffer, at,
+            ),
+            OpenFault::TooManyRanges { count } => row![b"too many memory ranges: ", count].put(
+                buffer, at,
+            ),
         }
     }
 }
@@ -145,7 +163,7 @@ impl Piece for KindWords {
     }
 }
 
-impl Plain for KindWords {
+impl PlainPiece for KindWords {
     ghost is_plain = { λ p. true };
 
     ghost same = { λ p plain. escape-kind p.0 };
@@ -198,5 +216,5 @@ impl Members for ItemMember {
 
     ghost is_plain = { λ p. true };
 
-    ghost shown = { λ p plain. AreShown-item p.0 };
+    ghost shown = { λ p plain. ArePrinted-item p.0 };
 }

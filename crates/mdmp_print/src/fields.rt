@@ -1,9 +1,9 @@
-//! Fields of records, of which each stands in a line of text and in an object.
+//! RecordFields of records, of which each stands in a line of text and in an object.
 ghost use Rattle.mdmp_print.specs.Joined.{joined-field};
 ghost use Rattle.std.specs.Prelude.{◌≡◌, ◌+◌, ◌++◌, codes, refl};
 
 use crate::piece::Piece;
-use crate::json::{Json, Member, Members, Next};
+use crate::values::{Json, JsonMember, Members, NextMember};
 
 /// A value of a field: a piece of a line of text, and what stands for it in an object.
 pub trait Value: Piece {
@@ -39,8 +39,8 @@ impl<'a, const N: usize, V: Value> Piece for Field<'a, N, V> {
     }
 }
 
-/// Fields: pieces of a line of text, and what stands for them in an object.
-pub trait Fields: Piece {
+/// RecordFields: pieces of a line of text, and what stands for them in an object.
+pub trait RecordFields: Piece {
     type Members: Members + Drop;
 
     ghost members_of: { Self → Self.Members };
@@ -50,14 +50,14 @@ pub trait Fields: Piece {
         ensures { result ≡ members_of self.now };
 }
 
-impl<'a, const N: usize, V: Value> Fields for Field<'a, N, V> {
-    type Members = Next<Member<'a, N, V::Json>>;
+impl<'a, const N: usize, V: Value> RecordFields for Field<'a, N, V> {
+    type Members = NextMember<JsonMember<'a, N, V::Json>>;
 
     ghost members_of = { λ p. record { 0 = record { 0 = p.0; 1 = V.json_of p.1 } } };
 
     #[inline(always)]
-    fn members(&self) -> Next<Member<'a, N, V::Json>> {
-        Next(Member(self.0, self.1.json()))
+    fn members(&self) -> NextMember<JsonMember<'a, N, V::Json>> {
+        NextMember(JsonMember(self.0, self.1.json()))
     }
 }
 
@@ -80,7 +80,7 @@ impl Piece for LineEnd {
     }
 }
 
-impl Fields for LineEnd {
+impl RecordFields for LineEnd {
     type Members = ();
 
     ghost members_of = { λ p. tt };
@@ -89,7 +89,7 @@ impl Fields for LineEnd {
     fn members(&self) {}
 }
 
-impl Fields for () {
+impl RecordFields for () {
     type Members = ();
 
     ghost members_of = { λ p. p };
@@ -98,7 +98,7 @@ impl Fields for () {
     fn members(&self) {}
 }
 
-impl<A: Fields, B: Fields> Fields for (A, B) {
+impl<A: RecordFields, B: RecordFields> RecordFields for (A, B) {
     type Members = (A::Members, B::Members);
 
     ghost members_of = { λ p. (A.members_of p.0, B.members_of p.1) };
@@ -109,8 +109,16 @@ impl<A: Fields, B: Fields> Fields for (A, B) {
     }
 }
 
-impl<A: Fields, B: Fields, C: Fields, D: Fields, E: Fields, F: Fields, G: Fields, H: Fields> Fields
-    for (A, B, C, D, E, F, G, H) {
+impl<
+    A: RecordFields,
+    B: RecordFields,
+    C: RecordFields,
+    D: RecordFields,
+    E: RecordFields,
+    F: RecordFields,
+    G: RecordFields,
+    H: RecordFields,
+> RecordFields for (A, B, C, D, E, F, G, H) {
     type Members = (
         A::Members,
         B::Members,

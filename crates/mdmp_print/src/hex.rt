@@ -8,8 +8,8 @@ ghost use Rattle.mdmp_print.specs.Shown.{both, escape-plain};
 
 use crate::fields::Value;
 use crate::in_buffer::{slice_at, text_at};
-use crate::json::{InQuotes, Plain};
 use crate::piece::Piece;
+use crate::values::{InQuotes, PlainPiece};
 use mdmp_wire::hex_digits;
 use std::simd::prelude::*;
 
@@ -69,7 +69,11 @@ impl Piece for Hex2 {
 
     #[inline(always)]
     fn put(&self, buffer: &mut [u8], at: usize) -> usize {
-        text_at(buffer, at, [hex_digit(false, self.0 / 16), hex_digit(false, self.0 % 16)])
+        text_at(
+            buffer,
+            at,
+            [hex_digit(false, self.0 / 16), hex_digit(false, self.0 % 16)],
+        )
     }
 }
 
@@ -132,19 +136,19 @@ impl Piece for Hex16 {
     }
 }
 
-impl Plain for Hex4 {
+impl PlainPiece for Hex4 {
     ghost is_plain = { λ p. true };
 
     ghost same = { λ p plain. escape-hex 4 p.0 };
 }
 
-impl Plain for Hex8 {
+impl PlainPiece for Hex8 {
     ghost is_plain = { λ p. true };
 
     ghost same = { λ p plain. escape-hex 8 p.0 };
 }
 
-impl Plain for Hex16 {
+impl PlainPiece for Hex16 {
     ghost is_plain = { λ p. true };
 
     ghost same = { λ p plain. escape-hex 16 p.0 };
@@ -154,7 +158,7 @@ impl Plain for Hex16 {
 #[derive(Clone, Copy)]
 pub struct Prefixed<H>(pub H);
 
-impl<H: Plain> Piece for Prefixed<H> {
+impl<H: PlainPiece> Piece for Prefixed<H> {
     ghost text = { λ p. codes "0x" ++ H.text p.0 };
 
     ghost before = { λ p more. (codes "0x" ++ H.text p.0) ++ more };
@@ -170,13 +174,13 @@ impl<H: Plain> Piece for Prefixed<H> {
     }
 }
 
-impl<H: Plain> Plain for Prefixed<H> {
+impl<H: PlainPiece> PlainPiece for Prefixed<H> {
     ghost is_plain = { λ p. H.is_plain p.0 };
 
     ghost same = { λ p plain. both true (H.is_plain p.0) (codes "0x") (H.text p.0) plain (λ e. escape-plain (codes "0x") refl) (H.same p.0) };
 }
 
-impl<H: Plain + Copy> Value for Prefixed<H> {
+impl<H: PlainPiece + Copy> Value for Prefixed<H> {
     type Json = InQuotes<Prefixed<H>>;
 
     ghost json_of = { λ p. record { 0 = p } };

@@ -11,7 +11,7 @@ use crate::hex::hex_digit;
 use crate::in_buffer::text_at;
 use crate::piece::Piece;
 use crate::printer::Printer;
-use crate::text::{Text, print_parts};
+use crate::text::{LongText, print_parts};
 use mdmp_source::OutFailed;
 
 /// The letter behind the backslash for a byte that has one, or 0.
@@ -95,7 +95,7 @@ pub(crate) fn escape_char_at(text: &mut [u8], len: usize, character: char) -> us
 #[derive(Drop)]
 pub(crate) struct LossyText<'a>(pub(crate) &'a [u8]);
 
-impl<'a> Text for LossyText<'a> {
+impl<'a> LongText for LossyText<'a> {
     ghost text = { λ t. escape (utf8_lossy t.0.now) };
 
     fn print<O: Printer>(&self, out: &mut O) -> Result<(), OutFailed> {

@@ -3,13 +3,13 @@ ghost use Rattle.std.specs.Prelude.{◌≡◌, ◌++◌, not, refl};
 ghost use Rattle.std.specs.Str.{is_utf8};
 ghost use Rattle.mdmp_print.specs.JsonPieces.{bytes_value_text, lossy_text, name_value_text};
 
-use crate::json::LongValue;
 use crate::json_strings::LossyText;
 use crate::json_units::{Quoted, is_lossy};
 use crate::piece::Piece;
 use crate::printer::Printer;
 use crate::row;
-use crate::text::{Text, print_around};
+use crate::text::{LongText, print_around};
+use crate::values::LongValue;
 use mdmp_lister::Name;
 use mdmp_source::OutFailed;
 
@@ -38,7 +38,7 @@ impl Piece for Lossy {
 #[derive(Drop)]
 pub struct NameValue<'n, 'a>(pub &'n Name<'a>);
 
-impl<'n, 'a> Text for NameValue<'n, 'a> {
+impl<'n, 'a> LongText for NameValue<'n, 'a> {
     ghost text = { λ t. name_value_text t.0.now };
 
     fn print<O: Printer>(&self, out: &mut O) -> Result<(), OutFailed> {
@@ -57,18 +57,18 @@ impl<'n, 'a> Text for NameValue<'n, 'a> {
 
 impl<'n, 'a> LongValue for NameValue<'n, 'a> {
     ghost use Rattle.mdmp_print.specs.Json.{name_value};
-    ghost use Rattle.mdmp_print.specs.NameLaws.{IsShown-name};
+    ghost use Rattle.mdmp_print.specs.NameLaws.{IsPrinted-name};
 
     ghost tokens = { λ t. name_value t.0.now };
 
-    ghost shown = { λ t. IsShown-name t.0.now };
+    ghost shown = { λ t. IsPrinted-name t.0.now };
 }
 
 /// Bytes of a file name as a value, and the member behind the value if its text is not what was read.
 #[derive(Drop)]
 pub struct BytesValue<'a>(pub &'a [u8]);
 
-impl<'a> Text for BytesValue<'a> {
+impl<'a> LongText for BytesValue<'a> {
     ghost text = { λ t. bytes_value_text t.0.now };
 
     fn print<O: Printer>(&self, out: &mut O) -> Result<(), OutFailed> {
@@ -83,11 +83,11 @@ impl<'a> Text for BytesValue<'a> {
 
 impl<'a> LongValue for BytesValue<'a> {
     ghost use Rattle.mdmp_print.specs.Json.{bytes_value};
-    ghost use Rattle.mdmp_print.specs.NameLaws.{IsShown-bytes};
+    ghost use Rattle.mdmp_print.specs.NameLaws.{IsPrinted-bytes};
 
     ghost tokens = { λ t. bytes_value t.0.now };
 
-    ghost shown = { λ t. IsShown-bytes t.0.now };
+    ghost shown = { λ t. IsPrinted-bytes t.0.now };
 }
 
 /// Whether some bytes are no UTF-8.

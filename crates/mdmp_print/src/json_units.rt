@@ -9,7 +9,7 @@ ghost use Rattle.mdmp_print.specs.Parts.{IsPartPut};
 use crate::json_strings::{CHARACTER, escape_char_at};
 use crate::parts::{PartEnd, Parts};
 use crate::printer::Printer;
-use crate::text::{Text, print_parts};
+use crate::text::{LongText, print_parts};
 use mdmp_source::OutFailed;
 use mdmp_wire::UnitsRef;
 
@@ -109,7 +109,7 @@ impl<'a> Parts for Quoted<'a> {
     }
 }
 
-impl<'a> Text for Quoted<'a> {
+impl<'a> LongText for Quoted<'a> {
     ghost text = { λ t. escape (utf8_of (units_in t.units)) };
 
     fn print<O: Printer>(&self, out: &mut O) -> Result<(), OutFailed> {

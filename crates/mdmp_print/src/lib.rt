@@ -2,7 +2,7 @@
 //!
 //! A [`Piece`] is a text whose length has a bound. A row of pieces ([`row!`]) is a piece too: its bound is
 //! the sum of theirs, by its type. A [`Printer`] prints a piece; a [`LineOut`] does so by one test of
-//! room, straight into its buffer. A [`Text`] may be of any length: it is printed by as many pieces as
+//! room, straight into its buffer. A [`LongText`] may be of any length: it is printed by as many pieces as
 //! it takes.
 //!
 //! In an object a [`Json`] is a piece that knows which tokens it prints, and [`Members`] are some of
@@ -18,6 +18,7 @@ mod codeview;
 mod digits;
 mod element;
 mod entry;
+mod error_line;
 mod exception;
 mod extent;
 mod fault_words;
@@ -27,7 +28,6 @@ mod hex;
 mod hex_lines;
 mod in_buffer;
 mod item;
-mod json;
 mod json_strings;
 mod json_text;
 mod json_units;
@@ -45,23 +45,24 @@ mod symbols;
 #[cfg(test)]
 mod tests;
 mod text;
+mod values;
 mod verdict;
 mod version;
 
 pub use crate::bytes::{LongBytes, SHORT, ShortBytes};
 pub use crate::codeview::{Cut, DebugId, Guid, Signature};
-pub use crate::entry::{At, AtMembers, Entry, EntryMember, EntryOnly};
+pub use crate::entry::{At, AtMembers, EntryMember, EntryNumber, EntryOnly};
+pub use crate::error_line::{print_error, print_error_named};
 pub use crate::exception::{Information, InformationMember};
 pub use crate::extent::{PartMembers, PartText, RangeMembers, RangeText};
 pub use crate::fault_words::{
     BudgetWords, ItemMember, ItemWords, KindWords, ListWords, OpenWords, SourceWords,
 };
-pub use crate::fields::{Field, Fields, LineEnd, Value};
+pub use crate::fields::{Field, LineEnd, RecordFields, Value};
 pub use crate::form::LineForm;
 pub use crate::hex::{Hex2, Hex4, Hex8, Hex16, Prefixed};
 pub use crate::hex_lines::print_hex_lines;
 pub use crate::item::{print_dump, print_item};
-pub use crate::json::{InQuotes, Json, LongValue, Member, Members, Next, Null, Object, Plain, Word};
 pub use crate::json_text::{BytesValue, NameValue};
 pub use crate::line_out::LineOut;
 pub use crate::name::NameText;
@@ -72,6 +73,9 @@ pub use crate::printer::Printer;
 pub use crate::record::{print_named_record, print_record};
 pub use crate::stack::{Stack, StackStart};
 pub use crate::symbols::{ModulePlace, print_symbols};
-pub use crate::text::{Text, print_around, print_parts};
+pub use crate::text::{LongText, print_around, print_parts};
+pub use crate::values::{
+    InQuotes, Json, JsonMember, LongValue, Members, NextMember, Null, Object, PlainPiece, Word,
+};
 pub use crate::verdict::print_verdict;
 pub use crate::version::{Build, Version};

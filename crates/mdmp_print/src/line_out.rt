@@ -2,7 +2,7 @@
 ghost use Rattle.std.specs.Prelude.{◌≡◌, ◌≤◌, ◌<◌, ◌+◌, ◌-◌, ◌++◌, [], ◌↔◌, length, take, drop, nat_lt, IsOk, IfOk, MatchResult, is_err};
 ghost use Rattle.mdmp_source.specs.Blocks.{BlockState, output_state, MovesFront};
 ghost use Rattle.mdmp_source.specs.Output.{Puts, PutsPrefix, refused_if};
-ghost use Rattle.mdmp_print.specs.Parts.{IsLeft, IsPartAppended};
+ghost use Rattle.mdmp_print.specs.Parts.{IsUnprinted, IsPartAppended};
 
 use crate::parts::Parts;
 use crate::piece::{LINE_ROOM, Piece};

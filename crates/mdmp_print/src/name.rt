@@ -8,7 +8,7 @@ use crate::parts::{PartEnd, Parts};
 use crate::piece::Piece;
 use crate::printer::Printer;
 use crate::row;
-use crate::text::{Text, print_around, print_parts};
+use crate::text::{LongText, print_around, print_parts};
 use mdmp_lister::Name;
 use mdmp_source::OutFailed;
 use mdmp_wire::UnitsRef;
@@ -40,7 +40,7 @@ impl<'a> Parts for Escaped<'a> {
     }
 }
 
-impl<'a> Text for Escaped<'a> {
+impl<'a> LongText for Escaped<'a> {
     ghost text = { λ t. escaped (units_in t.units) };
 
     fn print<O: Printer>(&self, out: &mut O) -> Result<(), OutFailed> {
@@ -76,7 +76,7 @@ impl<'a> Piece for ShortName<'a> {
 #[derive(Drop)]
 pub struct NameText<'n, 'a>(pub &'n Name<'a>);
 
-impl<'n, 'a> Text for NameText<'n, 'a> {
+impl<'n, 'a> LongText for NameText<'n, 'a> {
     ghost text = { λ t. name_text t.0.now };
 
     fn print<O: Printer>(&self, out: &mut O) -> Result<(), OutFailed> {

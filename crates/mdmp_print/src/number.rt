@@ -3,12 +3,12 @@ ghost use Rattle.std.specs.Prelude.{◌≡◌, ◌+◌, ◌++◌, ◌∷◌, [],
 ghost use Rattle.std.specs.Fmt.{decimal};
 ghost use Rattle.json.specs.Token.{number};
 ghost use Rattle.mdmp_print.specs.Escapes.{escape-decimal};
-ghost use Rattle.mdmp_print.specs.Shown.{IsShown-number};
+ghost use Rattle.mdmp_print.specs.Shown.{IsPrinted-number};
 
 use crate::digits::{decimal_at, decimal32_at, wide_decimal_at};
 use crate::fields::Value;
-use crate::json::{InQuotes, Json, Plain};
 use crate::piece::Piece;
+use crate::values::{InQuotes, Json, PlainPiece};
 
 impl Piece for u32 {
     ghost text = { decimal };
@@ -63,7 +63,7 @@ impl Json for u32 {
 
     ghost is_plain = { λ n. true };
 
-    ghost shown = { λ n plain. IsShown-number (decimal n) };
+    ghost shown = { λ n plain. IsPrinted-number (decimal n) };
 }
 
 impl Json for u64 {
@@ -71,16 +71,16 @@ impl Json for u64 {
 
     ghost is_plain = { λ n. true };
 
-    ghost shown = { λ n plain. IsShown-number (decimal n) };
+    ghost shown = { λ n plain. IsPrinted-number (decimal n) };
 }
 
-impl Plain for u32 {
+impl PlainPiece for u32 {
     ghost is_plain = { λ n. true };
 
     ghost same = { λ n plain. escape-decimal n };
 }
 
-impl Plain for u64 {
+impl PlainPiece for u64 {
     ghost is_plain = { λ n. true };
 
     ghost same = { λ n plain. escape-decimal n };

@@ -5,10 +5,10 @@ ghost use Rattle.mdmp_source.specs.Output.{Puts};
 ghost use Rattle.mdmp_print.specs.Json.{object_line};
 ghost use Rattle.mdmp_print.specs.Shown.{are_plain, line_tokens};
 
-use crate::json::{LongValue, Members};
 use crate::printer::Printer;
 use crate::row;
 use crate::text::print_around;
+use crate::values::{LongValue, Members};
 use mdmp_source::OutFailed;
 
 /// Prints an object on a line: what it is of, and its other members.
@@ -26,7 +26,14 @@ pub fn print_object<O: Printer, M: Members + Drop, const N: usize>(
 }
 
 /// Prints an object on a line, one of whose members has a value of any length.
-pub fn print_object_around<O: Printer, M: Members + Drop, T: LongValue, R: Members + Drop, const N: usize, const K: usize>(
+pub fn print_object_around<
+    O: Printer,
+    M: Members + Drop,
+    T: LongValue,
+    R: Members + Drop,
+    const N: usize,
+    const K: usize,
+>(
     out: &mut O,
     line: &[u8; N],
     members: M,

@@ -1,7 +1,7 @@
 //! What prints pieces of lines.
 ghost use Rattle.std.specs.Prelude.{◌≡◌, ◌≤◌, ◌<◌, IfOk, MatchResult};
 ghost use Rattle.mdmp_source.specs.Output.{Puts, PutsPrefix};
-ghost use Rattle.mdmp_print.specs.Parts.{IsLeft};
+ghost use Rattle.mdmp_print.specs.Parts.{IsUnprinted};
 
 use crate::parts::Parts;
 use crate::piece::{LINE_ROOM, Piece};
@@ -24,7 +24,7 @@ pub trait Printer {
         requires { place < T.places text.now }
         ensures next { IfOk result (λ next. place < next × next ≤ T.places text.now) }
         ensures puts { MatchResult result
-            (λ next. IsLeft (state self.old) (T.text_from text.now place) (T.text_from text.now next) (state self.new))
+            (λ next. IsUnprinted (state self.old) (T.text_from text.now place) (T.text_from text.now next) (state self.new))
             (λ _. PutsPrefix (state self.old) (T.text_from text.now place) (state self.new)) };
 }
 

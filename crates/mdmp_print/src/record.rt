@@ -6,7 +6,7 @@ ghost use Rattle.mdmp_print.specs.ItemLines.{name_text};
 ghost use Rattle.mdmp_print.specs.Json.{object_line};
 ghost use Rattle.mdmp_print.specs.Shown.{are_plain, line_tokens};
 
-use crate::fields::Fields;
+use crate::fields::RecordFields;
 use crate::form::LineForm;
 use crate::json_text::NameValue;
 use crate::name::NameText;
@@ -19,7 +19,7 @@ use mdmp_source::OutFailed;
 
 /// Prints a record: its kind and its fields.
 #[inline(always)]
-pub fn print_record<O: Printer, F: Fields + Drop, const N: usize>(
+pub fn print_record<O: Printer, F: RecordFields + Drop, const N: usize>(
     form: LineForm,
     out: &mut O,
     kind: &[u8; N],
@@ -39,7 +39,7 @@ pub fn print_record<O: Printer, F: Fields + Drop, const N: usize>(
 
 /// Prints a record that has a name: its kind, its fields and its name.
 #[inline(always)]
-pub fn print_named_record<O: Printer, F: Fields + Drop, const N: usize, const K: usize>(
+pub fn print_named_record<O: Printer, F: RecordFields + Drop, const N: usize, const K: usize>(
     form: LineForm,
     out: &mut O,
     kind: &[u8; N],

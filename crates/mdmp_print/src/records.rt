@@ -5,7 +5,7 @@ ghost use Rattle.mdmp_print.specs.ItemLines.{entry_line, exception_line, module_
 ghost use Rattle.mdmp_print.specs.Json.{object, object_line};
 ghost use Rattle.mdmp_print.specs.JsonLines.{exception_members, module_members, range_members, region_members, stream_members, system_members, thread_members, thread_name_members, unloaded_members};
 
-use crate::entry::{At, Entry, EntryOnly};
+use crate::entry::{At, EntryNumber, EntryOnly};
 use crate::exception::Information;
 use crate::extent::{PartText, RangeText};
 use crate::fields::Field;
@@ -36,7 +36,7 @@ pub(crate) fn print_stream<O: Printer>(
         out,
         b"stream",
         fields![
-            Entry(item.entry),
+            EntryNumber(item.entry),
             Field(b"type", item.stream_type),
             Field(b"size", item.location.size),
             Field(b"rva", item.location.rva),

@@ -4,13 +4,13 @@ ghost use Rattle.mdmp_wire.specs.Digits.{hex};
 ghost use Rattle.mdmp_print.specs.ItemLines.{extent_text};
 ghost use Rattle.mdmp_print.specs.Joined.{joined-stack};
 ghost use Rattle.mdmp_print.specs.Json.{of_hex};
-ghost use Rattle.mdmp_print.specs.Shown.{IsShown-start, in_quotes, named};
+ghost use Rattle.mdmp_print.specs.Shown.{IsPrinted-start, in_quotes, keyed};
 
 use crate::extent::{PartMembers, PartText};
 use crate::fields::Value;
 use crate::hex::{Hex16, Prefixed};
-use crate::json::{InQuotes, Json, Next, Object};
 use crate::piece::Piece;
+use crate::values::{InQuotes, Json, NextMember, Object};
 
 /// Where a stack begins, and what it is in the file.
 #[derive(Clone, Copy)]
@@ -35,13 +35,16 @@ impl Piece for Stack {
 }
 
 impl Value for Stack {
-    type Json = Object<StackStart, Next<PartMembers>>;
+    type Json = Object<StackStart, NextMember<PartMembers>>;
 
     ghost json_of = { λ p. record { 0 = record { 0 = p.0 }; 1 = record { 0 = record { 0 = p.1.0; 1 = p.1.1 } } } };
 
     #[inline(always)]
-    fn json(&self) -> Object<StackStart, Next<PartMembers>> {
-        Object(StackStart(self.0), Next(PartMembers(self.1.0, self.1.1)))
+    fn json(&self) -> Object<StackStart, NextMember<PartMembers>> {
+        Object(
+            StackStart(self.0),
+            NextMember(PartMembers(self.1.0, self.1.1)),
+        )
     }
 }
 
@@ -50,9 +53,9 @@ impl Value for Stack {
 pub struct StackStart(pub u64);
 
 impl Piece for StackStart {
-    ghost text = { λ p. named (codes "start") (in_quotes (codes "0x" ++ hex 16 p.0)) };
+    ghost text = { λ p. keyed (codes "start") (in_quotes (codes "0x" ++ hex 16 p.0)) };
 
-    ghost before = { λ p more. (named (codes "start") (in_quotes (codes "0x" ++ hex 16 p.0))) ++ more };
+    ghost before = { λ p more. (keyed (codes "start") (in_quotes (codes "0x" ++ hex 16 p.0))) ++ more };
 
     ghost most = { 40 };
 
@@ -69,5 +72,5 @@ impl Json for StackStart {
 
     ghost is_plain = { λ p. true };
 
-    ghost shown = { λ p plain. IsShown-start p.0 };
+    ghost shown = { λ p plain. IsPrinted-start p.0 };
 }

@@ -1,6 +1,6 @@
 //! The line of the CodeView record of a module.
 ghost use Rattle.mdmp_source.specs.Output.{Puts};
-ghost use Rattle.mdmp_wire.specs.CodeView.{codeview_value};
+ghost use Rattle.mdmp_wire.specs.CodeView.{Rsds, codeview_value};
 ghost use Rattle.mdmp_print.specs.Forms.{pdb_line_in};
 ghost use Rattle.mdmp_print.specs.Json.{object_line};
 ghost use Rattle.mdmp_print.specs.JsonLines.{pdb_object};
@@ -10,12 +10,12 @@ use crate::bytes::EscapedBytes;
 use crate::codeview::{Cut, DebugId, Guid, Signature};
 use crate::entry::AtMembers;
 use crate::form::LineForm;
-use crate::json::{InQuotes, Member, Next, Word};
 use crate::json_text::BytesValue;
 use crate::object_line::{print_object, print_object_around};
 use crate::printer::Printer;
 use crate::row;
 use crate::text::print_around;
+use crate::values::{InQuotes, JsonMember, NextMember, Word};
 use mdmp_source::OutFailed;
 use mdmp_wire::CodeView;
 
@@ -52,17 +52,35 @@ fn print_text<O: Printer>(codeview: &CodeView<'_>, out: &mut O) -> Result<(), Ou
             age,
             name,
             ended,
-        } => print_around(
-            out,
-            &row![b"pdb ", Guid(*guid), b" age ", *age, b" name \""],
-            &EscapedBytes(name),
-            &row![b"\"", Cut { ended: *ended }, b"\n"],
-        ),
+        } => print_file(*guid.as_bytes(), *age, name, *ended, out),
         CodeView::Other { signature, size } => {
-            out.print(&row![b"pdb other ", Signature(*signature), b" size ", *size, b"\n"])
+            out.print(&row![
+                b"pdb other ",
+                Signature(*signature),
+                b" size ",
+                *size,
+                b"\n"
+            ])
         }
         CodeView::Short { size } => out.print(&row![b"pdb short ", *size, b"\n"]),
     }
+}
+
+fn print_file<O: Printer>(
+    guid: [u8; 16],
+    age: u32,
+    name: &[u8],
+    ended: bool,
+    out: &mut O,
+) -> Result<(), OutFailed>
+    ensures { Puts result (O.state out.old) (pdb_line (Rsds guid age name.now ended)) (O.state out.new) }
+{
+    print_around(
+        out,
+        &row![b"pdb ", Guid(guid), b" age ", age, b" name \""],
+        &EscapedBytes(name),
+        &row![b"\"", Cut { ended }, b"\n"],
+    )
 }
 
 fn print_json<O: Printer>(
@@ -78,28 +96,15 @@ fn print_json<O: Printer>(
             age,
             name,
             ended,
-        } => print_object_around(
-            out,
-            b"pdb",
-            row![
-                AtMembers(place.entry, place.index),
-                Next(Member(b"kind", Word(b"rsds"))),
-                Next(Member(b"guid", InQuotes(Guid(*guid)))),
-                Next(Member(b"age", *age)),
-                Next(Member(b"debug_id", InQuotes(DebugId(*guid, *age)))),
-            ],
-            b"name",
-            &BytesValue(name),
-            row![Next(Member(b"cut", !*ended))],
-        ),
+        } => print_rsds(place, *guid.as_bytes(), *age, name, *ended, out),
         CodeView::Other { signature, size } => print_object(
             out,
             b"pdb",
             row![
                 AtMembers(place.entry, place.index),
-                Next(Member(b"kind", Word(b"other"))),
-                Next(Member(b"signature", InQuotes(Signature(*signature)))),
-                Next(Member(b"size", *size)),
+                NextMember(JsonMember(b"kind", Word(b"other"))),
+                NextMember(JsonMember(b"signature", InQuotes(Signature(*signature)))),
+                NextMember(JsonMember(b"size", *size)),
             ],
         ),
         CodeView::Short { size } => print_object(
@@ -107,9 +112,35 @@ fn print_json<O: Printer>(
             b"pdb",
             row![
                 AtMembers(place.entry, place.index),
-                Next(Member(b"kind", Word(b"short"))),
-                Next(Member(b"size", *size)),
+                NextMember(JsonMember(b"kind", Word(b"short"))),
+                NextMember(JsonMember(b"size", *size)),
             ],
         ),
     }
+}
+
+fn print_rsds<O: Printer>(
+    place: ModulePlace,
+    guid: [u8; 16],
+    age: u32,
+    name: &[u8],
+    ended: bool,
+    out: &mut O,
+) -> Result<(), OutFailed>
+    ensures { Puts result (O.state out.old) (object_line (pdb_object place.entry place.index (Rsds guid age name.now ended))) (O.state out.new) }
+{
+    print_object_around(
+        out,
+        b"pdb",
+        row![
+            AtMembers(place.entry, place.index),
+            NextMember(JsonMember(b"kind", Word(b"rsds"))),
+            NextMember(JsonMember(b"guid", InQuotes(Guid(guid)))),
+            NextMember(JsonMember(b"age", age)),
+            NextMember(JsonMember(b"debug_id", InQuotes(DebugId(guid, age)))),
+        ],
+        b"name",
+        &BytesValue(name),
+        row![NextMember(JsonMember(b"cut", !ended))],
+    )
 }

@@ -1,8 +1,8 @@
 //! Each form of a region and of a module, and an output that refuses.
 
 use crate::form::LineForm;
-use crate::records::{print_module, print_region};
 use crate::line_out::LineOut;
+use crate::records::{print_module, print_region};
 use mdmp_lister::{MemoryInfoItem, ModuleItem, Name};
 use mdmp_source::{Extent, Location, PatchyOut};
 use mdmp_wire::{MemoryInfoRecord, ModuleRecord, UnitsRef, VersionInfo};

@@ -8,7 +8,7 @@ use crate::printer::Printer;
 use mdmp_source::OutFailed;
 
 /// A text of any length, which is printed by as many pieces as it takes.
-pub trait Text {
+pub trait LongText {
     ghost use Rattle.std.specs.Prelude.{List, ℕ};
 
     // Its bytes.
@@ -32,7 +32,7 @@ pub fn print_parts<O: Printer, T: Parts>(out: &mut O, text: &T) -> Result<(), Ou
 }
 
 /// Prints a text of any length between two pieces.
-pub fn print_around<O: Printer, P: Piece, T: Text, Q: Piece>(
+pub fn print_around<O: Printer, P: Piece, T: LongText, Q: Piece>(
     out: &mut O,
     front: &P,
     middle: &T,

@@ -7,15 +7,19 @@ ghost use Rattle.mdmp_print.specs.VerdictLines.{verdict_line};
 
 use crate::fault_words::{ItemMember, KindWords, ListWords};
 use crate::form::LineForm;
-use crate::json::{InQuotes, Member, Next, Null, Object};
 use crate::object_line::print_object;
 use crate::printer::Printer;
+use crate::values::{InQuotes, JsonMember, NextMember, Null, Object};
 use crate::{members, row};
 use mdmp_lister::Verdict;
 use mdmp_source::OutFailed;
 
 /// Prints the line of a verdict.
-pub fn print_verdict<O: Printer>(form: LineForm, verdict: &Verdict, out: &mut O) -> Result<(), OutFailed>
+pub fn print_verdict<O: Printer>(
+    form: LineForm,
+    verdict: &Verdict,
+    out: &mut O,
+) -> Result<(), OutFailed>
     ensures { Puts result (O.state out.old) (verdict_line_in form verdict.now) (O.state out.new) }
 {
     match form {
@@ -40,21 +44,24 @@ fn print_json<O: Printer>(verdict: &Verdict, out: &mut O) -> Result<(), OutFaile
         None => print_object(
             out,
             b"entry",
-            members![Member(b"entry", verdict.entry), Member(b"fault", Null)],
+            members![
+                JsonMember(b"entry", verdict.entry),
+                JsonMember(b"fault", Null)
+            ],
         ),
         Some(fault) => print_object(
             out,
             b"entry",
             members![
-                Member(b"entry", verdict.entry),
-                Member(
+                JsonMember(b"entry", verdict.entry),
+                JsonMember(
                     b"fault",
                     Object(
-                        Member(b"kind", InQuotes(KindWords(fault.kind))),
+                        JsonMember(b"kind", InQuotes(KindWords(fault.kind))),
                         row![
                             ItemMember(fault.index),
-                            Next(Member(b"offset", InQuotes(fault.offset))),
-                            Next(Member(b"size", InQuotes(fault.size))),
+                            NextMember(JsonMember(b"offset", InQuotes(fault.offset))),
+                            NextMember(JsonMember(b"size", InQuotes(fault.size))),
                         ]
                     )
                 ),

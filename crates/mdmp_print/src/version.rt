@@ -2,19 +2,19 @@
 ghost use Rattle.std.specs.Prelude.{◌++◌, refl, true};
 ghost use Rattle.mdmp_print.specs.Joined.{build_onto, joined-build, joined-version, version_onto};
 ghost use Rattle.mdmp_print.specs.Shown.{escape-build, escape-version};
-ghost use Rattle.mdmp_print.specs.Versions.{build_text, version_text};
+ghost use Rattle.mdmp_print.specs.Versions.{build_text, file_version_text};
 
 use crate::fields::Value;
-use crate::json::{InQuotes, Plain};
 use crate::piece::Piece;
 use crate::row;
+use crate::values::{InQuotes, PlainPiece};
 
 /// The version of a module's file: the halves of two numbers.
 #[derive(Clone, Copy)]
 pub struct Version(pub u32, pub u32);
 
 impl Piece for Version {
-    ghost text = { λ p. version_text p.0 p.1 };
+    ghost text = { λ p. file_version_text p.0 p.1 };
 
     ghost before = { λ p more. version_onto p.0 p.1 more };
 
@@ -36,7 +36,7 @@ impl Piece for Version {
     }
 }
 
-impl Plain for Version {
+impl PlainPiece for Version {
     ghost is_plain = { λ p. true };
 
     ghost same = { λ p plain. escape-version p.0 p.1 };
@@ -71,7 +71,7 @@ impl Piece for Build {
     }
 }
 
-impl Plain for Build {
+impl PlainPiece for Build {
     ghost is_plain = { λ p. true };
 
     ghost same = { λ p plain. escape-build p.0 p.1 p.2 };

@@ -23,9 +23,9 @@ use Rattle.mdmp_tool.specs.declared.fault.ToolFault.TheVariants.{Source, Budget}
 use Rattle.mdmp_tool.specs.CheckRuns.{TakesVerdict}
 use Rattle.mdmp_tool.specs.CheckText.{bad_count, fault_count, verdict_lines}
 use Rattle.mdmp_tool.specs.Engines.{StopsShort}
-use Rattle.mdmp_tool.specs.Forms.{verdict_line_in}
+use Rattle.mdmp_print.specs.Forms.{verdict_line_in}
 use Rattle.mdmp_tool.specs.Telling.{told_by}
-use Rattle.mdmp_words.specs.declared.request.LineForm.{LineForm}
+use Rattle.mdmp_print.specs.declared.form.LineForm.{LineForm}
 
 -- ---- what the sink has put, whose output, count and form are these
 

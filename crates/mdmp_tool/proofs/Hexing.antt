@@ -14,7 +14,7 @@ use Rattle.mdmp_tool.specs.declared.fault.ToolFault.{ToolFault}
 use Rattle.mdmp_tool.specs.declared.fault.ToolFault.TheVariants.{List as BadList, Source, Out, Memory}
 use Rattle.mdmp_tool.proofs.Engining.{StopsShort-none, StopsShort-nothing}
 use Rattle.mdmp_tool.specs.HexRuns.{HexesMemory, HexesRun, run_hex_text}
-use Rattle.mdmp_tool.specs.HexText.{hex_text}
+use Rattle.mdmp_print.specs.HexText.{hex_text}
 use Rattle.mdmp_tool.specs.Telling.{listing_told, told_by}
 
 -- what was printed by the ranges of all items

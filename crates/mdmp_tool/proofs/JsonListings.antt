@@ -27,7 +27,7 @@ use Rattle.mdmp_lister.specs.Format.Listing.{Numbered, Run, all_joined, chosen, 
 use Rattle.mdmp_lister.specs.Format.Name.{name_at}
 use Rattle.mdmp_lister.specs.Format.Shape.{counted, head_cost, head_size, location_fault, ranges64, shape_behind_head, shape_of, sized}
 use Rattle.mdmp_tool.specs.JsonLaws.{IsJsonLine}
-use Rattle.mdmp_tool.specs.JsonLines.{item_object, verdict_object}
+use Rattle.mdmp_print.specs.JsonLines.{item_object, verdict_object}
 use Rattle.mdmp_tool.proofs.JsonObjects.{at4, at8, item-line, stream-line, verdict-line}
 use Rattle.mdmp_tool.proofs.JsonReads.{IsTold}
 use Rattle.mdmp_tool.proofs.JsonStrings.{array-bytes}

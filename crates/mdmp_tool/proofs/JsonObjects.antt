@@ -29,7 +29,7 @@ use Rattle.mdmp_lister.specs.declared.kind.StreamKind.TheVariants as kinds
 use Rattle.mdmp_lister.specs.declared.name.Name.{Name}
 use Rattle.mdmp_lister.specs.declared.verdict.Verdict.{Verdict}
 use Rattle.mdmp_tool.specs.JsonLaws.{IsJsonLine}
-use Rattle.mdmp_tool.specs.JsonLines.{dump_members, dump_object, exception_members, item_object, module_members, pdb_members, pdb_object, range_members, region_members, stream_members, system_members, thread_members, thread_name_members, unloaded_members, verdict_members, verdict_object}
+use Rattle.mdmp_print.specs.JsonLines.{dump_members, dump_object, exception_members, item_object, module_members, pdb_members, pdb_object, range_members, region_members, stream_members, system_members, thread_members, thread_name_members, unloaded_members, verdict_members, verdict_object}
 use Rattle.mdmp_tool.proofs.JsonPlain.{bytes-plain, debug_id-plain, four-plain, guid-plain, three-plain}
 use Rattle.mdmp_tool.proofs.JsonReads.{IsTold, ◌&◌, is_line, number, of-bytes, of-hex, of-name, of-values, of-verdict, part, plain, placed-wide, stack, truth, wide, words}
 use Rattle.mdmp_tool.proofs.JsonStrings.{array-bytes}

@@ -9,9 +9,9 @@ use Rattle.std.proofs.lemmas.Str.{IsUtf8-from_ascii}
 use Rattle.std.proofs.Common.{ltb-true}
 use Rattle.uuid.specs.Text.{by_index, digit_place, hex_digit, hyphen, hyphenated_text, is_hyphen_place, lower, nibble, simple_text, upper}
 use Rattle.mdmp_wire.specs.Digits.{hex}
-use Rattle.mdmp_tool.specs.Json.{prefixed_hex}
-use Rattle.mdmp_tool.specs.JsonLines.{point}
-use Rattle.mdmp_tool.specs.PdbLines.{debug_id, digits_text}
+use Rattle.mdmp_print.specs.Json.{prefixed_hex}
+use Rattle.mdmp_print.specs.JsonLines.{point}
+use Rattle.mdmp_print.specs.PdbLines.{debug_id, digits_text}
 
 -- a character of ASCII that is printed
 abbrev pub IsPlain : ℕ → Type 0

@@ -18,16 +18,16 @@ use Rattle.mdmp_lister.specs.Format.Listing.{listing, verdicts}
 use Rattle.mdmp_lister.specs.Format.Refusal.{opening_fault}
 use Rattle.mdmp_tool.specs.CheckText.{check_text}
 use Rattle.mdmp_tool.specs.Engines.{unless_refused}
-use Rattle.mdmp_tool.specs.Forms.{dump_line_in}
-use Rattle.mdmp_tool.specs.Json.{object_line}
+use Rattle.mdmp_print.specs.Forms.{dump_line_in}
+use Rattle.mdmp_print.specs.Json.{object_line}
 use Rattle.mdmp_tool.specs.JsonLaws.{AreJsonLines, IsJsonLine, check_objects, item_objects, list_objects, objects_unless_refused, symbols_objects}
-use Rattle.mdmp_tool.specs.JsonLines.{dump_object, item_object, verdict_object}
+use Rattle.mdmp_print.specs.JsonLines.{dump_object, item_object, verdict_object}
 use Rattle.mdmp_tool.specs.Symbols.{inside_only, symbols_of}
 use Rattle.mdmp_tool.specs.Text.{item_lines, list_text, symbols_text}
 use Rattle.mdmp_tool.specs.declared.list.ModuleSymbols.{ModuleSymbols}
 use Rattle.mdmp_tool.proofs.JsonListings.{HasSmallSymbols, IsPrinted, listing-printed, verdicts-lines}
 use Rattle.mdmp_tool.proofs.JsonObjects.{dump-line, pdb-line}
-use Rattle.mdmp_words.specs.declared.request.LineForm.TheVariants.{Json}
+use Rattle.mdmp_print.specs.declared.form.LineForm.TheVariants.{Json}
 
 -- ---- lines of objects
 

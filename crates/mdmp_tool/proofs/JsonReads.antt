@@ -16,10 +16,10 @@ use Rattle.mdmp_wire.specs.Units.{units_in, utf8_of}
 use Rattle.mdmp_lister.specs.declared.name.Name.{Name}
 use Rattle.mdmp_lister.specs.declared.name.Name.TheVariants.{Units, Long}
 use Rattle.mdmp_lister.specs.declared.name.Name.TheVariants as names
-use Rattle.mdmp_tool.specs.Json.{bytes_value, hex_string, joined_members, lossy_member, name_value, object, of_hex, of_number, of_object, of_text, of_wide, part_members, prefixed_hex, spelled, values_of}
+use Rattle.mdmp_print.specs.Json.{bytes_value, hex_string, joined_members, lossy_member, name_value, object, of_hex, of_number, of_object, of_text, of_wide, part_members, prefixed_hex, spelled, values_of}
 use Rattle.mdmp_tool.specs.JsonLaws.{IsJsonLine}
-use Rattle.mdmp_tool.specs.JsonLines.{fault_value, record_member}
-use Rattle.mdmp_tool.specs.Faults.{kind_words}
+use Rattle.mdmp_print.specs.JsonLines.{fault_value, record_member}
+use Rattle.mdmp_print.specs.FaultWords.{kind_words}
 use Rattle.mdmp_lister.specs.declared.fault.ListFault.{ListFault}
 use Rattle.mdmp_source.specs.Store.{AreBytes}
 use Rattle.mdmp_lister.specs.declared.fault.FaultKind.{FaultKind}

@@ -10,10 +10,10 @@ use Rattle.mdmp_tool.specs.declared.fault.ToolFault.{ToolFault}
 use Rattle.mdmp_tool.specs.declared.fault.ToolFault.TheVariants.{List as BadList, Source, Budget, AsideLimit, Out}
 use Rattle.mdmp_tool.proofs.Engining.{cause_from}
 use Rattle.mdmp_tool.specs.Engines.{IsBehind, Leaves, WritesText, up_to_a_fault}
-use Rattle.mdmp_tool.specs.Forms.{dump_line_in}
+use Rattle.mdmp_print.specs.Forms.{dump_line_in}
 use Rattle.mdmp_tool.specs.Text.{run_text}
 use Rattle.mdmp_tool.specs.Runs.{ListEnds, ListsRun, ListsFile}
-use Rattle.mdmp_words.specs.declared.request.LineForm.{LineForm}
+use Rattle.mdmp_print.specs.declared.form.LineForm.{LineForm}
 
 WritesText-behind : (pdb : Bool) (limit : ℕ) (run : Run) (head text : List ℕ) (before now after : OutState) (r : Result (Unit {0}) ToolFault) → ListEnds pdb limit run r
     → PutsAll before head now → WritesText up_to_a_fault text now r after → WritesText up_to_a_fault (head ++ text) before r after

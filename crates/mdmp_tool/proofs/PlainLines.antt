@@ -7,14 +7,14 @@ use Rattle.mdmp_lister.specs.declared.item.Item.{Item}
 use Rattle.mdmp_lister.specs.declared.item.Item.TheVariants as items
 use Rattle.mdmp_lister.specs.Format.Item.{plain}
 use Rattle.mdmp_lister.specs.Format.Name.{plain_name}
-use Rattle.mdmp_tool.specs.Forms.{item_line_in}
-use Rattle.mdmp_tool.specs.ItemLines.{name_text, item_line}
-use Rattle.mdmp_tool.specs.Json.{name_value, object_line}
-use Rattle.mdmp_tool.specs.JsonLines.{item_object}
+use Rattle.mdmp_print.specs.Forms.{item_line_in}
+use Rattle.mdmp_print.specs.ItemLines.{name_text, item_line}
+use Rattle.mdmp_print.specs.Json.{name_value, object_line}
+use Rattle.mdmp_print.specs.JsonLines.{item_object}
 use Rattle.mdmp_tool.specs.Symbols.{symbols_of}
 use Rattle.mdmp_tool.specs.Text.{item_lines}
-use Rattle.mdmp_words.specs.declared.request.LineForm.{LineForm}
-use Rattle.mdmp_words.specs.declared.request.LineForm.TheVariants.{Text, Json}
+use Rattle.mdmp_print.specs.declared.form.LineForm.{LineForm}
+use Rattle.mdmp_print.specs.declared.form.LineForm.TheVariants.{Text, Json}
 
 name_text-plain : (n : Name) → name_text (plain_name n) ≡ name_text n
 name_text-plain (Units units) = refl

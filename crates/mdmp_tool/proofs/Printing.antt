@@ -15,7 +15,7 @@ use Rattle.mdmp_tool.specs.declared.fault.ToolFault.{ToolFault}
 use Rattle.mdmp_tool.specs.declared.fault.ToolFault.TheVariants.{List as BadList, Source, Budget, AsideLimit, Out}
 use Rattle.mdmp_tool.specs.Runs.{ListsNext, ListsRun}
 use Rattle.mdmp_tool.specs.Text.{item_lines, next_lines, run_text}
-use Rattle.mdmp_words.specs.declared.request.LineForm.{LineForm}
+use Rattle.mdmp_print.specs.declared.form.LineForm.{LineForm}
 
 -- what is printed next with names up to the limit of a run
 pub next_within : (form : LineForm) (pdb : Bool) (F : List ℕ) (a b : ℕ) (left : Run) (before : OutState) (r : Result Bool ToolFault) (after : OutState) → a ≡ b

@@ -11,8 +11,8 @@ use Rattle.mdmp_lister.specs.Format.Listing.{entries_from, only_chosen}
 use Rattle.mdmp_lister.specs.Format.Name.{name_at}
 use Rattle.mdmp_lister.specs.Format.Shape.{shape_of}
 use Rattle.mdmp_tool.specs.Text.{list_text}
-use Rattle.mdmp_words.specs.declared.request.LineForm.TheVariants.{Text}
-use Rattle.mdmp_tool.proofs.PdbRows.{codeview_bytes}
+use Rattle.mdmp_print.specs.declared.form.LineForm.TheVariants.{Text}
+use Rattle.mdmp_print.proofs.PdbRows.{codeview_bytes}
 
 -- a header of so many streams, whose directory stands at an offset
 abbrev head : ℕ → ℕ → List ℕ

@@ -32,13 +32,13 @@ use Rattle.mdmp_tool.specs.declared.fault.ToolFault.{ToolFault}
 use Rattle.mdmp_tool.specs.declared.fault.ToolFault.TheVariants.{List as BadList, Source, Budget, AsideLimit, Out}
 use Rattle.mdmp_tool.specs.Causes.{HasSourceCause}
 use Rattle.mdmp_tool.specs.Engines.{EndsAtFault, IsBehind, Leaves, Pace, UnlessEarly, up_to_a_fault}
-use Rattle.mdmp_tool.specs.Forms.{item_line_in}
+use Rattle.mdmp_print.specs.Forms.{item_line_in}
 use Rattle.mdmp_tool.specs.Runs.{IsBehindNext, ListsNext, PutsSymbols}
 use Rattle.mdmp_tool.specs.Telling.{listing_told, told_by}
 use Rattle.mdmp_tool.specs.Symbols.{IsRecordAt, inside_only, symbols_of}
 use Rattle.mdmp_tool.specs.Text.{item_lines, next_lines, symbols_text}
 use Rattle.mdmp_tool.specs.declared.list.ModuleSymbols.{ModuleSymbols}
-use Rattle.mdmp_words.specs.declared.request.LineForm.{LineForm}
+use Rattle.mdmp_print.specs.declared.form.LineForm.{LineForm}
 use Rattle.mdmp_tool.proofs.Checking.{told-cause}
 use Rattle.mdmp_tool.proofs.Engining.{StopsShort-nothing, cause_from}
 use Rattle.mdmp_tool.proofs.PlainLines.{item_lines-plain, symbols_of-plain}

@@ -2,7 +2,7 @@
 use Rattle.std.proofs.Common.{◌⊎◌, ℕ, List, inl, inr}
 use Rattle.std.specs.Prelude.{Result, Ok, Err}
 use Rattle.mdmp_source.specs.Output.{OutState, Puts, PutsAll, PutsPrefix}
-use Rattle.mdmp_tool.specs.Lines.{error_line}
+use Rattle.mdmp_print.specs.Lines.{error_line}
 use Rattle.mdmp_tool.specs.Commands.{IsLineTold}
 
 -- a text went out, or a first part of it

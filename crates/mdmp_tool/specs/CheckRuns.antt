@@ -9,8 +9,8 @@ use Rattle.mdmp_tool.specs.declared.fault.ToolFault.{ToolFault}
 use Rattle.mdmp_tool.specs.declared.fault.ToolFault.TheVariants.{Source, Budget, Out}
 use Rattle.mdmp_tool.specs.CheckText.{bad_count, check_text, fault_count}
 use Rattle.mdmp_tool.specs.Engines.{Runs, RunsThrough, past_faults}
-use Rattle.mdmp_tool.specs.Forms.{verdict_line_in}
-use Rattle.mdmp_words.specs.declared.request.LineForm.{LineForm}
+use Rattle.mdmp_print.specs.Forms.{verdict_line_in}
+use Rattle.mdmp_print.specs.declared.form.LineForm.{LineForm}
 
 -- the line of a verdict was put, and a bad entry counted; or the output refused
 pub record PutsVerdict (form : LineForm) (before : OutState) (bad_before : ℕ) (v : Verdict) (after : OutState) (bad_after : ℕ) : Type 0 where

@@ -8,8 +8,8 @@ use Rattle.mdmp_lister.specs.declared.verdict.Verdict.{Verdict}
 use Rattle.mdmp_lister.specs.Format.Listing.{verdicts}
 use Rattle.mdmp_lister.specs.Format.Refusal.{opening_fault}
 use Rattle.mdmp_tool.specs.Engines.{unless_refused}
-use Rattle.mdmp_tool.specs.Forms.{verdict_line_in}
-use Rattle.mdmp_words.specs.declared.request.LineForm.{LineForm}
+use Rattle.mdmp_print.specs.Forms.{verdict_line_in}
+use Rattle.mdmp_print.specs.declared.form.LineForm.{LineForm}
 
 abbrev pub verdict_lines : LineForm → List Verdict → List ℕ
 verdict_lines form vs = flat_map (verdict_line_in form) vs

@@ -14,7 +14,7 @@ use Rattle.mdmp_tool.specs.Copying.{Copies, SpendsCopy, SpendsWithin, TellsCopyB
 use Rattle.mdmp_tool.specs.Engines.{IsReadThrough, Pace, ReadsSource, Tells, at_the_end, in_blocks, past_faults, up_to_a_fault, Access, check_access, hex_access, list_access}
 use Rattle.mdmp_tool.specs.Faults.{fault_text, exit_status}
 use Rattle.mdmp_tool.specs.HexRuns.{HexesThrough}
-use Rattle.mdmp_tool.specs.Lines.{error_line}
+use Rattle.mdmp_print.specs.Lines.{error_line}
 use Rattle.mdmp_tool.specs.Runs.{ListsThrough}
 
 -- ---- what is told of an answer

@@ -9,7 +9,7 @@ use Rattle.mdmp_lister.specs.Format.Ranges.{ranges_of}
 use Rattle.mdmp_tool.specs.declared.fault.ToolFault.{ToolFault}
 use Rattle.mdmp_tool.specs.declared.fault.ToolFault.TheVariants.{List as BadList, Source, Budget, Out, Memory}
 use Rattle.mdmp_tool.specs.Engines.{Runs, RunsThrough, WritesText, at_the_end, unless_refused}
-use Rattle.mdmp_tool.specs.HexText.{hex_text}
+use Rattle.mdmp_print.specs.HexText.{hex_text}
 
 -- the text of so many addresses by some ranges was written; where the store failed nothing was
 abbrev pub HexesMemory : List ℕ → List Range → ℕ → ℕ → OutState → Result (Unit {0}) ToolFault → OutState → Type 0

@@ -13,8 +13,8 @@ use Rattle.mdmp_lister.specs.declared.fault.OpenFault.{OpenFault}
 use Rattle.mdmp_lister.specs.declared.item.Item.{Item}
 use Rattle.mdmp_lister.specs.Format.Listing.{listing, verdicts}
 use Rattle.mdmp_lister.specs.Format.Refusal.{opening_fault}
-use Rattle.mdmp_tool.specs.Json.{object_line}
-use Rattle.mdmp_tool.specs.JsonLines.{dump_object, item_object, pdb_object, verdict_object}
+use Rattle.mdmp_print.specs.Json.{object_line}
+use Rattle.mdmp_print.specs.JsonLines.{dump_object, item_object, pdb_object, verdict_object}
 use Rattle.mdmp_tool.specs.Symbols.{symbols_of}
 use Rattle.mdmp_tool.specs.declared.list.ModuleSymbols.{ModuleSymbols}
 

@@ -10,8 +10,8 @@ use Rattle.mdmp_tool.specs.declared.fault.ToolFault.{ToolFault}
 use Rattle.mdmp_tool.specs.declared.fault.ToolFault.TheVariants.{List as BadList, Source, Budget, AsideLimit, Out}
 use Rattle.mdmp_wire.specs.declared.header.Header.{Header}
 use Rattle.mdmp_tool.specs.Engines.{Runs, RunsThrough, StopsShort, WritesText, up_to_a_fault}
-use Rattle.mdmp_tool.specs.Forms.{dump_line_in}
-use Rattle.mdmp_words.specs.declared.request.LineForm.{LineForm}
+use Rattle.mdmp_print.specs.Forms.{dump_line_in}
+use Rattle.mdmp_print.specs.declared.form.LineForm.{LineForm}
 use Rattle.mdmp_tool.specs.Symbols.{IsRecordAmong, IsRecordAt, symbols_bytes}
 use Rattle.mdmp_tool.specs.declared.list.ModuleSymbols.{ModuleSymbols}
 use Rattle.mdmp_tool.specs.Text.{run_text, list_text, next_lines}

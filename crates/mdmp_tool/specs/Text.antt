@@ -8,10 +8,10 @@ use Rattle.mdmp_lister.specs.declared.item.Item.{Item}
 use Rattle.mdmp_lister.specs.Format.Listing.{Run, listing}
 use Rattle.mdmp_lister.specs.Format.Refusal.{opening_fault}
 use Rattle.mdmp_tool.specs.Engines.{unless_refused}
-use Rattle.mdmp_tool.specs.Forms.{dump_line_in, item_line_in, pdb_line_in}
+use Rattle.mdmp_print.specs.Forms.{dump_line_in, item_line_in, pdb_line_in}
 use Rattle.mdmp_tool.specs.Symbols.{symbols_of}
 use Rattle.mdmp_tool.specs.declared.list.ModuleSymbols.{ModuleSymbols}
-use Rattle.mdmp_words.specs.declared.request.LineForm.{LineForm}
+use Rattle.mdmp_print.specs.declared.form.LineForm.{LineForm}
 
 -- the line of a CodeView record of F, of whose name at most `limit` bytes are fetched
 abbrev pub symbols_text : LineForm → List ℕ → ℕ → Option ModuleSymbols → List ℕ

@@ -12,19 +12,19 @@ use crate::engine::{RunAnswered, run_in_blocks};
 use crate::hex::HexEngine;
 use crate::list::ListEngine;
 use mdmp_lister::Limits;
-use mdmp_source::{BlockOut, Out, Source, Store};
-use mdmp_words::LineForm;
+use mdmp_print::{LineForm, LineOut};
+use mdmp_source::{Out, Source, Store};
 use std::alloc::Allocator;
 
 /// Does what `check_source` does, by few writes: the lines reach the inner output in blocks, and what
 /// is pending at the end, or before a fault, is flushed. Where the inner output refuses a block, the
 /// last one too, the answer is the output's fault.
-pub fn check_in_blocks<S: Store + Drop, A: Allocator + Copy, O: Out, B: Allocator>(
+pub fn check_in_blocks<S: Store + Drop, A: Allocator + Copy, O: Out>(
     alloc: A,
     source: Source<S>,
     limits: Limits,
     form: LineForm,
-    blocks: &mut BlockOut<O, B>,
+    blocks: &mut LineOut<'_, O>,
 ) -> RunAnswered<u64, S>
     requires { blocks.old.pending ≡ [] }
     ensures checks { (file : List ℕ) → source.store.content ≡ Some file → ChecksThrough form file limits.name blocks.old.inner result.answer blocks.new.inner }
@@ -39,13 +39,13 @@ pub fn check_in_blocks<S: Store + Drop, A: Allocator + Copy, O: Out, B: Allocato
 /// Does what `list_source` does, by few writes: the lines reach the inner output in blocks, and what
 /// is pending at the end, or before a fault, is flushed. Where the inner output refuses a block, the
 /// last one too, the answer is the output's fault.
-pub fn list_in_blocks<S: Store + Drop, A: Allocator + Copy, O: Out, B: Allocator>(
+pub fn list_in_blocks<S: Store + Drop, A: Allocator + Copy, O: Out>(
     alloc: A,
     source: Source<S>,
     limits: Limits,
     form: LineForm,
     pdb: bool,
-    blocks: &mut BlockOut<O, B>,
+    blocks: &mut LineOut<'_, O>,
 ) -> RunAnswered<(), S>
     requires { blocks.old.pending ≡ [] }
     ensures lists { (file : List ℕ) → source.store.content ≡ Some file → ListsThrough form pdb file limits.name blocks.old.inner result.answer blocks.new.inner }
@@ -67,13 +67,13 @@ pub fn list_in_blocks<S: Store + Drop, A: Allocator + Copy, O: Out, B: Allocator
 /// Does what `hex_source` does, by few writes: the lines reach the inner output in blocks, and what
 /// is pending at the end is flushed. Where the inner output refuses a block, the last one too, the
 /// answer is the output's fault.
-pub fn hex_in_blocks<S: Store + Drop, A: Allocator + Copy, O: Out, B: Allocator>(
+pub fn hex_in_blocks<S: Store + Drop, A: Allocator + Copy, O: Out>(
     alloc: A,
     source: Source<S>,
     limits: Limits,
     address: u64,
     length: u32,
-    blocks: &mut BlockOut<O, B>,
+    blocks: &mut LineOut<'_, O>,
 ) -> RunAnswered<(), S>
     requires none { blocks.old.pending ≡ [] }
     requires within { address + length ≤ address_end }

@@ -9,10 +9,9 @@ ghost use Rattle.mdmp_tool.specs.Engines.{IsOpened, IsSameRun, IsReadThrough, Ke
 
 use crate::engine::{Engine, RunAnswered, run, run_source};
 use crate::fault::{ToolFault, told_list};
-use crate::forms::put_verdict;
 use mdmp_lister::{Choice, Limits, Lister, RunFault, Stopped, Verdict, VerdictSink};
+use mdmp_print::{LineForm, Printer, print_verdict};
 use mdmp_source::{Out, OutFailed, Source, Store};
-use mdmp_words::LineForm;
 use std::alloc::Allocator;
 
 /// Reads all entries of a file, and prints a line in this form for each: that it is good, or its first
@@ -94,7 +93,7 @@ impl Engine for CheckEngine {
         0
     }
 
-    fn put<S: Store + Drop, A: Allocator + Copy, O: Out>(
+    fn put<S: Store + Drop, A: Allocator + Copy, O: Printer>(
         &self,
         alloc: A,
         lister: &mut Lister<S, A>,
@@ -111,7 +110,7 @@ impl Engine for CheckEngine {
 }
 
 /// Prints the lines of all entries, and answers how many are bad.
-fn check_listed<S: Store + Drop, A: Allocator + Copy, O: Out>(
+fn check_listed<S: Store + Drop, A: Allocator + Copy, O: Printer>(
     lister: &mut Lister<S, A>,
     lines: &mut VerdictLines<'_, O>,
 ) -> Result<u64, ToolFault>
@@ -138,13 +137,13 @@ fn check_listed<S: Store + Drop, A: Allocator + Copy, O: Out>(
 
 /// A sink that prints a line for each verdict, and counts the bad entries.
 #[derive(Drop)]
-struct VerdictLines<'a, O: Out> {
+struct VerdictLines<'a, O: Printer> {
     out: &'a mut O,
     form: LineForm,
     bad: u64,
 }
 
-impl<'a, O: Out> VerdictSink for VerdictLines<'a, O> {
+impl<'a, O: Printer> VerdictSink for VerdictLines<'a, O> {
     ghost use Rattle.std.specs.Prelude.{◌≡◌};
     ghost use Rattle.mdmp_tool.specs.CheckRuns.{TakesVerdict};
 
@@ -152,7 +151,7 @@ impl<'a, O: Out> VerdictSink for VerdictLines<'a, O> {
         × TakesVerdict old.form (O.state old.out.now) old.bad verdict result (O.state new.out.now) new.bad) };
 
     fn take(&mut self, verdict: &Verdict) -> Result<(), Stopped> {
-        match put_verdict(self.form, verdict, self.out) {
+        match print_verdict(self.form, verdict, self.out) {
             Ok(()) => {}
             Err(OutFailed) => return Err(Stopped),
         }

@@ -8,7 +8,8 @@ ghost use Rattle.mdmp_tool.specs.Engines.{EndsFlushed, IsFlushed, IsReadThrough,
 
 use crate::fault::{ToolFault, told_opening};
 use mdmp_lister::{Choice, Limits, Lister, OpenFault};
-use mdmp_source::{BlockOut, Out, OutFailed, Source, Store};
+use mdmp_print::{LineOut, Printer};
+use mdmp_source::{Out, OutFailed, Source, Store};
 use std::alloc::Allocator;
 
 /// What a run answered, and the source that it read.
@@ -64,7 +65,7 @@ pub(crate) trait Engine: Copy {
         ensures { result ≡ held self.now };
 
     /// Prints what there is to print of a file that was opened.
-    fn put<S: Store + Drop, A: Allocator + Copy, O: Out>(
+    fn put<S: Store + Drop, A: Allocator + Copy, O: Printer>(
         &self,
         alloc: A,
         lister: &mut Lister<S, A>,
@@ -84,7 +85,7 @@ pub(crate) trait Engine: Copy {
 }
 
 /// Runs a command over a store.
-pub(crate) fn run<E: Engine, S: Store + Drop, A: Allocator + Copy, O: Out>(
+pub(crate) fn run<E: Engine, S: Store + Drop, A: Allocator + Copy, O: Printer>(
     engine: E,
     alloc: A,
     store: S,
@@ -114,7 +115,7 @@ pub(crate) fn run<E: Engine, S: Store + Drop, A: Allocator + Copy, O: Out>(
 /// Runs a command over a source, and hands it back.
 ///
 /// The file is opened before the first touch of the output.
-pub(crate) fn run_source<E: Engine, S: Store + Drop, A: Allocator + Copy, O: Out>(
+pub(crate) fn run_source<E: Engine, S: Store + Drop, A: Allocator + Copy, O: Printer>(
     engine: E,
     alloc: A,
     source: Source<S>,
@@ -168,12 +169,12 @@ fn refused_beside(fault: OpenFault, beside: u64) -> ToolFault
 }
 
 /// Runs a command over a source through blocks, and writes what is pending at the end.
-pub(crate) fn run_in_blocks<E: Engine, S: Store + Drop, A: Allocator + Copy, O: Out, B: Allocator>(
+pub(crate) fn run_in_blocks<E: Engine, S: Store + Drop, A: Allocator + Copy, O: Out>(
     engine: E,
     alloc: A,
     source: Source<S>,
     limits: Limits,
-    blocks: &mut BlockOut<O, B>,
+    blocks: &mut LineOut<'_, O>,
 ) -> RunAnswered<E::Answer, S>
     requires can { E.can_put engine }
     requires none { blocks.old.pending ≡ [] }
@@ -191,9 +192,9 @@ pub(crate) fn run_in_blocks<E: Engine, S: Store + Drop, A: Allocator + Copy, O: 
 
 /// Writes what is pending after a run, and answers what the run did, or the output's fault where the
 /// inner output refuses.
-fn flushed<T: Copy, S: Store + Drop, O: Out, B: Allocator>(
+fn flushed<T: Copy, S: Store + Drop, O: Out>(
     answered: RunAnswered<T, S>,
-    blocks: &mut BlockOut<O, B>,
+    blocks: &mut LineOut<'_, O>,
 ) -> RunAnswered<T, S>
     ensures ends { EndsFlushed answered.answer result.answer blocks.old.inner blocks.new.inner }
     ensures moved { MovesFront blocks.old.inner blocks.old.pending blocks.new.inner blocks.new.pending }

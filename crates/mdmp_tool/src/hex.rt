@@ -9,8 +9,8 @@ ghost use Rattle.mdmp_words.specs.NumberWords.{length_limit};
 
 use crate::engine::{Engine, RunAnswered, run, run_source};
 use crate::fault::{ToolFault, told_list};
-use crate::hex_lines::put_hex_lines;
 use mdmp_lister::{Choice, Limits, Lister};
+use mdmp_print::{Printer, print_hex_lines};
 use mdmp_source::{Out, OutFailed, Source, Store};
 use std::alloc::Allocator;
 
@@ -99,7 +99,7 @@ impl Engine for HexEngine {
         2 * u64::from(self.length)
     }
 
-    fn put<S: Store + Drop, A: Allocator + Copy, O: Out>(
+    fn put<S: Store + Drop, A: Allocator + Copy, O: Printer>(
         &self,
         alloc: A,
         lister: &mut Lister<S, A>,
@@ -110,7 +110,7 @@ impl Engine for HexEngine {
 }
 
 /// Lists the ranges that are left, and prints the bytes of some addresses by them.
-fn hex_listed<S: Store + Drop, A: Allocator + Copy, O: Out>(
+fn hex_listed<S: Store + Drop, A: Allocator + Copy, O: Printer>(
     alloc: A,
     lister: &mut Lister<S, A>,
     address: u64,
@@ -142,7 +142,7 @@ fn hex_listed<S: Store + Drop, A: Allocator + Copy, O: Out>(
 }
 
 /// Reads memory by the ranges that were listed into two buffers, and prints it.
-fn put_memory<S: Store + Drop, A: Allocator + Copy, O: Out>(
+fn put_memory<S: Store + Drop, A: Allocator + Copy, O: Printer>(
     lister: &mut Lister<S, A>,
     address: u64,
     bytes: &mut [u8],
@@ -163,7 +163,7 @@ fn put_memory<S: Store + Drop, A: Allocator + Copy, O: Out>(
         Ok(()) => {}
         Err(fault) => return Err(ToolFault::Source(fault)),
     }
-    match put_hex_lines(out, address, bytes, known) {
+    match print_hex_lines(out, address, bytes, known) {
         Ok(()) => Ok(()),
         Err(OutFailed) => Err(ToolFault::Out),
     }

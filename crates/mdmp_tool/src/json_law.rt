@@ -7,11 +7,11 @@ ghost use Rattle.mdmp_lister.specs.declared.choice.Choice.{Choice};
 ghost use Rattle.mdmp_lister.specs.declared.item.Item.{Item};
 ghost use Rattle.mdmp_lister.specs.Format.Listing.{listing};
 ghost use Rattle.mdmp_tool.specs.CheckText.{check_text};
-ghost use Rattle.mdmp_tool.specs.Forms.{dump_line_in};
+ghost use Rattle.mdmp_print.specs.Forms.{dump_line_in};
 ghost use Rattle.mdmp_tool.specs.JsonLaws.{AreJsonLines, list_objects, check_objects, item_objects};
-ghost use Rattle.mdmp_tool.specs.JsonLines.{dump_object};
+ghost use Rattle.mdmp_print.specs.JsonLines.{dump_object};
 ghost use Rattle.mdmp_tool.specs.Text.{list_text, item_lines};
-ghost use Rattle.mdmp_words.specs.declared.request.LineForm.TheVariants.{Json};
+ghost use Rattle.mdmp_print.specs.declared.form.LineForm.TheVariants.{Json};
 
 /// What `list` and `check` print for programs is JSON Lines, of every file of bytes: the text of one
 /// object after the other, each with a line feed behind it. That text is UTF-8, no byte of it is a line

@@ -12,41 +12,24 @@
 //! types as a file of its own, a first part of it where the output refuses or the store fails, or
 //! nothing.
 //! A [`LineForm`] says whether the lines of `list` and `check` are words or objects of JSON
-//! (`specs/JsonLines.antt`); all else is the same. [`objects_are_json_texts`] is the law that of any
+//! (`specs/JsonLines.antt` of mdmp_print); all else is the same. [`objects_are_json_texts`] is the law that of any
 //! file these objects are JSON Lines: each is a line of UTF-8 that reads back as it.
 //! A [`ToolFault`] has the exit status of [`status`] and the line of [`fault_line`].
 #![tactic(auto)]
 
 mod blocks;
-mod buffer_lines;
-mod buffer_objects;
 mod check;
 mod copy;
-mod digits;
 mod engine;
 mod fault;
 mod fault_lines;
 mod fault_words;
-mod forms;
 mod hex;
-mod hex_lines;
-mod in_buffer;
-mod item_lines;
 mod json_law;
-mod json_lines;
-mod json_pdb_lines;
-mod json_pieces;
-mod json_strings;
-mod json_verdict_lines;
-mod line;
-mod lines;
 mod list;
-mod pdb_lines;
-mod pieces;
 mod program;
 mod running;
 mod standing;
-mod verdict_lines;
 mod words;
 
 pub use crate::blocks::{check_in_blocks, hex_in_blocks, list_in_blocks};
@@ -55,7 +38,6 @@ pub use crate::copy::{copied, copy_source, run_copy};
 pub use crate::engine::RunAnswered;
 pub use crate::fault::{ToolFault, status};
 pub use crate::fault_lines::fault_line;
-pub use crate::forms::put_dump;
 pub use crate::hex::{hex_source, run_hex};
 pub use crate::json_law::objects_are_json_texts;
 pub use crate::list::{list_next, list_source, run_list};
@@ -65,5 +47,6 @@ pub use crate::standing::what_is_copied_stands;
 pub use crate::words::{run_on_disk, run_words};
 pub use mdmp_dump::{PartName, ReadFault};
 pub use mdmp_lister::{FaultKind, Limits, ListFault, OpenFault, TypeSet};
-pub use mdmp_words::{Asked, Command, LineForm, Print, Request, Span, request_of};
+pub use mdmp_print::{LINE_ROOM, LineForm, LineOut, Printer, print_dump};
+pub use mdmp_words::{Asked, Command, Print, Request, Span, request_of};
 pub use mdmp_writer::LayoutFault;

@@ -12,11 +12,9 @@ ghost use Rattle.mdmp_tool.specs.Text.{symbols_text};
 
 use crate::engine::{Engine, RunAnswered, run, run_source};
 use crate::fault::{ToolFault, told_list};
-use crate::forms::{put_dump, put_item, put_pdb};
-use crate::json_pdb_lines::ModulePlace;
 use mdmp_lister::{Choice, Item, Limits, Lister};
+use mdmp_print::{LineForm, ModulePlace, Printer, print_dump, print_item, print_symbols};
 use mdmp_source::{Extent, Location, Out, OutFailed, Source, Store};
-use mdmp_words::LineForm;
 use std::alloc::Allocator;
 
 /// Prints what a file holds: a line for its header, and one for each item of its listing, up to the
@@ -81,7 +79,7 @@ impl Engine for ListEngine {
     ghost use Rattle.mdmp_lister.specs.declared.choice.Choice.TheVariants.{All};
     ghost use Rattle.mdmp_lister.specs.Format.Listing.{listing};
     ghost use Rattle.mdmp_tool.specs.Engines.{list_beside, up_to_a_fault};
-    ghost use Rattle.mdmp_tool.specs.Forms.{dump_line_in};
+    ghost use Rattle.mdmp_print.specs.Forms.{dump_line_in};
     ghost use Rattle.mdmp_tool.specs.Runs.{ListEnds};
     ghost use Rattle.mdmp_tool.specs.Text.{run_text};
 
@@ -111,7 +109,7 @@ impl Engine for ListEngine {
         0
     }
 
-    fn put<S: Store + Drop, A: Allocator + Copy, O: Out>(
+    fn put<S: Store + Drop, A: Allocator + Copy, O: Printer>(
         &self,
         alloc: A,
         lister: &mut Lister<S, A>,
@@ -123,7 +121,7 @@ impl Engine for ListEngine {
 }
 
 /// Prints the line of the header, and those of the items that are left.
-fn put_listing<S: Store + Drop, A: Allocator + Copy, O: Out>(
+fn put_listing<S: Store + Drop, A: Allocator + Copy, O: Printer>(
     lister: &mut Lister<S, A>,
     form: LineForm,
     pdb: bool,
@@ -141,14 +139,14 @@ fn put_listing<S: Store + Drop, A: Allocator + Copy, O: Out>(
     ensures read { ReadsLeft pdb lister.old lister.new }
     ensures names { (left : Run) → lister.old.left ≡ Some left → lister.new.counts.names ≤ lister.old.counts.names + names_of_all left.items + 1 }
 {
-    if let Err(OutFailed) = put_dump(form, &lister.header(), out) {
+    if let Err(OutFailed) = print_dump(form, &lister.header(), out) {
         return Err(ToolFault::Out);
     }
     list_items(lister, form, pdb, aside, out)
 }
 
 /// Prints the lines of the items that are left.
-fn list_items<S: Store + Drop, A: Allocator + Copy, O: Out>(
+fn list_items<S: Store + Drop, A: Allocator + Copy, O: Printer>(
     lister: &mut Lister<S, A>,
     form: LineForm,
     pdb: bool,
@@ -175,7 +173,7 @@ fn list_items<S: Store + Drop, A: Allocator + Copy, O: Out>(
 ///
 /// A fault of the listing or of the budget ends it with nothing printed, one of the store or the output may
 /// stand behind a first part of the lines.
-pub fn list_next<S: Store + Drop, A: Allocator + Copy, O: Out>(
+pub fn list_next<S: Store + Drop, A: Allocator + Copy, O: Printer>(
     lister: &mut Lister<S, A>,
     form: LineForm,
     pdb: bool,
@@ -195,13 +193,13 @@ pub fn list_next<S: Store + Drop, A: Allocator + Copy, O: Out>(
 {
     let symbols = match lister.next() {
         Ok(None) => return Ok(false),
-        Ok(Some(item)) => match put_item(form, &item, out) {
+        Ok(Some(item)) => match print_item(form, &item, out) {
             Ok(()) => symbols_of(pdb, &item),
             Err(OutFailed) => return Err(ToolFault::Out),
         },
         Err(fault) => return Err(told_list(fault)),
     };
-    put_symbols(lister, form, symbols, aside, out)?;
+    list_symbols(lister, form, symbols, aside, out)?;
     Ok(true)
 }
 
@@ -235,7 +233,7 @@ fn symbols_of(pdb: bool, item: &Item<'_>) -> Option<ModuleSymbols>
 }
 
 /// Prints the line of the CodeView record at a location, if there is one.
-fn put_symbols<S: Store + Drop, A: Allocator + Copy, O: Out>(
+fn list_symbols<S: Store + Drop, A: Allocator + Copy, O: Printer>(
     lister: &mut Lister<S, A>,
     form: LineForm,
     symbols: Option<ModuleSymbols>,
@@ -263,7 +261,7 @@ fn put_symbols<S: Store + Drop, A: Allocator + Copy, O: Out>(
         });
     }
     match lister.codeview(location) {
-        Ok(bytes) => match put_pdb(form, place, &bytes.read(), out) {
+        Ok(bytes) => match print_symbols(form, place, &bytes.read(), out) {
             Ok(()) => Ok(()),
             Err(OutFailed) => Err(ToolFault::Out),
         },

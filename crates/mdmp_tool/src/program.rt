@@ -5,8 +5,6 @@ ghost use Rattle.mdmp_source.specs.Output.{OutState};
 ghost use Rattle.mdmp_tool.specs.Program.{EndsGiven, EndsSomehow, EndsUnread, words_behind};
 
 use crate::fault::ToolFault;
-use crate::line::put_error_line;
-use crate::pieces::Piece;
 use crate::running::tell;
 use crate::words::{refuse_words, run_on_disk};
 use mdmp_disk::{Disk, SystemDisk};

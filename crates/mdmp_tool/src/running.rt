@@ -8,9 +8,9 @@ use crate::copy::copy_source;
 use crate::engine::RunAnswered;
 use crate::fault::{ToolFault, status};
 use crate::fault_lines::fault_line;
-use crate::verdict_lines::put_bad_entries;
 use mdmp_lister::{Limits, TypeSet};
-use mdmp_source::{BlockOut, Out, Source, Store};
+use mdmp_print::{LineOut, print_error, row};
+use mdmp_source::{Out, Source, Store};
 use mdmp_words::{Print, Span};
 use std::alloc::Allocator;
 
@@ -26,12 +26,12 @@ pub struct Ended<S: Store + Drop> {
 
 /// Prints what is asked for of a file, in blocks, and tells the line of a fault to `err`, or how many
 /// entries are bad. Where `err` refuses, the status is the same.
-pub fn print_told<S: Store + Drop, A: Allocator + Copy, O: Out, B: Allocator, E: Out>(
+pub fn print_told<S: Store + Drop, A: Allocator + Copy, O: Out, E: Out>(
     alloc: A,
     print: Print,
     source: Source<S>,
     limits: Limits,
-    blocks: &mut BlockOut<O, B>,
+    blocks: &mut LineOut<'_, O>,
     err: &mut E,
 ) -> Ended<S>
     requires within { IsPrintable print }
@@ -108,7 +108,7 @@ fn tell_check<E: Out>(answer: Result<u64, ToolFault>, err: &mut E) -> u8
     match answer {
         Ok(0) => 0,
         Ok(bad) => {
-            let _ = put_bad_entries(bad, err);
+            let _ = print_error(err, row![bad, b" bad entries"]);
             1
         }
         Err(fault) => tell::<u64, E>(Err(fault), err),

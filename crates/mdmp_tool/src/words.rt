@@ -1,5 +1,5 @@
 //! The words of the command line, run.
-ghost use Rattle.std.specs.Prelude.{codes, ◌≡◌, ◌⊎◌, ◌∷◌, []};
+ghost use Rattle.std.specs.Prelude.{codes, ◌≡◌, ◌≤◌, ◌⊎◌, ◌∷◌, []};
 ghost use Rattle.std.specs.List.{concat};
 ghost use Rattle.mdmp_source.specs.Output.{OutState};
 ghost use Rattle.mdmp_tool.specs.Commands.{IsLineTold};
@@ -10,12 +10,11 @@ ghost use Rattle.mdmp_tool.specs.Words.{EndsAsked, EndsCommand, EndsCopy, EndsPr
 
 use crate::copy::first_not_copied;
 use crate::fault::ToolFault;
-use crate::line::put_error_line;
-use crate::pieces::Piece;
 use crate::running::{copy_told, print_told, tell};
 use mdmp_disk::{Disk, SystemDisk};
 use mdmp_lister::{Limits, TypeSet};
-use mdmp_source::{BlockOut, Out, OutFailed, Source, write_all};
+use mdmp_print::{LineOut, print_error, print_error_named};
+use mdmp_source::{Out, OutFailed, Source, write_all};
 use mdmp_words::{Asked, Command, Print, Request, request_of};
 use std::alloc::{AllocGlobal, Allocator};
 use std::rt::Files;
@@ -129,12 +128,12 @@ fn print_file<D: Disk, A: Allocator + Copy, O: Out, E: Out>(
     ensures { EndsPrint print limits file.now (record { old = D.state disk.old; new = D.state disk.new }) (record { out = O.state out.old; err = E.state err.old }) result (record { out = O.state out.new; err = E.state err.new }) }
 {
     let Ok(store) = disk.open(file) else {
-        return refuse_name("cannot open ", file, err);
+        return refuse_name(b"cannot open ", file, err);
     };
-    let Ok(buffer) = Vec::with_capacity(alloc, BLOCK) else {
+    let Ok(mut buffer) = vec![in alloc; 0; BLOCK] else {
         return tell::<(), E>(Err(ToolFault::Memory), err);
     };
-    let mut blocks = BlockOut::over(buffer, out);
+    let mut blocks = LineOut::over(&mut buffer, out);
     let status = print_told(alloc, print, Source::new(store), limits, &mut blocks, err).status;
     // The loan comes back for the prover alone: what was printed is what `out` took.
     let _out = blocks.into_inner();
@@ -157,10 +156,10 @@ fn copy_file<D: Disk, A: Allocator + Copy, E: Out>(
         return tell::<(), E>(Err(ToolFault::NotCopied(stream_type)), err);
     }
     let Ok(original) = disk.open(file) else {
-        return refuse_name("cannot open ", file, err);
+        return refuse_name(b"cannot open ", file, err);
     };
     let Ok(mut copy) = disk.make(target) else {
-        return refuse_name("cannot create ", target, err);
+        return refuse_name(b"cannot create ", target, err);
     };
     let status = copy_told(alloc, types, Source::new(original), limits, &mut copy, err).status;
     disk.close(target, copy);
@@ -172,15 +171,16 @@ pub(crate) fn refuse_words<E: Out>(err: &mut E) -> u8
     ensures status { result ≡ 2 }
     ensures told { IsLineTold (E.state err.old) (codes "bad command line") (E.state err.new) }
 {
-    let _ = put_error_line(err, &[Piece::Text("bad command line")]);
+    let _ = print_error(err, b"bad command line");
     2
 }
 
 /// Tells that a file could not be opened or made, and answers the exit status.
-fn refuse_name<E: Out>(why: &str, name: &str, err: &mut E) -> u8
+fn refuse_name<E: Out, const N: usize>(why: &[u8; N], name: &str, err: &mut E) -> u8
+    requires { N ≤ 100 }
     ensures status { result ≡ 3 }
     ensures told { IsLineTold (E.state err.old) (concat (why.now ∷ name.now ∷ [])) (E.state err.new) }
 {
-    let _ = put_error_line(err, &[Piece::Text(why), Piece::Text(name)]);
+    let _ = print_error_named(err, why, name.as_bytes());
     3
 }

@@ -6,7 +6,7 @@ use crate::runs::{
 };
 use crate::same::{assert_same, assert_same_at};
 use mdmp_test_support::{FAULTY, FAULTY_TEXT, MEMORY64, Room, SYSTEM, SYSTEM_TEXT, WIDE_TEXT};
-use mdmp_tool::ToolFault;
+use mdmp_tool::{LINE_ROOM, ToolFault};
 use std::alloc::Global;
 use std::process::Abort;
 
@@ -23,7 +23,7 @@ const SHORT: Room = Room {
 fn blocks_bring_the_same_text(rt: HostRuntime) {
     let alloc = rt.alloc();
     let good = File::Bytes(&SYSTEM);
-    let sizes = [1, 7, 100, 1000];
+    let sizes = [LINE_ROOM, LINE_ROOM + 7, 4096];
     assert_in_blocks(
         &rt,
         alloc,
@@ -49,7 +49,7 @@ fn blocks_bring_the_same_text(rt: HostRuntime) {
 
 /// Asserts it of the list of `FAULTY`, all of which is one block.
 fn assert_last_block_refused(rt: &impl Abort, alloc: Global) {
-    let run = with_room(&default_run(Task::List, CallWay::Blocks(1000)), SHORT);
+    let run = with_room(&default_run(Task::List, CallWay::Blocks(2 * LINE_ROOM)), SHORT);
     let outcome = run_file(rt, alloc, &File::Numbers(3, &FAULTY), &run);
     let start = start_of(rt, FAULTY_TEXT, 100);
     assert_printed(rt, &outcome, Err(ToolFault::Out), start);
@@ -72,7 +72,7 @@ fn assert_fetched_for_memory(rt: &impl Abort, alloc: Global, size: usize, fetche
 
 #[test]
 fn blocks_bring_the_same_bytes(rt: HostRuntime) {
-    for size in [1, 7, 100] {
+    for size in [LINE_ROOM, LINE_ROOM + 7] {
         // The header, an entry, the head of the list, the list, and four bytes.
         assert_fetched_for_memory(&rt, rt.alloc(), size, 112);
     }

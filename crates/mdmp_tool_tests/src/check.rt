@@ -7,7 +7,7 @@ use crate::runs::{
 };
 use crate::same::assert_same;
 use mdmp_test_support::{BY_SEVEN, BY_WHOLE, FAULTY, FAULTY_VERDICTS, SYSTEM};
-use mdmp_tool::{OpenFault, ToolFault};
+use mdmp_tool::{LINE_ROOM, OpenFault, ToolFault};
 use std::alloc::Global;
 use std::process::Abort;
 
@@ -52,7 +52,7 @@ fn check_in_blocks_succeeds(rt: HostRuntime) {
         rt.alloc(),
         &BAD_TWICE,
         Task::Check,
-        &[1, 7, 100, 1000],
+        &[LINE_ROOM, LINE_ROOM + 7, 4096],
         BY_SEVEN,
         Ok(2),
         FAULTY_VERDICTS,

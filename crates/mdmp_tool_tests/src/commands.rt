@@ -5,13 +5,9 @@
 ghost use Rattle.std.specs.Prelude.{◌+◌, ◌^◌, ◌≤◌, ◌≡◌, [], None};
 
 use mdmp_lister::{Choice, Lister, TypeSet};
-use mdmp_source::{BlockOut, Out, PatchyOut, Source, Store, write_all};
+use mdmp_source::{Out, PatchyOut, Source, Store, write_all};
 use mdmp_test_support::Room;
-use mdmp_tool::{
-    Limits, LineForm, OpenFault, RunAnswered, ToolFault, check_in_blocks, check_source,
-    copy_source, hex_in_blocks, hex_source, list_in_blocks, list_next, list_source, put_dump,
-    run_check, run_copy, run_hex, run_list,
-};
+use mdmp_tool::{LINE_ROOM, Limits, LineForm, LineOut, OpenFault, RunAnswered, ToolFault, check_in_blocks, check_source, copy_source, hex_in_blocks, hex_source, list_in_blocks, list_next, list_source, print_dump, run_check, run_copy, run_hex, run_list};
 use std::alloc::{Allocator, Global};
 use std::process::Abort;
 
@@ -238,7 +234,7 @@ fn check_by_blocks<S: Store + Drop, A: Allocator + Copy, O: Out>(
     heap: A,
     source: Source<S>,
     limits: Limits,
-    blocks: &mut BlockOut<O, Global>,
+    blocks: &mut LineOut<'_, O>,
 ) -> End
     requires { blocks.old.pending ≡ [] }
 {
@@ -257,7 +253,7 @@ fn list_by_blocks<S: Store + Drop, A: Allocator + Copy, O: Out>(
     source: Source<S>,
     limits: Limits,
     pdb: bool,
-    blocks: &mut BlockOut<O, Global>,
+    blocks: &mut LineOut<'_, O>,
 ) -> End
     requires { blocks.old.pending ≡ [] }
 {
@@ -278,7 +274,7 @@ fn hex_by_blocks<S: Store + Drop, A: Allocator + Copy, O: Out>(
     source: Source<S>,
     limits: Limits,
     span: AddressSpan,
-    blocks: &mut BlockOut<O, Global>,
+    blocks: &mut LineOut<'_, O>,
 ) -> End
     requires { blocks.old.pending ≡ [] }
 {
@@ -294,7 +290,7 @@ fn end_by_blocks<S: Store + Drop, A: Allocator + Copy, O: Out>(
     heap: A,
     source: Source<S>,
     run: &CommandRun<'_>,
-    blocks: &mut BlockOut<O, Global>,
+    blocks: &mut LineOut<'_, O>,
 ) -> End
     requires { blocks.old.pending ≡ [] }
 {
@@ -318,12 +314,11 @@ fn end_by_blocks_of<S: Store + Drop, A: Allocator + Copy>(
     size: usize,
     out: &mut PatchyOut<Global>,
 ) -> End {
-    if size == 0 {
-        rt.panic("empty blocks");
+    if size < LINE_ROOM {
+        rt.panic("small blocks");
     }
-    let mut blocks = BlockOut::with_room(alloc, size, out)
-        .ok()
-        .expect(rt, "room");
+    let mut buffer = vec![in alloc; 0; size].expect(rt, "room");
+    let mut blocks = LineOut::over(&mut buffer, out);
     end_by_blocks(rt, heap, source, run, &mut blocks)
 }
 
@@ -386,7 +381,7 @@ fn is_header_put<S: Store + Drop, A: Allocator + Copy>(
     lister: &Lister<S, A>,
     out: &mut PatchyOut<Global>,
 ) -> bool {
-    put_dump(LineForm::Text, &lister.header(), out).is_ok()
+    print_dump(LineForm::Text, &lister.header(), out).is_ok()
 }
 
 fn end_of_answer(answer: Result<u64, ToolFault>) -> End {

@@ -11,7 +11,7 @@ use mdmp_test_support::{
     CODEVIEW_RECORD, CRASH, FAULTY, FAULTY_TEXT, FAULTY_TOLD, FAULTY_VERDICTS, MEMORY64, Room, SIX,
     SYSTEM, SYSTEM_TEXT, WIDE_TEXT,
 };
-use mdmp_tool::ToolFault;
+use mdmp_tool::{LINE_ROOM, ToolFault};
 use std::alloc::Global;
 use std::process::Abort;
 
@@ -19,12 +19,12 @@ use std::process::Abort;
 pub const EACH_WAY: [CallWay; 4] = [
     CallWay::Store,
     CallWay::Source,
-    CallWay::Blocks(64),
+    CallWay::Blocks(LINE_ROOM),
     CallWay::Items,
 ];
 
 /// The ways of a command that has no items.
-pub const WITHOUT_ITEMS: [CallWay; 3] = [CallWay::Store, CallWay::Source, CallWay::Blocks(64)];
+pub const WITHOUT_ITEMS: [CallWay; 3] = [CallWay::Store, CallWay::Source, CallWay::Blocks(LINE_ROOM)];
 
 /// The ways of a copy.
 pub const COPY_WAYS: [CallWay; 2] = [CallWay::Store, CallWay::Source];

@@ -7,7 +7,7 @@ use crate::runs::{FOUR, in_way, least_run, run_over, symbols_text};
 use crate::same::assert_same_at;
 use mdmp_source::TwoFaces;
 use mdmp_test_support::{CODEVIEW_RECORD, MEMORY64, MODULE_FILE_TEXT, WIDE_TEXT};
-use mdmp_tool::{Limits, ToolFault};
+use mdmp_tool::{LINE_ROOM, Limits, ToolFault};
 use std::alloc::Global;
 use std::process::Abort;
 
@@ -18,12 +18,12 @@ const MODULE: File<'static> = File::Module(30, CODEVIEW_RECORD);
 const LIST_WAYS: [CallWay; 4] = [
     CallWay::Store,
     CallWay::Source,
-    CallWay::Blocks(7),
+    CallWay::Blocks(LINE_ROOM),
     CallWay::Items,
 ];
 
 /// The ways of a command that has no items.
-const PRINT_WAYS: [CallWay; 3] = [CallWay::Store, CallWay::Source, CallWay::Blocks(7)];
+const PRINT_WAYS: [CallWay; 3] = [CallWay::Store, CallWay::Source, CallWay::Blocks(LINE_ROOM)];
 
 /// A limit, what is answered, the text, and by how many growths.
 type LimitRow<'a> = (u64, Result<u64, ToolFault>, &'a str, u64);

@@ -3,7 +3,7 @@ use Rattle.std.proofs.Common.{◌≡◌, ℕ, List, [], ◌∷◌, Option, Some,
 use Rattle.clap.specs.Words.{Text}
 use Rattle.clap.specs.declared.error.kind.ErrorKind.TheVariants.{DisplayHelp, DisplayVersion, InvalidSubcommand, MissingRequiredArgument, MissingSubcommand, UnknownArgument}
 use Rattle.clap.proofs.OnLiterals.{clap_on_literals}
-use Rattle.mdmp_words.specs.declared.request.LineForm.TheVariants as forms
+use Rattle.mdmp_print.specs.declared.form.LineForm.TheVariants as forms
 use Rattle.mdmp_words.specs.OptionWords.{Sizes}
 use Rattle.mdmp_words.specs.Requests.{Plain, PlainCommand, check, copy, faults, hex, list, request_named}
 

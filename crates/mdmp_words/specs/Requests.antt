@@ -15,8 +15,8 @@ use Rattle.mdmp_words.specs.declared.request.Asked.{Asked}
 use Rattle.mdmp_words.specs.declared.request.Asked.TheVariants.{Run, Help, Refused, Bad, Memory}
 use Rattle.mdmp_words.specs.declared.request.Command.{Command}
 use Rattle.mdmp_words.specs.declared.request.Command.TheVariants.{Print as Printing, Copy}
-use Rattle.mdmp_words.specs.declared.request.LineForm.{LineForm}
-use Rattle.mdmp_words.specs.declared.request.LineForm.TheVariants as forms
+use Rattle.mdmp_print.specs.declared.form.LineForm.{LineForm}
+use Rattle.mdmp_print.specs.declared.form.LineForm.TheVariants as forms
 use Rattle.mdmp_words.specs.declared.request.Print.{Print}
 use Rattle.mdmp_words.specs.declared.request.Print.TheVariants.{Check, List as Listing, Hex}
 use Rattle.mdmp_words.specs.declared.request.Request.{Request}

@@ -8,9 +8,10 @@ ghost use Rattle.mdmp_words.specs.Requests.{AsksFor, AsksIn, AsksNothing, IsText
 use crate::command_line::command_line;
 use crate::number_words::span_of;
 use crate::option_words::{LimitWords, limits_of, types_of};
-use crate::request::{Asked, Command, LineForm, Print, Request};
+use crate::request::{Asked, Command, Print, Request};
 use clap::error::ErrorKind;
 use clap::{ArgMatches, Error};
+use mdmp_print::LineForm;
 use std::alloc::Global;
 
 /// What the words behind the program's name ask for. `clap` parts them into the words of a command

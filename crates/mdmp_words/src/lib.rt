@@ -16,4 +16,5 @@ mod type_names;
 
 pub use crate::asking::request_of;
 pub use crate::number_words::Span;
-pub use crate::request::{Asked, Command, LineForm, Print, Request};
+pub use crate::request::{Asked, Command, Print, Request};
+pub use mdmp_print::LineForm;

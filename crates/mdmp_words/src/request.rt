@@ -1,6 +1,7 @@
 //! What the words of a command line ask for.
 use crate::number_words::Span;
 use mdmp_lister::{Limits, TypeSet};
+use mdmp_print::LineForm;
 
 /// A command, and the file that it is about.
 #[derive(Drop)]
@@ -11,15 +12,6 @@ pub struct Request<'a> {
     pub limits: Limits,
     /// What is done with the file.
     pub command: Command<'a>,
-}
-
-/// How lines are printed.
-#[derive(Clone, Copy)]
-pub enum LineForm {
-    /// As words, for people.
-    Text,
-    /// As one JSON object each (RFC 8259), for programs: docs/reference/lines.md.
-    Json,
 }
 
 /// What is printed of a file.

@@ -2,7 +2,7 @@ use Rattle.std.proofs.Common.{◌≡◌, ◌∙◌, ◌+◌, ◌++◌, ℕ, List
 use Rattle.mdmp_lister.specs.Sink.{names_of_all}
 use Rattle.mdmp_source.specs.Output.{OutState}
 use Rattle.mdmp_wire.specs.declared.header.Header.{Header}
-use Rattle.mdmp_tool.specs.Forms.{dump_line_in}
+use Rattle.mdmp_print.specs.Forms.{dump_line_in}
 use Rattle.mdmp_tool.specs.Text.{run_text}
 use Rattle.mdmp_c.specs.Limits.{most_read}
 use Rattle.mdmp_c.specs.TextPart.{EndsTextAt, IsPartOf, PutsRun}

@@ -4,7 +4,7 @@ use Rattle.mdmp_print.proofs.hex.upper_hex_at.Given as goal
 
 -- the digits behind the first place are written, and what is left has room before them
 abbrev pub invariant-loop-left : goal.invariant-loop-left
-invariant-loop-left g l = record {
+invariant-loop-left l = record {
   long : length l.places ≡ 8;
   inside : l.first < 8;
   room : l.left < 16 ^ (l.first + 1);
@@ -12,4 +12,4 @@ invariant-loop-left g l = record {
 }
 
 abbrev pub decreases-loop-left : goal.decreases-loop-left
-decreases-loop-left g l = l.left
+decreases-loop-left l = l.left

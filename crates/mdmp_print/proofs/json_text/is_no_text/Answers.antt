@@ -1,7 +1,7 @@
 use Rattle.std.proofs.Common.{◌≡◌, ℕ, Bool, true, false, not, List, Result, Ok, Err, MatchResult, IsUtf8, is_err, ap, refl, sym, ◌∙◌}
 use Rattle.std.specs.Str.{is_utf8}
 use Rattle.std.proofs.lemmas.Str.{IsUtf8-from_is_utf8, is_utf8-from_IsUtf8}
-use Rattle.mdmp_print.proofs.json_strings.is_no_text.Goals as goal
+use Rattle.mdmp_print.proofs.json_text.is_no_text.Goals as goal
 
 unless_true : (b : Bool) → (b ≡ true → ⊥) → b ≡ false
 unless_true true apart = absurd (apart refl)

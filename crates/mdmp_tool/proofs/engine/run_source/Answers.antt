@@ -16,7 +16,7 @@ use Rattle.mdmp_tool.proofs.engine.run_source.Goals as goal
 
 pub returns-in-Err-clause-runs : goal.returns-in-Err-clause-runs
 returns-in-Err-clause-runs g c = λ file known.
-    let before = g.O.Out.state c.args.out.now in
+    let before = g.O.Printer.state c.args.out.now in
     let ends = g.E.Engine.Ends c.args.engine file c.args.limits.name in
     let text = unless_refused (opening_fault file g.E.Engine.choice) (g.E.Engine.text c.args.engine file c.args.limits.name) in
     subst (λ (f : ToolFault). Runs file g.E.Engine.choice ends g.E.Engine.pace text before (Err f) before) (sym c.refused_beside.ensures)
@@ -25,7 +25,7 @@ returns-in-Err-clause-runs g c = λ file known.
 pub returns-in-Err-clause-tells : goal.returns-in-Err-clause-tells
 returns-in-Err-clause-tells g c =
     let of = c.in-Err.ensures in
-    let before = g.O.Out.state c.args.out.now in
+    let before = g.O.Printer.state c.args.out.now in
     subst (λ (f : ToolFault). Tells {T = g.row.E-Answer.Denot} directly g.E.Engine.pace c.args.source.store c.args.source.size before (Err f) before) (sym c.refused_beside.ensures)
     (Tells-unopened g.row.E-Answer.Denot g.E.Engine.pace before c.beside-beside.result c.in-Err.refused.fault c.args.source c.in-Err.refused.source of.good of.refusal of.short of.cause)
 
@@ -35,14 +35,14 @@ returns-clause-runs g c = λ file known.
     let put = c.put-answer.ensures in
     let now = new.fetches.same_content ∙ known in
     let limit = new.list.asked.limit_is ∙ ap (λ (l : Limits). l.name) c.leave_memory.ensures in
-    Runs-opened file g.E.Engine.choice (g.E.Engine.Ends c.args.engine file c.args.limits.name) g.E.Engine.pace (g.E.Engine.text c.args.engine file c.args.limits.name) _ _ (g.O.Out.state c.args.out.now) c.put-answer.result (g.O.Out.state c.put-answer.new.out)
+    Runs-opened file g.E.Engine.choice (g.E.Engine.Ends c.args.engine file c.args.limits.name) g.E.Engine.pace (g.E.Engine.text c.args.engine file c.args.limits.name) _ _ (g.O.Printer.state c.args.out.now) c.put-answer.result (g.O.Printer.state c.put-answer.new.out)
     (rw c.chosen.ensures at (c.in-Ok.ensures.opens file known)) put.leaves.behind (rw limit at (put.ends file now)) (rw limit at (put.writes file now))
 
 pub returns-clause-tells : goal.returns-clause-tells
 returns-clause-tells g c =
     let new = c.in-Ok.ensures.new in
     let put = c.put-answer.ensures.leaves in
-    let untouched : Type 0 = g.O.Out.state c.put-answer.new.out ≡ g.O.Out.state c.args.out.now in
+    let untouched : Type 0 = g.O.Printer.state c.put-answer.new.out ≡ g.O.Printer.state c.args.out.now in
     let result = c.put-answer.result in
     let behind = subst (λ (size : ℕ). IsBehind g.E.Engine.pace size result untouched) new.fetches.same_size put.behind in
     record {

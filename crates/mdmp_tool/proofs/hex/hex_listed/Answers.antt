@@ -19,7 +19,7 @@ pub returns-clause-leaves : goal.returns-clause-leaves
 returns-clause-leaves g c =
     let first = c.list_ranges.ensures.fetches in
     let more = c.put_memory.ensures.leaves in
-    let untouched : Type 0 = g.O.Out.state c.put_memory.new.out ≡ g.O.Out.state c.args.out.now in
+    let untouched : Type 0 = g.O.Printer.state c.put_memory.new.out ≡ g.O.Printer.state c.args.out.now in
     record {
       good = search rules;
       behind = subst (λ (size : ℕ). IsBehind at_the_end size c.put_memory.result untouched) first.fetches.same_size more.behind;

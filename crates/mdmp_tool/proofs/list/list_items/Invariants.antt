@@ -14,13 +14,13 @@ invariant-loop g l = record {
   going : l.lister.stop ≡ None;
   source : FetchesSome l.initial.lister.source l.lister.source;
   run : IsSameRun l.initial.lister l.lister;
-  steady : (g.O.Out.state l.out).failures ≡ (g.O.Out.state l.initial.out).failures;
+  steady : (g.O.Printer.state l.out).failures ≡ (g.O.Printer.state l.initial.out).failures;
   aside : is_within l.aside l.lister.counts.aside.bytes ≡ true;
   read : HasRead l.pdb l.initial.lister l.lister;
   named : HasNamed l.initial.lister l.lister;
   printed : (file : List ℕ) → l.initial.lister.source.store.content ≡ Some file → (run : Run) → l.initial.lister.left ≡ Some run
       → (left : Run) × ((l.lister.left ≡ Some left)
-      × HasPrinted l.form l.pdb file l.initial.lister.limit run (g.O.Out.state l.initial.out) left (g.O.Out.state l.out));
+      × HasPrinted l.form l.pdb file l.initial.lister.limit run (g.O.Printer.state l.initial.out) left (g.O.Printer.state l.out));
 }
 
 abbrev pub decreases-loop : goal.decreases-loop

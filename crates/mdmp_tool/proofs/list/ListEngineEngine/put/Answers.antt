@@ -18,8 +18,8 @@ returns-clause-writes g c = λ file known.
     let pdb = c.args.self.now.pdb in
     let limit = c.args.lister.now.limit in
     let run = listing file All limit in
-    let before = g.O.Out.state c.args.out.now in
-    let after = g.O.Out.state c.put_listing.new.out in
+    let before = g.O.Printer.state c.args.out.now in
+    let after = g.O.Printer.state c.put_listing.new.out in
     let lists = c.put_listing.ensures.lists file known run (opened.left file known) in
     (subst (λ (h : Header). ListsFile form pdb file limit h run before c.put_listing.result after) (opened.header_is file known) lists).writes
 

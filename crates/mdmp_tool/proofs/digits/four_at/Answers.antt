@@ -1,7 +1,0 @@
-use Rattle.std.proofs.Common.{refl, arith}
-use Rattle.mdmp_tool.proofs.DigitPairs.{decimal_more}
-use Rattle.mdmp_tool.proofs.BufferLemmas.{IsPutBehind-as, IsPutBehind-then}
-use Rattle.mdmp_tool.proofs.digits.four_at.Goals as goal
-
-pub returns : goal.returns
-returns c = IsPutBehind-as (decimal_more c.args.number _ _ c.if-number-lt100.false (omega arith) refl refl) (omega arith) (IsPutBehind-then c.two_at-len.ensures c.last_two_at.ensures)

@@ -1,7 +1,0 @@
-use Rattle.mdmp_tool.proofs.forms.put_item.Goals as goal
-
-pub returns-in-Text : goal.returns-in-Text
-returns-in-Text g c = rw c.in-Text.is c.put_item_line.ensures
-
-pub returns-in-Json : goal.returns-in-Json
-returns-in-Json g c = rw c.in-Json.is c.put_item_object.ensures

@@ -1,4 +1,0 @@
-use Rattle.mdmp_tool.proofs.item_lines.put_system_line.Goals as goal
-
-pub returns : goal.returns
-returns g c = c.put_pieces.ensures

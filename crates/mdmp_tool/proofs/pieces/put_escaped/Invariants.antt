@@ -1,8 +1,0 @@
-use Rattle.std.proofs.Common.{take}
-use Rattle.mdmp_source.specs.Output.{PutsAll}
-use Rattle.mdmp_wire.specs.Escape.{escaped_bytes}
-use Rattle.mdmp_tool.proofs.pieces.put_escaped.Given as goal
-
-abbrev pub invariant-loop-byte : goal.invariant-loop-byte
-invariant-loop-byte g l =
-    PutsAll (g.O.Out.state l.fn.out) (escaped_bytes (take l.byte-index l.bytes)) (g.O.Out.state l.out)
