@@ -8,6 +8,7 @@ use Rattle.std.specs.Str.{bytes_eq}
 use Rattle.mdmp_wire.specs.Digits.{hex}
 use Rattle.mdmp_print.specs.Digits.{last_digits}
 use Rattle.mdmp_print.specs.declared.digits.TheConstants.{DECIMAL_PAIRS}
+use Rattle.mdmp_print.specs.declared.hex.TheConstants.{HEX_PAIRS}
 use lib.Ieee.Fits.{and_l, and_r}
 
 -- what a test says of each number below n
@@ -61,6 +62,12 @@ hex_more k n q r eq er =
     let b : n % 256 / 16 % 16 ≡ n / 16 % 16 = omega arith in
     let c : n % 256 % 16 ≡ n % 16 = omega arith in
     rw (eq, er, append_assoc, a, b, c)
+
+abbrev has_hex : ℕ → Bool
+has_hex p = bytes_eq (row HEX_PAIRS p) (digit_glyph false (p / 16) ∷ digit_glyph false (p % 16) ∷ [])
+
+pub row_hex : (p : ℕ) → p < 256 → row HEX_PAIRS p ≡ hex 2 p
+row_hex p h = told (has_hex p) (bytes_eq-Decides (row HEX_PAIRS p) (glyphs p)) (below has_hex 256 p tt h) ∙ hex_glyphs p h
 
 -- ---- decimal digits
 
