@@ -46,21 +46,18 @@ pub const CHOSEN: [Chosen; 6] = [
     },
 ];
 
-/// Prints how long the copy of a dump's chosen streams is, and its SHA-256.
+/// Prints how long the copy of a dump's chosen streams is, and its SHA-256. None where there is no copy, or its
+/// answer is not how many bytes went out.
 pub fn tell_copy(rt: &HostRuntime, chosen: &Chosen) -> Option<()> {
     let Chosen { dump, types } = chosen;
-    let copy = copied(rt, dump, types)?;
-    let summary = summary_of(rt.alloc(), &copy)?;
-    writeln!(rt.stdout(), "{dump}: copy of types {types:?} has {summary}").ok()
-}
-
-/// The copy, or none where there is none, or its answer is not how many bytes went out.
-fn copied(rt: &HostRuntime, dump: &str, types: &[u32]) -> Option<Vec<u8>> {
     let mut out = WriteOut::new(Vec::new(rt.alloc()));
     let size = copy_to(rt, dump, types, &mut out)?;
     let copy = out.into_inner();
-    let is_of_size = copy.len() as u64 == size;
-    is_of_size.then_some(copy)
+    if copy.len() as u64 != size {
+        return None;
+    }
+    let summary = summary_of(rt.alloc(), &copy)?;
+    writeln!(rt.stdout(), "{dump}: copy of types {types:?} has {summary}").ok()
 }
 
 /// Copies to this output, and gives what is answered.

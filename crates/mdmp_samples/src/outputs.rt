@@ -21,12 +21,19 @@ pub fn tell_outputs(rt: &HostRuntime) -> Option<()> {
     Some(())
 }
 
+/// Prints the exit status of a command line, and what it wrote to each output.
 fn tell_line(rt: &HostRuntime, line: &[&str]) -> Option<()> {
     let args = texts_of(rt.alloc(), line)?;
     let mut out = WriteOut::new(Vec::new(rt.alloc()));
     let mut err = WriteOut::new(Vec::new(rt.alloc()));
     let status = status_of(rt, args, &mut out, &mut err);
-    tell_written(rt, line, status, &out.into_inner(), &err.into_inner())
+    let (out, err) = (out.into_inner(), err.into_inner());
+    let (out, err) = (str::from_utf8(&out).ok()?, str::from_utf8(&err).ok()?);
+    writeln!(
+        rt.stdout(),
+        "{line:?} ends with {status}, output {out:?}, errors {err:?}"
+    )
+    .ok()
 }
 
 fn texts_of(alloc: Global, line: &[&str]) -> Option<Vec<String>> {
@@ -40,15 +47,4 @@ fn texts_of(alloc: Global, line: &[&str]) -> Option<Vec<String>> {
 /// The exit status of the program with these arguments.
 fn status_of<O: Out>(rt: &HostRuntime, args: Vec<String>, out: &mut O, err: &mut O) -> u8 {
     run_args(rt, &mut SystemDisk::new(rt), rt.alloc(), Ok(args), out, err)
-}
-
-/// Prints the exit status of a command line, and what it wrote to each output.
-fn tell_written(rt: &HostRuntime, line: &[&str], status: u8, out: &[u8], err: &[u8]) -> Option<()> {
-    let out = str::from_utf8(out).ok()?;
-    let err = str::from_utf8(err).ok()?;
-    writeln!(
-        rt.stdout(),
-        "{line:?} ends with {status}, output {out:?}, errors {err:?}"
-    )
-    .ok()
 }

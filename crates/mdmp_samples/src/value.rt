@@ -1,7 +1,7 @@
 //! A dump read into a value, and compared with its list.
 
 use crate::opening::{DumpLister, lister_of, value_of};
-use mdmp_dump::{Dump, Stream};
+use mdmp_dump::Stream;
 use mdmp_lister::{Choice, Item, StreamItem, StreamKind};
 use std::alloc::Global;
 use std::io::Write;
@@ -15,11 +15,18 @@ pub struct StreamLength {
     bytes: Option<usize>,
 }
 
-/// Prints how many streams and records a dump's value has.
+/// Prints how many streams and records a dump's value has. None where they are not those of its list, or either
+/// can't be read.
 pub fn tell_totals(rt: &HostRuntime, dump: &str) -> Option<()> {
-    let lengths = told_by_both(rt, dump)?;
+    let lengths = told_by_value(rt, dump)?;
+    if lengths != told_by_list(rt, dump)? {
+        return None;
+    }
     let streams = lengths.len();
-    let records = records_in(&lengths);
+    let mut records: usize = 0;
+    for length in &lengths {
+        records = records.saturating_add(length.records);
+    }
     writeln!(
         rt.stdout(),
         "{dump}: value of {streams} streams, {records} records, as listed"
@@ -27,29 +34,10 @@ pub fn tell_totals(rt: &HostRuntime, dump: &str) -> Option<()> {
     .ok()
 }
 
-/// The streams of a dump's value, or none where it can't be read or they are not those of its list.
-fn told_by_both(rt: &HostRuntime, dump: &str) -> Option<Vec<StreamLength>> {
-    let lengths = told_by_value(rt, dump)?;
-    let is_listed_so = lengths == told_by_list(rt, dump)?;
-    is_listed_so.then_some(lengths)
-}
-
-fn records_in(lengths: &[StreamLength]) -> usize {
-    let mut records: usize = 0;
-    for length in lengths {
-        records = records.saturating_add(length.records);
-    }
-    records
-}
-
 /// The streams of a dump's value.
 pub fn told_by_value(rt: &HostRuntime, dump: &str) -> Option<Vec<StreamLength>> {
     let value = value_of(rt, dump, Choice::All)?;
-    told_of_all(rt.alloc(), &value)
-}
-
-fn told_of_all(alloc: Global, value: &Dump<Global>) -> Option<Vec<StreamLength>> {
-    let mut lengths = Vec::new(alloc);
+    let mut lengths = Vec::new(rt.alloc());
     for stream in value.streams.as_slice() {
         lengths.push(told_of(stream)).ok()?;
     }
@@ -80,13 +68,9 @@ fn told_of(stream: &Stream<Global>) -> StreamLength {
 /// The streams of a dump's list.
 fn told_by_list(rt: &HostRuntime, dump: &str) -> Option<Vec<StreamLength>> {
     let mut lister = lister_of(rt, dump)?;
-    lengths_in(rt.alloc(), &mut lister)
-}
-
-fn lengths_in(alloc: Global, lister: &mut DumpLister) -> Option<Vec<StreamLength>> {
-    let mut lengths = Vec::new(alloc);
+    let mut lengths = Vec::new(rt.alloc());
     for _ in 0..u64::MAX {
-        if !add_next(lister, &mut lengths)? {
+        if !add_next(&mut lister, &mut lengths)? {
             return Some(lengths);
         }
     }
@@ -96,17 +80,12 @@ fn lengths_in(alloc: Global, lister: &mut DumpLister) -> Option<Vec<StreamLength
 /// Adds the next item, and tells whether there was one.
 fn add_next(lister: &mut DumpLister, lengths: &mut Vec<StreamLength>) -> Option<bool> {
     match lister.next().ok()? {
-        Some(item) => add_item(lengths, &item),
-        None => Some(false),
-    }
-}
-
-fn add_item(lengths: &mut Vec<StreamLength>, item: &Item<'_>) -> Option<bool> {
-    if let Item::Stream(stream) = item {
-        lengths.push(begun(stream)).ok()?;
-    } else {
-        let length = lengths.last_mut()?;
-        length.records = length.records.saturating_add(1);
+        Some(Item::Stream(stream)) => lengths.push(begun(&stream)).ok()?,
+        Some(_) => {
+            let length = lengths.last_mut()?;
+            length.records = length.records.saturating_add(1);
+        },
+        None => return Some(false),
     }
     Some(true)
 }

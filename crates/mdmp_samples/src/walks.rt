@@ -5,7 +5,11 @@ use std::io::Write;
 
 /// Prints that each entry of a dump, gone to from the last one back, gives what the list has of it.
 pub fn tell_walk(rt: &HostRuntime, dump: &str) -> Option<()> {
-    let entries = entries_walked(rt, dump)?;
+    let mut walker = walker_of(rt, dump)?;
+    let entries = walker.header().number_of_streams;
+    for number in (0..entries).rev() {
+        compare_entry(rt, dump, &mut walker, number)?;
+    }
     writeln!(
         rt.stdout(),
         "{dump}: each of {entries} entries as listed, from the last one back"
@@ -13,34 +17,14 @@ pub fn tell_walk(rt: &HostRuntime, dump: &str) -> Option<()> {
     .ok()
 }
 
-/// How many entries a dump has, or none where one of them gives something else than in the list.
-fn entries_walked(rt: &HostRuntime, dump: &str) -> Option<u32> {
-    let mut walker = walker_of(rt, dump)?;
-    walk_back(rt, dump, &mut walker)
-}
-
-fn walk_back(rt: &HostRuntime, dump: &str, walker: &mut DumpWalker) -> Option<u32> {
-    let entries = walker.header().number_of_streams;
-    for number in (0..entries).rev() {
-        compare_entry(rt, dump, walker, number)?;
-    }
-    Some(entries)
-}
-
-/// Goes to an entry, and compares what is given of it, and the item behind it or the end, with what a
-/// lister gives. None where they differ.
+/// Goes to an entry, and compares what is given of it, and the item behind it or the end, with what a lister
+/// gives that leaves out the entries before. None where they differ.
 fn compare_entry(rt: &HostRuntime, dump: &str, walker: &mut DumpWalker, number: u32) -> Option<()> {
     seek(walker, number)?;
     let mut lister = lister_of(rt, dump)?;
-    compare_items(&mut lister, walker, number)
-}
-
-/// Leaves out what is listed before this entry, and compares what both give from there on, up to what is
-/// not an item of the entry. None where they differ.
-fn compare_items(lister: &mut DumpLister, walker: &mut DumpWalker, number: u32) -> Option<()> {
-    skip_entries(lister, number)?;
+    skip_entries(&mut lister, number)?;
     for _ in 0..u64::MAX {
-        if !compare_next(lister, walker, number)? {
+        if !compare_next(&mut lister, walker, number)? {
             return Some(());
         }
     }

@@ -7,7 +7,7 @@ use std::io::Write;
 pub fn tell_windows(rt: &HostRuntime, dump: &str) -> Option<()> {
     let usual = printed_by(rt, &["list", dump]);
     for window in &["168", "169", "255", "1073741824"] {
-        if !is_printed_by(rt, dump, window, &usual) {
+        if printed_by(rt, &["list", dump, "--window", window]) != usual {
             return None;
         }
     }
@@ -16,9 +16,4 @@ pub fn tell_windows(rt: &HostRuntime, dump: &str) -> Option<()> {
         "{dump}: the same list by windows of 168, 169, 255 and 1073741824 bytes"
     )
     .ok()
-}
-
-/// Whether `list` ends so, and prints this, by a window of so many bytes.
-fn is_printed_by(rt: &HostRuntime, dump: &str, window: &str, usual: &(u8, Vec<u8>)) -> bool {
-    printed_by(rt, &["list", dump, "--window", window]) == *usual
 }

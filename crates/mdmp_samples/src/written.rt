@@ -14,24 +14,20 @@ use std::io::Write;
 pub fn tell_value(rt: &HostRuntime, dump: &str) -> Option<()> {
     let value = value_of(rt, dump, Choice::All)?;
     let file = written(rt.alloc(), &value)?;
-    compare_again(rt.alloc(), &value, &file)?;
+    let again = value_in(
+        rt.alloc(),
+        Source::new(MemoryStore::new(&file)),
+        Choice::All,
+    )?;
+    if again != value || written(rt.alloc(), &again)? != file {
+        return None;
+    }
     let size = file.len();
     writeln!(
         rt.stdout(),
         "{dump}: written in {size} bytes, the same value, the same bytes"
     )
     .ok()
-}
-
-/// Compares what is read of a file with the value that it was written of, and what is written of that with
-/// the file. None where they differ.
-fn compare_again(alloc: Global, value: &Dump<Global>, file: &[u8]) -> Option<()> {
-    let again = value_in(alloc, Source::new(MemoryStore::new(file)), Choice::All)?;
-    if again != *value {
-        return None;
-    }
-    let bytes = written(alloc, &again)?;
-    (bytes.as_slice() == file).then_some(())
 }
 
 /// The bytes that a value is written as.
@@ -51,10 +47,10 @@ fn written_of<V: DumpView>(alloc: Global, view: &mut V, room: usize) -> Option<V
 pub fn tell_view(rt: &HostRuntime, dump: &str) -> Option<()> {
     let lengths = told_by_value(rt, dump)?;
     for length in &lengths {
-        let _ = size_of_view(rt, dump, Some(length.stream_type))?;
+        let _ = size_of_view(rt, dump, &[length.stream_type])?;
     }
     let streams = lengths.len();
-    let size = size_of_view(rt, dump, None)?;
+    let size = size_of_view(rt, dump, &[])?;
     writeln!(
         rt.stdout(),
         "{dump}: {size} bytes by a view of the file, as of the value; so with the type of each of {streams} streams by itself"
@@ -62,47 +58,31 @@ pub fn tell_view(rt: &HostRuntime, dump: &str) -> Option<()> {
     .ok()
 }
 
-/// How many bytes are written through a view of a dump's streams of this type, or of all of them; or
-/// none where they are not those of the value, by one of some buffers.
-fn size_of_view(rt: &HostRuntime, dump: &str, stream_type: Option<u32>) -> Option<usize> {
-    let file = written_of_value(rt, dump, stream_type)?;
+/// How many bytes are written through a view of a dump's streams of these types, or of all of them where no
+/// type is given; or none where they are not those of the value, by one of some buffers.
+fn size_of_view(rt: &HostRuntime, dump: &str, types: &[u32]) -> Option<usize> {
+    let file = written_of_value(rt, dump, types)?;
     for room in &[7, 168, 4096] {
-        compare_view(rt, dump, stream_type, *room, &file)?;
+        if written_by_view(rt, dump, types, *room)? != file {
+            return None;
+        }
     }
     Some(file.len())
 }
 
-fn written_of_value(rt: &HostRuntime, dump: &str, stream_type: Option<u32>) -> Option<Vec<u8>> {
-    let value = value_of(rt, dump, choice_of(stream_type)?)?;
+fn written_of_value(rt: &HostRuntime, dump: &str, types: &[u32]) -> Option<Vec<u8>> {
+    let value = value_of(rt, dump, choice_of(types))?;
     written(rt.alloc(), &value)
 }
 
-/// Compares what is written through a view and a buffer of so many bytes with a file. None where they
-/// differ.
-fn compare_view(
-    rt: &HostRuntime,
-    dump: &str,
-    stream_type: Option<u32>,
-    room: usize,
-    file: &[u8],
-) -> Option<()> {
-    let bytes = written_by_view(rt, dump, stream_type, room)?;
-    (bytes.as_slice() == file).then_some(())
-}
-
-fn written_by_view(
-    rt: &HostRuntime,
-    dump: &str,
-    stream_type: Option<u32>,
-    room: usize,
-) -> Option<Vec<u8>> {
-    let mut view = view_of(rt, dump, choice_of(stream_type)?)?;
+fn written_by_view(rt: &HostRuntime, dump: &str, types: &[u32], room: usize) -> Option<Vec<u8>> {
+    let mut view = view_of(rt, dump, choice_of(types))?;
     written_of(rt.alloc(), &mut view, room)
 }
 
-fn choice_of(stream_type: Option<u32>) -> Option<Choice> {
-    match stream_type {
-        Some(stream_type) => Some(Choice::Types(TypeSet::new(&[stream_type])?)),
-        None => Some(Choice::All),
+fn choice_of(types: &[u32]) -> Choice {
+    match TypeSet::new(types) {
+        Some(types) => Choice::Types(types),
+        None => Choice::All,
     }
 }
