@@ -52,45 +52,62 @@ pub const MEMORY64_FILE: Sample<'static> = Sample::Parts(&[&MEMORY64, b"GH"], 10
 /// The file `ABSENT_STACK`, up to the byte of the thread's context.
 pub const ABSENT_STACK_FILE: Sample<'static> = Sample::Cut(1, &ABSENT_STACK, 97);
 
-/// A file, the limits under which it is read, and how many bytes its parts may have.
+/// All types of streams, where a list of some is asked for.
+pub const ALL: &[u32] = &[];
+
+/// A file, and how it is read: its entries of which types, under which limits, and how many bytes their parts may
+/// have.
 #[derive(Clone, Copy)]
-pub struct DumpReading<'a> {
-    pub sample: Sample<'a>,
+pub struct DumpReading {
+    /// What it shows, which a failing test tells.
+    pub name: &'static str,
+    pub sample: Sample<'static>,
+    pub types: &'static [u32],
     pub limits: Limits,
     pub parts: u64,
 }
 
 /// The thread and the exception, whose parts have 14 bytes.
-pub const CRASH_READING: DumpReading<'static> = DumpReading {
+pub const CRASH_READING: DumpReading = DumpReading {
+    name: "a thread and an exception",
     sample: CRASH_FILE,
+    types: ALL,
     limits: LEAST,
     parts: 14,
 };
 
 /// The six streams, whose parts have 18 bytes.
-pub const SIX_READING: DumpReading<'static> = DumpReading {
+pub const SIX_READING: DumpReading = DumpReading {
+    name: "six streams",
     sample: SIX_FILE,
+    types: ALL,
     limits: NAMED,
     parts: 18,
 };
 
 /// The system, with its name.
-pub const SYSTEM_READING: DumpReading<'static> = DumpReading {
+pub const SYSTEM_READING: DumpReading = DumpReading {
+    name: "a system with its name",
     sample: SYSTEM_FILE,
+    types: ALL,
     limits: NAMED,
     parts: 0,
 };
 
 /// The ranges of 64-bit memory, whose parts have 8 bytes.
-pub const MEMORY64_READING: DumpReading<'static> = DumpReading {
+pub const MEMORY64_READING: DumpReading = DumpReading {
+    name: "ranges of a 64-bit list",
     sample: MEMORY64_FILE,
+    types: ALL,
     limits: LEAST,
     parts: 8,
 };
 
 /// The thread without its stack, whose context has 1 byte.
-pub const ABSENT_STACK_READING: DumpReading<'static> = DumpReading {
+pub const ABSENT_STACK_READING: DumpReading = DumpReading {
+    name: "a thread without its stack",
     sample: ABSENT_STACK_FILE,
+    types: ALL,
     limits: LEAST,
     parts: 1,
 };
@@ -99,34 +116,24 @@ pub const ABSENT_STACK_READING: DumpReading<'static> = DumpReading {
 pub fn file_of(rt: &impl Abort, alloc: Global, sample: Sample<'_>) -> Vec<u8, Global> {
     match sample {
         Sample::Numbers(entries, numbers) => numbers_file(rt, alloc, entries, numbers),
-        Sample::Cut(entries, numbers, size) => cut_file(rt, alloc, entries, numbers, size),
+        Sample::Cut(entries, numbers, size) => {
+            let mut file = numbers_file(rt, alloc, entries, numbers);
+            file.truncate(size);
+            file
+        }
         Sample::Parts(parts, size) => {
             file_of_parts(alloc, parts, size).expect(rt, "memory for a file")
         }
-        Sample::Named(name) => named_file(rt, alloc, name),
+        Sample::Named(name) => {
+            let mut file = numbers_file(rt, alloc, 1, &UNLOADED);
+            file.extend_from_slice(name).expect(rt, "memory for a name");
+            file
+        }
     }
 }
 
 fn numbers_file(rt: &impl Abort, alloc: Global, entries: u32, numbers: &[u32]) -> Vec<u8, Global> {
     file_of_numbers(alloc, entries, numbers).expect(rt, "memory for a file")
-}
-
-fn cut_file(
-    rt: &impl Abort,
-    alloc: Global,
-    entries: u32,
-    numbers: &[u32],
-    size: usize,
-) -> Vec<u8, Global> {
-    let mut file = numbers_file(rt, alloc, entries, numbers);
-    file.truncate(size);
-    file
-}
-
-fn named_file(rt: &impl Abort, alloc: Global, name: &[u8]) -> Vec<u8, Global> {
-    let mut file = numbers_file(rt, alloc, 1, &UNLOADED);
-    file.extend_from_slice(name).expect(rt, "memory for a name");
-    file
 }
 
 /// The entries of these types, or all where none is named.

@@ -15,6 +15,8 @@ mod same;
 #[cfg(test)]
 mod store_calls;
 #[cfg(test)]
+mod vectors;
+#[cfg(test)]
 mod viewed;
 #[cfg(test)]
 mod writer;

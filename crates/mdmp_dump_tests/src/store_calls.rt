@@ -1,15 +1,37 @@
 //! Stores that give one byte a call, each of whose calls fails in turn: a file that is read into a value, and
 //! one of which a view is opened.
-use crate::dump::built::{fault_of_source, value_of};
+use crate::dump::built::{value_fault, value_of};
 use crate::files::{CRASH_READING, DumpReading, NAMED, SIX_READING, Sample, file_of};
-use crate::same::{assert_same, assert_same_at};
-use crate::viewed::view_fault_of;
-use mdmp_dump::{Dump, FileView, ReadAnswered, ReadFault, ViewRefused, read_dump, read_source};
-use mdmp_lister::{Choice, FaultKind, ListFault, OpenFault};
+use crate::same::assert_same_at;
+use crate::viewed::view_fault;
+use mdmp_dump::{Dump, ReadFault, read_dump};
+use mdmp_lister::{Choice, FaultKind, Limits, ListFault, OpenFault};
 use mdmp_source::{PatchyStore, Source, SourceFault, Store};
 use mdmp_test_support::thousand_entries_file;
-use std::alloc::Global;
+use std::alloc::{Allocator, Global};
 use std::process::Abort;
+
+/// What a source is read into.
+#[derive(Clone, Copy, Debug)]
+pub enum ReadInto {
+    Value,
+    View,
+}
+
+/// Why a source is not read into this, and the source that comes back.
+pub fn fault_into<S: Store + Drop, A: Allocator + Copy>(
+    heap: A,
+    into: ReadInto,
+    source: Source<S>,
+    limits: Limits,
+    choice: Choice,
+    parts: u64,
+) -> (Option<ReadFault>, Source<S>) {
+    match into {
+        ReadInto::Value => value_fault(heap, source, limits, choice, parts),
+        ReadInto::View => view_fault(heap, source, limits, choice),
+    }
+}
 
 /// What a call of a store is made for.
 #[derive(Clone, Copy)]
@@ -24,6 +46,73 @@ enum ReadFor {
 /// Calls of a store, one behind the other: how many they are, where the byte of the first one stands, and
 /// what they are made for.
 type ReadCalls = (u64, u64, ReadFor);
+
+/// A file, what it is read into, and all calls of its store that are made for that, how many they are.
+#[derive(Clone, Copy)]
+struct CallsRow {
+    into: ReadInto,
+    reading: DumpReading,
+    calls: &'static [ReadCalls],
+    count: u64,
+}
+
+const CALLS: [CallsRow; 4] = [
+    CallsRow {
+        into: ReadInto::Value,
+        reading: CRASH_READING,
+        calls: &[
+            (56, 0, ReadFor::Opening),
+            (52, 56, ReadFor::Entry(0)),
+            (10, 108, ReadFor::Bytes),
+            (168, 120, ReadFor::Entry(1)),
+            (4, 288, ReadFor::Bytes),
+        ],
+        count: 290,
+    },
+    CallsRow {
+        into: ReadInto::Value,
+        reading: SIX_READING,
+        calls: &[
+            // The header and the directory, and the head of the memory list.
+            (104, 0, ReadFor::Opening),
+            (4, 436, ReadFor::Opening),
+            // A system, with its name.
+            (56 + 4 + 28, 104, ReadFor::Entry(0)),
+            (52, 196, ReadFor::Entry(1)),
+            (10, 248, ReadFor::Bytes),
+            (4, 260, ReadFor::Entry(2)),
+            (168, 264, ReadFor::Entry(3)),
+            (4, 432, ReadFor::Bytes),
+            (4, 436, ReadFor::Entry(4)),
+            (4, 440, ReadFor::Bytes),
+        ],
+        count: 442,
+    },
+    CallsRow {
+        into: ReadInto::View,
+        reading: CRASH_READING,
+        calls: &[
+            (56, 0, ReadFor::Opening),
+            (52, 56, ReadFor::Entry(0)),
+            (168, 120, ReadFor::Entry(1)),
+        ],
+        count: 276,
+    },
+    CallsRow {
+        into: ReadInto::View,
+        reading: SIX_READING,
+        calls: &[
+            (104, 0, ReadFor::Opening),
+            // A system, and of its name the length.
+            (56 + 4, 104, ReadFor::Entry(0)),
+            (52, 196, ReadFor::Entry(1)),
+            (4, 260, ReadFor::Entry(2)),
+            (168, 264, ReadFor::Entry(3)),
+            (4, 436, ReadFor::Entry(4)),
+        ],
+        count: 392,
+    },
+];
 
 /// The fault of a call of a store of a byte at this place.
 fn told_of(read_for: ReadFor, at: u64) -> ReadFault {
@@ -41,10 +130,6 @@ fn told_of(read_for: ReadFor, at: u64) -> ReadFault {
     }
 }
 
-/// What came of a store: its fault, and whether the value is that of its bytes, or behind a fault that of the
-/// source that comes back.
-type StoreOutcome = (Option<ReadFault>, bool);
-
 /// Whether a source is read as this value.
 fn is_read_as<S: Store + Drop>(alloc: Global, source: Source<S>, expected: &Dump<Global>) -> bool {
     match read_dump(alloc, source, NAMED, Choice::All, 18) {
@@ -53,51 +138,23 @@ fn is_read_as<S: Store + Drop>(alloc: Global, source: Source<S>, expected: &Dump
     }
 }
 
-/// What came of reading a source into a value.
-fn outcome_of_value<S: Store + Drop>(
-    alloc: Global,
-    source: Source<S>,
-    expected: &Dump<Global>,
-) -> StoreOutcome {
-    let ReadAnswered { answer, source } = read_source(alloc, source, NAMED, Choice::All, 18);
-    match answer {
-        Ok(dump) => (None, dump == *expected),
-        Err(fault) => (Some(fault), is_read_as(alloc, source, expected)),
-    }
-}
+/// What comes of a store: its fault, and whether the source that comes back is then read as the value.
+type StoreOutcome = (Option<ReadFault>, bool);
 
-/// What came of opening a view of a source, whose own streams are compared elsewhere.
-fn outcome_of_view<S: Store + Drop>(
-    alloc: Global,
-    source: Source<S>,
-    expected: &Dump<Global>,
-) -> StoreOutcome {
-    match FileView::open_source(alloc, source, NAMED, Choice::All) {
-        Ok(_) => (None, true),
-        Err(ViewRefused { fault, source }) => (Some(fault), is_read_as(alloc, source, expected)),
-    }
-}
-
-/// What a source is read into.
-#[derive(Clone, Copy, Debug)]
-pub enum ReadInto {
-    Value,
-    View,
-}
-
-/// What came of a store of these bytes that gives one a call, and fails at this one.
-fn outcome_of(
+/// Asserts what comes of a store of these bytes that gives one a call, and fails at this one.
+fn assert_outcome(
+    rt: &impl Abort,
     alloc: Global,
     into: ReadInto,
     bytes: &[u8],
     fail_at: u64,
-    expected: &Dump<Global>,
-) -> StoreOutcome {
+    value: &Dump<Global>,
+    expected: StoreOutcome,
+) {
     let source = Source::new(PatchyStore::new(bytes, &[1], Some(fail_at)));
-    match into {
-        ReadInto::Value => outcome_of_value(alloc, source, expected),
-        ReadInto::View => outcome_of_view(alloc, source, expected),
-    }
+    let (fault, source) = fault_into(alloc, into, source, NAMED, Choice::All, 18);
+    let found = (fault, is_read_as(alloc, source, value));
+    assert_same_at(rt, &(into, fail_at), found, expected);
 }
 
 /// Asserts that the failure of each of these calls is told, which are numbered from `first` on.
@@ -107,109 +164,54 @@ fn assert_told(
     into: ReadInto,
     bytes: &[u8],
     first: u64,
-    calls: ReadCalls,
-    expected: &Dump<Global>,
+    calls: &ReadCalls,
+    value: &Dump<Global>,
 ) {
-    let (count, place, read_for) = calls;
+    let (count, place, read_for) = *calls;
     for call in 0..count {
         let fail_at = first.saturating_add(call);
-        let outcome = outcome_of(alloc, into, bytes, fail_at, expected);
-        let fault = told_of(read_for, place.saturating_add(call));
-        assert_same_at(rt, &fail_at, outcome, (Some(fault), true));
+        let fault = Some(told_of(read_for, place.saturating_add(call)));
+        assert_outcome(rt, alloc, into, bytes, fail_at, value, (fault, true));
     }
 }
 
-/// Asserts it of all these calls, by which a file is read or a view of it opened, how many they are, and that a
-/// store which fails at none of them is read well.
-fn assert_all_told(
-    rt: &impl Abort,
-    alloc: Global,
-    into: ReadInto,
-    reading: DumpReading<'_>,
-    calls: &[ReadCalls],
-    count: u64,
-) {
-    let bytes = file_of(rt, alloc, reading.sample);
-    let expected = value_of(rt, alloc, reading);
+/// Asserts it of all calls by which a file is read or a view of it opened, and that a store is read well which fails at
+/// none of them, but at the next one.
+fn assert_all_told(rt: &impl Abort, alloc: Global, row: &CallsRow) {
+    let bytes = file_of(rt, alloc, row.reading.sample);
+    let value = value_of(rt, alloc, row.reading);
     let mut first: u64 = 0;
-    for some in calls {
-        assert_told(rt, alloc, into, &bytes, first, *some, &expected);
+    for some in row.calls {
+        assert_told(rt, alloc, row.into, &bytes, first, some, &value);
         let (more, _, _) = *some;
         first = first.saturating_add(more);
     }
-    assert_same(rt, first, count);
-    let behind = outcome_of(alloc, into, &bytes, first, &expected);
-    assert_same(rt, behind, (None, true));
+    assert_same_at(rt, &row.into, first, row.count);
+    assert_outcome(rt, alloc, row.into, &bytes, first, &value, (None, false));
 }
 
 #[test]
-fn each_call_of_reading_a_value_may_fail(rt: HostRuntime) {
-    let calls = [
-        (56, 0, ReadFor::Opening),
-        (52, 56, ReadFor::Entry(0)),
-        (10, 108, ReadFor::Bytes),
-        (168, 120, ReadFor::Entry(1)),
-        (4, 288, ReadFor::Bytes),
-    ];
-    assert_all_told(&rt, rt.alloc(), ReadInto::Value, CRASH_READING, &calls, 290);
-
-    let calls = [
-        // The header and the directory, and the head of the memory list.
-        (104, 0, ReadFor::Opening),
-        (4, 436, ReadFor::Opening),
-        // A system, with its name.
-        (56 + 4 + 28, 104, ReadFor::Entry(0)),
-        (52, 196, ReadFor::Entry(1)),
-        (10, 248, ReadFor::Bytes),
-        (4, 260, ReadFor::Entry(2)),
-        (168, 264, ReadFor::Entry(3)),
-        (4, 432, ReadFor::Bytes),
-        (4, 436, ReadFor::Entry(4)),
-        (4, 440, ReadFor::Bytes),
-    ];
-    assert_all_told(&rt, rt.alloc(), ReadInto::Value, SIX_READING, &calls, 442);
+fn each_call_of_reading_may_fail(rt: HostRuntime) {
+    for row in &CALLS {
+        assert_all_told(&rt, rt.alloc(), row);
+    }
 }
 
-#[test]
-fn each_call_of_opening_a_view_may_fail(rt: HostRuntime) {
-    let calls = [
-        (56, 0, ReadFor::Opening),
-        (52, 56, ReadFor::Entry(0)),
-        (168, 120, ReadFor::Entry(1)),
-    ];
-    assert_all_told(&rt, rt.alloc(), ReadInto::View, CRASH_READING, &calls, 276);
-
-    let calls = [
-        (104, 0, ReadFor::Opening),
-        // A system, and of its name the length.
-        (56 + 4, 104, ReadFor::Entry(0)),
-        (52, 196, ReadFor::Entry(1)),
-        (4, 260, ReadFor::Entry(2)),
-        (168, 264, ReadFor::Entry(3)),
-        (4, 436, ReadFor::Entry(4)),
-    ];
-    assert_all_told(&rt, rt.alloc(), ReadInto::View, SIX_READING, &calls, 392);
-}
-
-/// A file whose calls give a byte, three, and none.
-fn stopping<'a>(bytes: &'a [u8]) -> Source<PatchyStore<'a>> {
-    Source::new(PatchyStore::new(bytes, &[1, 3, 0], None))
-}
-
-/// Asserts that this is why a file gives neither a value nor a view.
-fn assert_stops(rt: &impl Abort, alloc: Global, bytes: &[u8], fault: ReadFault) {
-    let value = fault_of_source(alloc, stopping(bytes), NAMED, 18);
-    assert_same(rt, value, Some(fault));
-    let view = view_fault_of(alloc, stopping(bytes), NAMED);
-    assert_same(rt, view, Some(fault));
+/// Asserts that a file whose calls give a byte, three, and none gives neither a value nor a view.
+fn assert_stops(rt: &impl Abort, alloc: Global, bytes: &[u8], into: ReadInto) {
+    let source = Source::new(PatchyStore::new(bytes, &[1, 3, 0], None));
+    let (found, _) = fault_into(alloc, into, source, NAMED, Choice::All, 18);
+    let short = ReadFault::Opening(OpenFault::Source(SourceFault::ShortRead { at: 4 }));
+    assert_same_at(rt, &into, found, Some(short));
 }
 
 #[test]
 fn store_that_gives_nothing_is_told(rt: HostRuntime) {
     // A directory of a thousand entries, which are unused, or name one list of threads.
     let unused = file_of(&rt, rt.alloc(), Sample::Numbers(1000, &[0; 3000]));
+    assert_stops(&rt, rt.alloc(), &unused, ReadInto::Value);
+    assert_stops(&rt, rt.alloc(), &unused, ReadInto::View);
     let threads = thousand_entries_file(rt.alloc()).expect(&rt, "memory for a file");
-    let short = ReadFault::Opening(OpenFault::Source(SourceFault::ShortRead { at: 4 }));
-    assert_stops(&rt, rt.alloc(), &unused, short);
-    assert_stops(&rt, rt.alloc(), &threads, short);
+    assert_stops(&rt, rt.alloc(), &threads, ReadInto::Value);
+    assert_stops(&rt, rt.alloc(), &threads, ReadInto::View);
 }

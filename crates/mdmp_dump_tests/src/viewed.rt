@@ -10,9 +10,9 @@ mod rows;
 mod stores;
 
 use crate::dump::view::{CallFault, Wanted, first_record, raw_bytes};
-use crate::files::{NAMED, Sample, choice_of, file_of};
+use crate::files::{Sample, choice_of, file_of};
 use crate::writer::{open_out, size_of, write_view};
-use mdmp_dump::{DumpView, FileView, ReadFault};
+use mdmp_dump::{DumpView, FileView, ReadFault, ViewRefused};
 use mdmp_lister::{Choice, Limits};
 use mdmp_source::{MemoryStore, Source, Store, TwoFaces};
 use mdmp_writer::WriteFault;
@@ -78,6 +78,19 @@ pub fn view_fault_of<S: Store + Drop, A: Allocator + Copy>(
     }
 }
 
+/// Why a source gives no view of these entries, and the source that comes back, or that the view had.
+pub fn view_fault<S: Store + Drop, A: Allocator + Copy>(
+    alloc: A,
+    source: Source<S>,
+    limits: Limits,
+    choice: Choice,
+) -> (Option<ReadFault>, Source<S>) {
+    match FileView::open_source(alloc, source, limits, choice) {
+        Ok(view) => (None, view.into_source()),
+        Err(ViewRefused { fault, source }) => (Some(fault), source),
+    }
+}
+
 /// A view of all entries of a store.
 fn view_of<S: Store + Drop>(
     rt: &impl Abort,
@@ -127,10 +140,7 @@ fn write_opened<S: Store + Drop>(
 ) -> Written {
     let mut view = opened;
     let fetched = view.fetched();
-    let told = match size_of(&mut view) {
-        Ok(size) => size,
-        Err(_) => 0,
-    };
+    let told = size_of(&mut view).unwrap_or(0);
     let (outcome, bytes) = outcome_of(rt, alloc, &mut view, room);
     Written {
         outcome,
@@ -185,52 +195,41 @@ pub fn two_faces<'a>(
     TwoFaces::new(first, second, turn)
 }
 
-/// How many reads of a store it takes to open a view of all entries of this file.
-fn reads_to_open(rt: &impl Abort, alloc: Global, file: &[u8], limits: Limits) -> u64 {
-    let view = view_of(rt, alloc, two_faces(rt, file, file, u64::MAX), limits);
-    view.into_source().into_store().reads()
-}
-
-/// How many reads of a store it takes to open a view of all entries of this file and to write them
-/// through a buffer.
-fn reads_to_write(rt: &impl Abort, alloc: Global, file: &[u8], through: Through) -> u64 {
-    let store = two_faces(rt, file, file, u64::MAX);
-    let mut view = view_of(rt, alloc, store, through.limits);
-    if let (ViewOutcome::Wrote(_), _) = outcome_of(rt, alloc, &mut view, through.room) {
-        return view.into_source().into_store().reads();
+/// How many reads of a store it takes to open a view of all entries of this file, and how many to open one and to
+/// write them through a buffer.
+fn reads_of(rt: &impl Abort, alloc: Global, file: &[u8], through: Through) -> (u64, u64) {
+    let mut view = view_of(
+        rt,
+        alloc,
+        two_faces(rt, file, file, u64::MAX),
+        through.limits,
+    );
+    let opened = view_of(
+        rt,
+        alloc,
+        two_faces(rt, file, file, u64::MAX),
+        through.limits,
+    );
+    let (outcome, _) = outcome_of(rt, alloc, &mut view, through.room);
+    let reads = opened.into_source().into_store().reads();
+    match outcome {
+        ViewOutcome::Wrote(_) => (reads, view.into_source().into_store().reads()),
+        _ => rt.panic("a file that is written"),
     }
-    rt.panic("a file that is written")
-}
-
-/// Writes all entries of a file that becomes another one of the same length at this read.
-fn written_by_turns(
-    rt: &impl Abort,
-    alloc: Global,
-    first: &[u8],
-    second: &[u8],
-    turn: u64,
-    through: Through,
-) -> Written {
-    write_over(rt, alloc, two_faces(rt, first, second, turn), &[], through)
 }
 
 /// Four bytes of a stream, zeros where there are none, or the fault of the call that did not give them.
 type FourBytes = Result<[u8; 4], CallFault>;
 
-/// Asks for four bytes of a stream of raw bytes, or of one that has records.
+/// Asks for four bytes of a stream of raw bytes, or of the first record of one that has records.
 fn four_bytes<V: DumpView>(view: &mut V, wanted: Wanted) -> FourBytes {
     let mut out = [0; 4];
-    match raw_bytes(view, wanted, &mut out) {
-        Ok(true) => Ok(out),
-        Ok(false) => four_of_record(view, wanted),
+    let found = match raw_bytes(view, wanted, &mut out) {
+        Ok(true) => return Ok(out),
+        Ok(false) => first_record(view, wanted, &mut out),
         Err(fault) => Err(fault),
-    }
-}
-
-/// Asks for four bytes of the first record of a stream.
-fn four_of_record<V: DumpView>(view: &mut V, wanted: Wanted) -> FourBytes {
-    let mut out = [0; 4];
-    match first_record(view, wanted, &mut out) {
+    };
+    match found {
         Ok(_) => Ok(out),
         Err(fault) => Err(fault),
     }

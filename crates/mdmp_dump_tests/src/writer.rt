@@ -3,11 +3,9 @@ mod layouts;
 mod outputs;
 mod refused;
 mod round_trip;
-mod vectors;
 mod views;
 
-use crate::files::{Sample, file_of};
-use crate::same::assert_same;
+use crate::same::assert_same_at;
 use mdmp_dump::{Dump, DumpView};
 use mdmp_lister::Limits;
 use mdmp_source::PatchyOut;
@@ -18,9 +16,20 @@ use mdmp_writer::{
 use std::alloc::{Allocator, Global};
 use std::process::Abort;
 
+/// An output in memory that takes so many bytes in all, so many in a call, and fails at a call, if it does.
+pub fn patchy_out(
+    rt: &impl Abort,
+    alloc: Global,
+    room: usize,
+    cap: usize,
+    fail_at: Option<u64>,
+) -> PatchyOut<Global> {
+    PatchyOut::with_room(alloc, room, cap, fail_at).expect(rt, "memory for an output")
+}
+
 /// An output in memory that takes all of a small dump.
 pub fn open_out(rt: &impl Abort, alloc: Global) -> PatchyOut<Global> {
-    PatchyOut::with_room(alloc, 4096, 4096, None).expect(rt, "memory for an output")
+    patchy_out(rt, alloc, 4096, 4096, None)
 }
 
 /// How many bytes a dump has as it is written, or why it can't be.
@@ -38,33 +47,19 @@ pub fn write_view<V: DumpView>(
     write_dump(view, out, &mut buffer[..room.clamp(1, 4096)])
 }
 
-/// Writes a dump to an output through a buffer of so many bytes, and asserts what is answered and what the
+/// Writes a view to an output through a buffer of so many bytes, and asserts what is answered and what the
 /// output took.
-fn assert_wrote(
+fn assert_wrote<V: DumpView>(
     rt: &impl Abort,
-    dump: &Dump<Global>,
+    view: &mut V,
     out: PatchyOut<Global>,
     room: usize,
     expected: Result<u64, WriteFault>,
     bytes: &[u8],
 ) {
     let mut taking = out;
-    let answer = write_view(&mut dump.view(), &mut taking, room);
-    assert_same(rt, answer, expected);
-    assert_same(rt, taking.bytes(), bytes);
-}
-
-/// Asserts how many bytes a dump has as it is written, or why it can't be.
-fn assert_size(rt: &impl Abort, dump: &Dump<Global>, size: Result<u64, LayoutFault>) {
-    assert_same(rt, size_of(&mut dump.view()), size);
-}
-
-/// Asserts that a dump is written as this file, and its size is told as that.
-fn assert_written(rt: &impl Abort, alloc: Global, dump: Dump<Global>, sample: Sample<'_>) {
-    let file = file_of(rt, alloc, sample);
-    let size = file.len() as u64;
-    assert_size(rt, &dump, Ok(size));
-    assert_wrote(rt, &dump, open_out(rt, alloc), 64, Ok(size), &file);
+    let answer = write_view(view, &mut taking, room);
+    assert_same_at(rt, &room, (answer, taking.bytes()), (expected, bytes));
 }
 
 /// How many bytes a dump has in memory, or why it is not written there.

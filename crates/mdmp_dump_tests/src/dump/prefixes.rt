@@ -9,28 +9,6 @@ use mdmp_source::{MemoryStore, Source};
 use std::alloc::Global;
 use std::process::Abort;
 
-/// A stream that stands outside.
-fn stream_outside(entry: u32, offset: u64, size: u64) -> Option<ReadFault> {
-    Some(ReadFault::List(ListFault {
-        entry,
-        index: None,
-        kind: FaultKind::StreamOutside,
-        offset,
-        size,
-    }))
-}
-
-/// A part of the first record that stands outside.
-fn part_outside(entry: u32, part: PartName, offset: u128, size: u64) -> Option<ReadFault> {
-    Some(ReadFault::PartOutside {
-        entry,
-        index: 0,
-        part,
-        offset,
-        size,
-    })
-}
-
 /// Asserts that the first bytes of a file, as many as this, give neither a value with parts of at most 100
 /// bytes nor a view, for this reason, or both where there is none.
 fn assert_prefix(
@@ -41,56 +19,104 @@ fn assert_prefix(
     fault: Option<ReadFault>,
 ) {
     let first = file.get(..size).expect(rt, "a prefix");
-    assert_same_at(rt, &size, fault_of(alloc, first, NAMED, 100), fault);
-    let source = Source::new(MemoryStore::new(first));
-    assert_same_at(rt, &size, view_fault_of(alloc, source, NAMED), fault);
-}
-
-/// Asserts it of each prefix that has fewer bytes than a header.
-fn assert_too_short(rt: &impl Abort, alloc: Global, file: &[u8]) {
-    for size in 0..32 {
-        let short = OpenFault::TooShort { size: size as u64 };
-        assert_prefix(rt, alloc, file, size, Some(ReadFault::Opening(short)));
-    }
+    let value = fault_of(alloc, first, NAMED, 100);
+    let view = view_fault_of(alloc, Source::new(MemoryStore::new(first)), NAMED);
+    assert_same_at(rt, &size, (value, view), (fault, fault));
 }
 
 #[test]
 fn header_that_is_cut_is_too_short(rt: HostRuntime) {
-    assert_too_short(&rt, rt.alloc(), &file_of(&rt, rt.alloc(), CRASH_FILE));
+    let file = file_of(&rt, rt.alloc(), CRASH_FILE);
+    for size in 0..32 {
+        let short = OpenFault::TooShort { size: size as u64 };
+        let fault = Some(ReadFault::Opening(short));
+        assert_prefix(&rt, rt.alloc(), &file, size, fault);
+    }
 }
 
 /// The fewest and the most bytes of some prefixes, and what comes of each of these.
 type PrefixSpan = (usize, usize, Option<ReadFault>);
 
-/// Asserts it of each prefix of some spans.
-fn assert_spans(rt: &impl Abort, alloc: Global, file: &[u8], spans: &[PrefixSpan]) {
-    for span in spans {
-        let (from, to, fault) = *span;
-        for size in from..to.saturating_add(1) {
-            assert_prefix(rt, alloc, file, size, fault);
-        }
+/// What is cut of the thread and the exception, from a whole header on.
+const SPANS: &[PrefixSpan] = &[
+    (
+        32,
+        55,
+        Some(ReadFault::Opening(OpenFault::DirectoryOutside {
+            offset: 32,
+            size: 24,
+        })),
+    ),
+    (
+        56,
+        107,
+        Some(ReadFault::List(ListFault {
+            entry: 0,
+            index: None,
+            kind: FaultKind::StreamOutside,
+            offset: 56,
+            size: 52,
+        })),
+    ),
+    (
+        108,
+        111,
+        Some(ReadFault::PartOutside {
+            entry: 0,
+            index: 0,
+            part: PartName::Stack,
+            offset: 108,
+            size: 4,
+        }),
+    ),
+    (
+        112,
+        117,
+        Some(ReadFault::PartOutside {
+            entry: 0,
+            index: 0,
+            part: PartName::Context,
+            offset: 112,
+            size: 6,
+        }),
+    ),
+    (
+        118,
+        287,
+        Some(ReadFault::List(ListFault {
+            entry: 1,
+            index: None,
+            kind: FaultKind::StreamOutside,
+            offset: 120,
+            size: 168,
+        })),
+    ),
+    (
+        288,
+        291,
+        Some(ReadFault::PartOutside {
+            entry: 1,
+            index: 0,
+            part: PartName::Context,
+            offset: 288,
+            size: 4,
+        }),
+    ),
+    (292, 292, None),
+];
+
+/// Asserts it of each prefix of a span.
+fn assert_span(rt: &impl Abort, alloc: Global, file: &[u8], span: &PrefixSpan) {
+    let (from, to, fault) = *span;
+    for size in from..to.saturating_add(1) {
+        assert_prefix(rt, alloc, file, size, fault);
     }
 }
 
 #[test]
 fn each_prefix_of_a_dump_is_told_by_what_is_cut(rt: HostRuntime) {
-    let directory = OpenFault::DirectoryOutside {
-        offset: 32,
-        size: 24,
-    };
-    let spans = [
-        (32, 55, Some(ReadFault::Opening(directory))),
-        (56, 107, stream_outside(0, 56, 52)),
-        (108, 111, part_outside(0, PartName::Stack, 108, 4)),
-        (112, 117, part_outside(0, PartName::Context, 112, 6)),
-        (118, 287, stream_outside(1, 120, 168)),
-        (288, 291, part_outside(1, PartName::Context, 288, 4)),
-        (292, 292, None),
-    ];
-    assert_spans(
-        &rt,
-        rt.alloc(),
-        &file_of(&rt, rt.alloc(), CRASH_FILE),
-        &spans,
-    );
+    let file = file_of(&rt, rt.alloc(), CRASH_FILE);
+    for span in SPANS {
+        assert_span(&rt, rt.alloc(), &file, span);
+    }
 }

@@ -12,20 +12,12 @@ fn told(size: u32) -> Option<u32> {
 }
 
 #[test]
-fn sizes_over_zero_are_told(rt: HostRuntime) {
-    assert_same(&rt, told(1), Some(1));
-    assert_same(&rt, told(u32::MAX), Some(u32::MAX));
-}
-
-#[test]
-fn size_of_zero_is_none(rt: HostRuntime) {
-    assert_same(&rt, told(0), None);
-}
-
-#[test]
-fn sizes_are_compared_and_printed(rt: HostRuntime) {
-    assert_same(&rt, PositiveSize::new(7), PositiveSize::new(7));
-    assert_that(&rt, PositiveSize::new(7) != PositiveSize::new(8));
+fn sizes_over_zero_are_told_compared_and_printed(rt: HostRuntime) {
+    let found = (told(0), told(1), told(u32::MAX));
+    assert_same(&rt, found, (None, Some(1), Some(u32::MAX)));
+    let seven = PositiveSize::new(7);
+    assert_same(&rt, PositiveSize::new(7), seven);
+    assert_that(&rt, PositiveSize::new(8) != seven);
     let text = "Some(PositiveSize { size: 7 })";
-    assert_printed(&rt, rt.alloc(), PositiveSize::new(7), text);
+    assert_printed(&rt, rt.alloc(), "seven", seven, text);
 }

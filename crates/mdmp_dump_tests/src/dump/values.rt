@@ -1,46 +1,10 @@
-//! Dumps as values: built, looked at, compared and printed.
-use super::built::{absent, assert_printed, bytes, part, records, units};
-use crate::same::{assert_same, assert_that};
-use mdmp_dump::{Dump, Memory64Range, MemoryRange, Part, Records, Stream, Unloaded};
+//! Dumps as values: built, looked at, given back and compared.
+use super::built::{bytes, dump_of, records, value_of};
+use crate::files::{ALL, DumpReading, NAMED, Sample};
+use crate::same::{assert_same, assert_same_at, assert_that};
+use mdmp_dump::{Dump, Memory64Range, Records, Stream};
 use std::alloc::Global;
 use std::process::Abort;
-
-/// A module that was unloaded, of this name.
-fn unloaded(rt: &impl Abort, alloc: Global, name: &str) -> Unloaded<Global> {
-    Unloaded {
-        base_of_image: 0x1000,
-        size_of_image: 0x200,
-        checksum: 1,
-        time_date_stamp: 2,
-        name: Some(units(rt, alloc, name)),
-    }
-}
-
-/// A dump of one stream.
-fn dump_of(rt: &impl Abort, alloc: Global, stream: Stream<Global>) -> Dump<Global> {
-    Dump {
-        version_high: 1,
-        checksum: 2,
-        time: 3,
-        flags: 4,
-        streams: records(rt, alloc, [stream]),
-    }
-}
-
-/// A dump of one unloaded module, of this name.
-fn named(rt: &impl Abort, alloc: Global, name: &str) -> Dump<Global> {
-    let list = records(rt, alloc, [unloaded(rt, alloc, name)]);
-    dump_of(rt, alloc, Stream::Unloaded(list))
-}
-
-/// A dump of one range of memory, of these bytes.
-fn ranged(rt: &impl Abort, alloc: Global, part: Part<Global>) -> Dump<Global> {
-    let range = MemoryRange {
-        start: 0x7000,
-        bytes: part,
-    };
-    dump_of(rt, alloc, Stream::Memory(records(rt, alloc, [range])))
-}
 
 /// A list of one range of 64-bit memory.
 fn far_range(rt: &impl Abort, alloc: Global) -> Records<Memory64Range<Global>, Global> {
@@ -67,58 +31,10 @@ fn has_range(dump: &Dump<Global>, bytes: &[u8]) -> bool {
 
 #[test]
 fn dump_is_built_and_looked_at(rt: HostRuntime) {
-    let list = far_range(&rt, rt.alloc());
-    let dump = dump_of(&rt, rt.alloc(), Stream::Memory64(list));
+    let stream = Stream::Memory64(far_range(&rt, rt.alloc()));
+    let dump = dump_of(records(&rt, rt.alloc(), [stream]));
     assert_that(&rt, has_range(&dump, b"ABCD"));
     assert_that(&rt, !has_range(&dump, b"ABCE"));
-}
-
-/// Asserts that two dumps are the same, or that they are not.
-fn assert_compared(rt: &impl Abort, one: Dump<Global>, other: Dump<Global>, are_same: bool) {
-    let found = (one == other, one != other);
-    assert_same(rt, found, (are_same, !are_same));
-}
-
-/// Asserts it of an unloaded module `a.dll`, and of one of this name.
-fn assert_named(rt: &impl Abort, alloc: Global, other: &str, are_same: bool) {
-    let dump = named(rt, alloc, "a.dll");
-    assert_compared(rt, dump, named(rt, alloc, other), are_same);
-}
-
-#[test]
-fn names_are_compared(rt: HostRuntime) {
-    assert_named(&rt, rt.alloc(), "a.dll", true);
-    assert_named(&rt, rt.alloc(), "b.dll", false);
-}
-
-/// Asserts it of a range of the bytes `AB`, and of one of this part.
-fn assert_ranged(rt: &impl Abort, alloc: Global, other: Part<Global>, are_same: bool) {
-    let dump = ranged(rt, alloc, part(rt, alloc, b"AB"));
-    assert_compared(rt, dump, ranged(rt, alloc, other), are_same);
-}
-
-#[test]
-fn parts_are_compared(rt: HostRuntime) {
-    assert_ranged(&rt, rt.alloc(), part(&rt, rt.alloc(), b"AB"), true);
-    assert_ranged(&rt, rt.alloc(), part(&rt, rt.alloc(), b"AC"), false);
-    assert_ranged(&rt, rt.alloc(), absent(&rt, 2), false);
-}
-
-#[test]
-fn dump_is_printed_as_any_value(rt: HostRuntime) {
-    let raw = Stream::Raw(10, bytes(&rt, rt.alloc(), &[1, 2]));
-    assert_printed(
-        &rt,
-        rt.alloc(),
-        dump_of(&rt, rt.alloc(), raw),
-        "Dump { version_high: 1, checksum: 2, time: 3, flags: 4, streams: [Raw(10, [1, 2])] }",
-    );
-    assert_printed(
-        &rt,
-        rt.alloc(),
-        unloaded(&rt, rt.alloc(), "a\\"),
-        "Unloaded { base_of_image: 4096, size_of_image: 512, checksum: 1, time_date_stamp: 2, name: Some(\"a\\u005c\") }",
-    );
 }
 
 #[test]
@@ -128,5 +44,74 @@ fn lists_are_given_back(rt: HostRuntime) {
     for range in list {
         let bytes = range.bytes.into_vec();
         assert_same(&rt, bytes.as_slice(), b"ABCD".as_slice());
+    }
+}
+
+/// Two files, and whether their values are the same.
+struct ComparedRow {
+    one: Sample<'static>,
+    other: Sample<'static>,
+    are_same: bool,
+}
+
+/// An unloaded module of this name.
+const NAME: Sample<'static> = Sample::Named(b"\x0a\0\0\0a\0.\0d\0l\0l\0");
+
+/// A range of memory of the bytes `AB`.
+const RANGE: Sample<'static> = Sample::Numbers(1, &[5, 20, 44, 1, 0x7000, 0, 2, 64, 0x4241]);
+
+const COMPARED: &[ComparedRow] = &[
+    ComparedRow {
+        one: NAME,
+        other: NAME,
+        are_same: true,
+    },
+    // Another name.
+    ComparedRow {
+        one: NAME,
+        other: Sample::Named(b"\x0a\0\0\0b\0.\0d\0l\0l\0"),
+        are_same: false,
+    },
+    // The same bytes at another place.
+    ComparedRow {
+        one: RANGE,
+        other: Sample::Numbers(1, &[5, 20, 44, 1, 0x7000, 0, 2, 68, 0, 0x4241]),
+        are_same: true,
+    },
+    // Other bytes.
+    ComparedRow {
+        one: RANGE,
+        other: Sample::Numbers(1, &[5, 20, 44, 1, 0x7000, 0, 2, 64, 0x4341]),
+        are_same: false,
+    },
+    // As many bytes, which are absent.
+    ComparedRow {
+        one: RANGE,
+        other: Sample::Numbers(1, &[5, 20, 44, 1, 0x7000, 0, 2, 0]),
+        are_same: false,
+    },
+];
+
+/// The value of a file.
+fn dump_in(rt: &impl Abort, alloc: Global, sample: Sample<'static>) -> Dump<Global> {
+    let reading = DumpReading {
+        name: "a file that is compared",
+        sample,
+        types: ALL,
+        limits: NAMED,
+        parts: 2,
+    };
+    value_of(rt, alloc, reading)
+}
+
+#[test]
+fn names_and_parts_are_compared(rt: HostRuntime) {
+    let mut number: u32 = 0;
+    for row in COMPARED {
+        let one = dump_in(&rt, rt.alloc(), row.one);
+        let other = dump_in(&rt, rt.alloc(), row.other);
+        let found = (one == other, one != other);
+        assert_same_at(&rt, &number, found, (row.are_same, !row.are_same));
+        number = number.saturating_add(1);
     }
 }

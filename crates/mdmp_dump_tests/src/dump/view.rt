@@ -2,15 +2,15 @@
 ghost use Rattle.std.specs.Prelude.{◌≡◌, ◌<◌, length, IsTrue};
 ghost use Rattle.mdmp_dump.specs.Shape.{head_of, stream_at};
 
-use super::built::{records, value_of};
+use super::built::value_of;
 use crate::files::{
-    ABSENT_STACK_READING, DumpReading, LEAST, MEMORY64_READING, SIX_READING, Sample,
+    ABSENT_STACK_READING, CRASH_READING, DumpReading, MEMORY64_READING, SIX_READING,
 };
 use crate::same::{assert_same, assert_same_at};
-use mdmp_dump::{Dump, DumpView, Fields, HeaderFields, Kind, PartSize, ViewFault};
+use crate::vectors::VECTORS;
+use mdmp_dump::{DumpView, Fields, HeaderFields, Kind, PartSize, ViewFault};
 use mdmp_source::Location;
 use mdmp_wire::{AnyRecord, Descriptor, Descriptor64, ThreadRecord};
-use std::alloc::Global;
 use std::process::Abort;
 
 /// What a stream is, how many bytes its body has, and how many its names and parts take.
@@ -77,11 +77,6 @@ pub struct Wanted {
     pub at: u64,
 }
 
-/// Bytes of a part of a stream, from a place on.
-pub fn bytes_at(stream: u64, which: usize, at: u64) -> Wanted {
-    Wanted { stream, which, at }
-}
-
 /// The first record of a stream, if it has records, and of one of its parts the bytes from a place on, if
 /// there are so many.
 pub fn first_record<V: DumpView>(
@@ -135,191 +130,192 @@ pub fn raw_bytes<V: DumpView>(
     Ok(true)
 }
 
-/// Asserts what is told of each stream of a dump.
-fn assert_told(rt: &impl Abort, alloc: Global, reading: DumpReading<'_>, streams: &[StreamTold]) {
-    let dump = value_of(rt, alloc, reading);
-    let mut view = dump.view();
-    let mut stream: u64 = 0;
-    for told in streams {
-        assert_same_at(rt, &stream, told_of(&mut view, stream), Some(*told));
-        stream = stream.saturating_add(1);
-    }
-    assert_same(rt, told_of(&mut view, stream), None);
-}
-
-#[test]
-fn streams_are_told_by_their_kinds_and_sizes(rt: HostRuntime) {
-    let streams = [
-        (Kind::Known(7), 56, 36),
-        (Kind::Known(3), 52, 12),
-        (Kind::Known(4), 4, 0),
-        (Kind::Known(6), 168, 4),
-        (Kind::Known(5), 4, 0),
-        (Kind::Raw(12), 4, 0),
-    ];
-    assert_told(&rt, rt.alloc(), SIX_READING, &streams);
-}
-
-/// Asserts what is given as the first record of a stream.
-fn assert_record<V: DumpView>(rt: &impl Abort, view: &mut V, stream: u64, fields: Option<Fields>) {
-    let found = first_record(view, bytes_at(stream, 0, 0), &mut []);
-    assert_same_at(rt, &stream, found, Ok(fields));
-}
-
-/// Asserts what one view of a dump gives as the first records of these streams, one after another.
-fn assert_records(
-    rt: &impl Abort,
-    alloc: Global,
-    reading: DumpReading<'_>,
-    rows: &[(u64, Option<Fields>)],
-) {
-    let dump = value_of(rt, alloc, reading);
-    let mut view = dump.view();
-    for (stream, fields) in rows {
-        assert_record(rt, &mut view, *stream, *fields);
-    }
-}
-
 /// A part of the first record of a stream, a place in it, and the bytes from there on.
 type PartRow = (u64, usize, u64, &'static [u8]);
 
-/// Asserts that the first record of a stream is given, and these bytes of one of its parts.
-fn assert_part<V: DumpView>(rt: &impl Abort, view: &mut V, wanted: Wanted, expected: &[u8]) {
-    let mut buffer = [0; 8];
-    let out = buffer.get_mut(..expected.len()).expect(rt, "room");
-    let found = first_record(view, wanted, out);
-    assert_same_at(rt, &wanted, matches!(found, Ok(Some(_))), true);
-    let out = buffer.get(..expected.len());
-    assert_same_at(rt, &wanted, out, Some(expected));
-}
-
-/// Asserts it of one view of a dump and each of these rows, one after another.
-fn assert_parts(rt: &impl Abort, alloc: Global, reading: DumpReading<'_>, rows: &[PartRow]) {
-    let dump = value_of(rt, alloc, reading);
-    let mut view = dump.view();
-    for (stream, which, at, expected) in rows {
-        assert_part(rt, &mut view, bytes_at(*stream, *which, *at), expected);
-    }
-}
-
-#[test]
-fn memory_of_64_bits_is_told_by_its_bytes(rt: HostRuntime) {
-    assert_told(
-        &rt,
-        rt.alloc(),
-        MEMORY64_READING,
-        &[(Kind::Known(9), 48, 8)],
-    );
-    let fields = Fields {
-        wire: AnyRecord::Memory64(Descriptor64 {
-            start_of_memory_range: 0x1000,
-            data_size: 4,
-        }),
-        parts: [PartSize::Size(4), PartSize::NoPart, PartSize::NoPart],
-    };
-    assert_records(&rt, rt.alloc(), MEMORY64_READING, &[(0, Some(fields))]);
-    assert_parts(&rt, rt.alloc(), MEMORY64_READING, &[(0, 0, 1, b"BCD")]);
-}
-
-/// The numbers of the header that the view of a dump gives.
-fn header_of(dump: &Dump<Global>) -> HeaderFields {
-    dump.view().header()
-}
-
-/// A dump that was read of a file without streams, with other numbers of its header.
-fn dump_with_numbers(rt: &impl Abort, alloc: Global) -> Dump<Global> {
-    let mut dump = value_of(rt, alloc, NO_STREAMS);
-    dump.version_high = 1;
-    dump.checksum = 2;
-    dump.time = 3;
-    dump.flags = 4;
-    dump
-}
-
-/// A file without streams.
-const NO_STREAMS: DumpReading<'static> = DumpReading {
-    sample: Sample::Numbers(0, &[]),
-    limits: LEAST,
-    parts: 0,
-};
-
-#[test]
-fn numbers_of_the_header_are_given(rt: HostRuntime) {
-    let header = HeaderFields {
-        version_high: 1,
-        checksum: 2,
-        time: 3,
-        flags: 4,
-    };
-    assert_same(&rt, header_of(&dump_with_numbers(&rt, rt.alloc())), header);
+/// What one view of a dump gives, one after another: what is told of each of its streams, the first records of some,
+/// and parts of these.
+#[derive(Clone, Copy)]
+struct ViewRow {
+    reading: DumpReading,
+    told: &'static [StreamTold],
+    records: &'static [(u64, Option<Fields>)],
+    parts: &'static [PartRow],
 }
 
 /// Where nothing is.
 const NOWHERE: Location = Location { size: 0, rva: 0 };
 
-/// A thread, whose stack begins at 0x7000, without its locations.
-fn thread(teb: u64, priority_class: u32) -> AnyRecord {
-    AnyRecord::Thread(ThreadRecord {
-        thread_id: 7,
-        suspend_count: 0,
-        priority_class,
-        priority: 0,
-        teb,
-        stack: Descriptor {
-            start_of_memory_range: 0x7000,
-            memory: NOWHERE,
-        },
-        thread_context: NOWHERE,
-    })
-}
+/// The stack of a thread begins here, and stands nowhere.
+const STACK: Descriptor = Descriptor {
+    start_of_memory_range: 0x7000,
+    memory: NOWHERE,
+};
 
-#[test]
-fn record_is_given_without_its_locations(rt: HostRuntime) {
-    let fields = Fields {
-        wire: thread(0x5000, 32),
-        parts: [PartSize::Size(4), PartSize::Size(6), PartSize::NoPart],
-    };
-    let rows = [(1, Some(fields)), (2, None)];
-    assert_records(&rt, rt.alloc(), SIX_READING, &rows);
-}
-
-#[test]
-fn absent_part_is_given_as_its_size(rt: HostRuntime) {
-    let fields = Fields {
-        wire: thread(0, 0),
-        parts: [PartSize::Absent(256), PartSize::Size(1), PartSize::NoPart],
-    };
-    assert_records(&rt, rt.alloc(), ABSENT_STACK_READING, &[(0, Some(fields))]);
-}
-
-/// Parts of the six streams, by pieces.
-const PIECES: [PartRow; 9] = [
-    (0, 0, 0, b"S\0e"),
-    (0, 0, 3, b"\0r\0v"),
-    (0, 0, 26, b"1\0"),
-    (1, 0, 0, b"STAK"),
-    (1, 1, 0, &[1, 2, 3, 4]),
-    (1, 1, 4, &[5, 6]),
-    (1, 1, 6, &[]),
-    (3, 0, 0, &[0xaa]),
-    (3, 0, 1, &[0xbb, 0xcc, 0xdd]),
+const VIEWS: [ViewRow; 4] = [
+    ViewRow {
+        reading: SIX_READING,
+        told: &[
+            (Kind::Known(7), 56, 36),
+            (Kind::Known(3), 52, 12),
+            (Kind::Known(4), 4, 0),
+            (Kind::Known(6), 168, 4),
+            (Kind::Known(5), 4, 0),
+            (Kind::Raw(12), 4, 0),
+        ],
+        // A record without its locations, and a list without records.
+        records: &[
+            (
+                1,
+                Some(Fields {
+                    wire: AnyRecord::Thread(ThreadRecord {
+                        thread_id: 7,
+                        suspend_count: 0,
+                        priority_class: 32,
+                        priority: 0,
+                        teb: 0x5000,
+                        stack: STACK,
+                        thread_context: NOWHERE,
+                    }),
+                    parts: [PartSize::Size(4), PartSize::Size(6), PartSize::NoPart],
+                }),
+            ),
+            (2, None),
+        ],
+        // By pieces.
+        parts: &[
+            (0, 0, 0, b"S\0e"),
+            (0, 0, 3, b"\0r\0v"),
+            (0, 0, 26, b"1\0"),
+            (1, 0, 0, b"STAK"),
+            (1, 1, 0, &[1, 2, 3, 4]),
+            (1, 1, 4, &[5, 6]),
+            (1, 1, 6, &[]),
+            (3, 0, 0, &[0xaa]),
+            (3, 0, 1, &[0xbb, 0xcc, 0xdd]),
+        ],
+    },
+    ViewRow {
+        reading: CRASH_READING,
+        told: &[(Kind::Known(3), 52, 12), (Kind::Known(6), 168, 4)],
+        records: &[],
+        parts: &[],
+    },
+    ViewRow {
+        reading: MEMORY64_READING,
+        told: &[(Kind::Known(9), 48, 8)],
+        records: &[(
+            0,
+            Some(Fields {
+                wire: AnyRecord::Memory64(Descriptor64 {
+                    start_of_memory_range: 0x1000,
+                    data_size: 4,
+                }),
+                parts: [PartSize::Size(4), PartSize::NoPart, PartSize::NoPart],
+            }),
+        )],
+        parts: &[(0, 0, 1, b"BCD")],
+    },
+    // An absent part is given as its size.
+    ViewRow {
+        reading: ABSENT_STACK_READING,
+        told: &[(Kind::Known(3), 52, 4)],
+        records: &[(
+            0,
+            Some(Fields {
+                wire: AnyRecord::Thread(ThreadRecord {
+                    thread_id: 7,
+                    suspend_count: 0,
+                    priority_class: 0,
+                    priority: 0,
+                    teb: 0,
+                    stack: STACK,
+                    thread_context: NOWHERE,
+                }),
+                parts: [PartSize::Absent(256), PartSize::Size(1), PartSize::NoPart],
+            }),
+        )],
+        parts: &[],
+    },
 ];
 
-#[test]
-fn parts_are_given_by_pieces(rt: HostRuntime) {
-    assert_parts(&rt, rt.alloc(), SIX_READING, &PIECES);
+/// Asserts what is told of each stream of a view.
+fn assert_told<V: DumpView>(rt: &impl Abort, view: &mut V, streams: &[StreamTold]) {
+    let mut stream: u64 = 0;
+    for told in streams {
+        assert_same_at(rt, &stream, told_of(view, stream), Some(*told));
+        stream = stream.saturating_add(1);
+    }
+    assert_same(rt, told_of(view, stream), None);
 }
 
-/// Asserts what is found where two bytes of a stream of the six are asked for.
-fn assert_raw(rt: &impl Abort, alloc: Global, wanted: Wanted, is_raw: bool, expected: [u8; 2]) {
-    let six = value_of(rt, alloc, SIX_READING);
-    let mut out = [0; 2];
-    let found = raw_bytes(&mut six.view(), wanted, &mut out);
-    assert_same(rt, (found, out), (Ok(is_raw), expected));
+/// Asserts what is given as the first records of these streams.
+fn assert_records<V: DumpView>(rt: &impl Abort, view: &mut V, rows: &[(u64, Option<Fields>)]) {
+    for (stream, fields) in rows {
+        let wanted = Wanted {
+            stream: *stream,
+            which: 0,
+            at: 0,
+        };
+        let found = first_record(view, wanted, &mut []);
+        assert_same_at(rt, stream, found, Ok(*fields));
+    }
 }
+
+/// Asserts that the first record of a stream is given, and these bytes of one of its parts.
+fn assert_part<V: DumpView>(rt: &impl Abort, view: &mut V, row: &PartRow) {
+    let (stream, which, at, expected) = *row;
+    let wanted = Wanted { stream, which, at };
+    let mut buffer = [0; 8];
+    let out = buffer.get_mut(..expected.len()).expect(rt, "room");
+    let found = first_record(view, wanted, out);
+    assert_same_at(rt, &wanted, matches!(found, Ok(Some(_))), true);
+    assert_same_at(rt, &wanted, buffer.get(..expected.len()), Some(expected));
+}
+
+/// Asserts what a view gives.
+fn assert_view<V: DumpView>(rt: &impl Abort, view: &mut V, row: &ViewRow) {
+    assert_told(rt, view, row.told);
+    assert_records(rt, view, row.records);
+    for part in row.parts {
+        assert_part(rt, view, part);
+    }
+}
+
+#[test]
+fn streams_records_and_parts_are_those_of_the_value(rt: HostRuntime) {
+    for row in &VIEWS {
+        let dump = value_of(&rt, rt.alloc(), row.reading);
+        assert_view(&rt, &mut dump.view(), row);
+    }
+}
+
+#[test]
+fn numbers_of_the_header_are_given(rt: HostRuntime) {
+    let header = HeaderFields {
+        version_high: 0x12aa,
+        checksum: 1,
+        time: 2,
+        flags: 0x0400000000000003,
+    };
+    let dump = value_of(&rt, rt.alloc(), VECTORS[0].reading);
+    assert_same(&rt, dump.view().header(), header);
+}
+
+/// A stream of the six, a place in it, and whether it is one of raw bytes, with two of these from there on.
+const RAW: [(u64, u64, bool, [u8; 2]); 2] = [(5, 1, true, [2, 3]), (4, 0, false, [0, 0])];
 
 #[test]
 fn raw_bytes_are_given_by_pieces(rt: HostRuntime) {
-    assert_raw(&rt, rt.alloc(), bytes_at(5, 0, 1), true, [2, 3]);
-    assert_raw(&rt, rt.alloc(), bytes_at(4, 0, 0), false, [0, 0]);
+    let six = value_of(&rt, rt.alloc(), SIX_READING);
+    for (stream, at, is_raw, expected) in &RAW {
+        let wanted = Wanted {
+            stream: *stream,
+            which: 0,
+            at: *at,
+        };
+        let mut out = [0; 2];
+        let found = raw_bytes(&mut six.view(), wanted, &mut out);
+        assert_same_at(&rt, stream, (found, out), (Ok(*is_raw), *expected));
+    }
 }

@@ -1,24 +1,12 @@
 //! The calls of a view over a store that gives one byte a call, each of whose calls fails in turn.
 use super::{FourBytes, asked_thrice};
-use crate::dump::view::{ViewCall, Wanted, bytes_at};
+use crate::dump::view::{ViewCall, Wanted};
 use crate::files::{CRASH_FILE, NAMED, SIX_FILE, Sample, file_of};
 use crate::same::assert_same_at;
 use mdmp_dump::ViewFault;
 use mdmp_source::{PatchyStore, SourceFault};
 use std::alloc::Global;
 use std::process::Abort;
-
-/// What a view answers over a store that gives one byte a call and fails at this one.
-fn asked_where(
-    rt: &impl Abort,
-    alloc: Global,
-    file: &[u8],
-    fail_at: u64,
-    wanted: Wanted,
-) -> [FourBytes; 3] {
-    let store = PatchyStore::new(file, &[1], Some(fail_at));
-    asked_thrice(rt, alloc, store, NAMED, wanted)
-}
 
 /// Calls of a store, one behind the other: how many they are, where the byte of the first one stands, and
 /// the call of the view that makes them.
@@ -36,81 +24,15 @@ fn expected_of(call: ViewCall, at: u64, bytes: [u8; 4]) -> [FourBytes; 3] {
 }
 
 /// Bytes of a file that a view is asked for.
-#[derive(Clone, Copy)]
-struct Asking<'a> {
-    sample: Sample<'a>,
+struct Asking {
+    name: &'static str,
+    sample: Sample<'static>,
     /// How many calls open the view.
     opening: u64,
     wanted: Wanted,
     bytes: [u8; 4],
-}
-
-/// Asserts that the failure of each of these calls is told, which are numbered from `first` on.
-fn assert_told(
-    rt: &impl Abort,
-    alloc: Global,
-    file: &[u8],
-    first: u64,
-    calls: PassCalls,
-    asking: Asking<'_>,
-) {
-    let (count, place, view_call) = calls;
-    for call in 0..count {
-        let fail_at = first.saturating_add(call);
-        let asked = asked_where(rt, alloc, file, fail_at, asking.wanted);
-        let expected = expected_of(view_call, place.saturating_add(call), asking.bytes);
-        assert_same_at(rt, &fail_at, asked, expected);
-    }
-}
-
-/// Asserts it of all these calls, and that the bytes are given where the call behind them fails.
-fn assert_all_told(rt: &impl Abort, alloc: Global, asking: Asking<'_>, calls: &[PassCalls]) {
-    let file = file_of(rt, alloc, asking.sample);
-    let mut first = asking.opening;
-    for some in calls {
-        assert_told(rt, alloc, &file, first, *some, asking);
-        let (count, _, _) = *some;
-        first = first.saturating_add(count);
-    }
-    let [asked, _, _] = asked_where(rt, alloc, &file, first, asking.wanted);
-    assert_same_at(rt, &asking.wanted, asked, Ok(asking.bytes));
-}
-
-/// Bytes of the thread and the exception.
-fn of_crash(stream: u64, which: usize, at: u64, bytes: [u8; 4]) -> Asking<'static> {
-    Asking {
-        sample: CRASH_FILE,
-        opening: 276,
-        wanted: bytes_at(stream, which, at),
-        bytes,
-    }
-}
-
-#[test]
-fn each_call_for_a_part_may_fail(rt: HostRuntime) {
-    let threads = (52, 56, ViewCall::Rewind);
-    let stack = of_crash(0, 0, 0, *b"STAK");
-    let calls = [threads, (4, 108, ViewCall::Part)];
-    assert_all_told(&rt, rt.alloc(), stack, &calls);
-    let context = of_crash(0, 1, 2, [3, 4, 5, 6]);
-    let calls = [threads, (4, 114, ViewCall::Part)];
-    assert_all_told(&rt, rt.alloc(), context, &calls);
-    // Where a stream is one record, nothing has to be known to begin it.
-    let exception = (168, 120, ViewCall::NextRecord);
-    let context = of_crash(1, 0, 0, [0xaa, 0xbb, 0xcc, 0xdd]);
-    let calls = [exception, (4, 288, ViewCall::Part)];
-    assert_all_told(&rt, rt.alloc(), context, &calls);
-}
-
-#[test]
-fn each_call_for_the_bytes_of_a_stream_may_fail(rt: HostRuntime) {
-    let raw = Asking {
-        sample: SIX_FILE,
-        opening: 392,
-        wanted: bytes_at(5, 0, 0),
-        bytes: [1, 2, 3, 4],
-    };
-    assert_all_told(&rt, rt.alloc(), raw, &[(4, 440, ViewCall::Part)]);
+    /// All calls that are made for them.
+    calls: &'static [PassCalls],
 }
 
 /// An unloaded module whose record stands behind a head of 200 bytes, and its name `ab`.
@@ -122,19 +44,121 @@ const FAR_RECORD: [u32; 61] = [
     4, 0x00620061,
 ];
 
-#[test]
-fn each_call_for_a_record_behind_the_window_may_fail(rt: HostRuntime) {
-    let name = Asking {
+const ASKINGS: &[Asking] = &[
+    Asking {
+        name: "a stack",
+        sample: CRASH_FILE,
+        opening: 276,
+        wanted: Wanted {
+            stream: 0,
+            which: 0,
+            at: 0,
+        },
+        bytes: *b"STAK",
+        calls: &[(52, 56, ViewCall::Rewind), (4, 108, ViewCall::Part)],
+    },
+    Asking {
+        name: "the end of a context",
+        sample: CRASH_FILE,
+        opening: 276,
+        wanted: Wanted {
+            stream: 0,
+            which: 1,
+            at: 2,
+        },
+        bytes: [3, 4, 5, 6],
+        calls: &[(52, 56, ViewCall::Rewind), (4, 114, ViewCall::Part)],
+    },
+    // Where a stream is one record, nothing has to be known to begin it.
+    Asking {
+        name: "the context of an exception",
+        sample: CRASH_FILE,
+        opening: 276,
+        wanted: Wanted {
+            stream: 1,
+            which: 0,
+            at: 0,
+        },
+        bytes: [0xaa, 0xbb, 0xcc, 0xdd],
+        calls: &[(168, 120, ViewCall::NextRecord), (4, 288, ViewCall::Part)],
+    },
+    Asking {
+        name: "the bytes of a stream",
+        sample: SIX_FILE,
+        opening: 392,
+        wanted: Wanted {
+            stream: 5,
+            which: 0,
+            at: 0,
+        },
+        bytes: [1, 2, 3, 4],
+        calls: &[(4, 440, ViewCall::Part)],
+    },
+    // What is in the window with the head, then the record, and the length of its name behind it.
+    Asking {
+        name: "a record behind the window",
         sample: Sample::Numbers(1, &FAR_RECORD),
         opening: 44 + 168 + 28,
-        wanted: bytes_at(0, 0, 0),
+        wanted: Wanted {
+            stream: 0,
+            which: 0,
+            at: 0,
+        },
         bytes: *b"a\0b\0",
-    };
-    // What is in the window with the head, then the record, and the length of its name behind it.
-    let calls = [
-        (168, 44, ViewCall::Rewind),
-        (24 + 4, 244, ViewCall::NextRecord),
-        (4, 272, ViewCall::Part),
-    ];
-    assert_all_told(&rt, rt.alloc(), name, &calls);
+        calls: &[
+            (168, 44, ViewCall::Rewind),
+            (24 + 4, 244, ViewCall::NextRecord),
+            (4, 272, ViewCall::Part),
+        ],
+    },
+];
+
+/// What a view answers over a store that gives one byte a call and fails at this one.
+fn asked_where(
+    rt: &impl Abort,
+    alloc: Global,
+    file: &[u8],
+    fail_at: u64,
+    wanted: Wanted,
+) -> [FourBytes; 3] {
+    let store = PatchyStore::new(file, &[1], Some(fail_at));
+    asked_thrice(rt, alloc, store, NAMED, wanted)
+}
+
+/// Asserts that the failure of each of these calls is told, which are numbered from `first` on.
+fn assert_told(
+    rt: &impl Abort,
+    alloc: Global,
+    file: &[u8],
+    first: u64,
+    calls: PassCalls,
+    asking: &Asking,
+) {
+    let (count, place, view_call) = calls;
+    for call in 0..count {
+        let fail_at = first.saturating_add(call);
+        let asked = asked_where(rt, alloc, file, fail_at, asking.wanted);
+        let expected = expected_of(view_call, place.saturating_add(call), asking.bytes);
+        assert_same_at(rt, &(asking.name, fail_at), asked, expected);
+    }
+}
+
+/// Asserts it of all these calls, and that the bytes are given where the call behind them fails.
+fn assert_all_told(rt: &impl Abort, alloc: Global, asking: &Asking) {
+    let file = file_of(rt, alloc, asking.sample);
+    let mut first = asking.opening;
+    for some in asking.calls {
+        assert_told(rt, alloc, &file, first, *some, asking);
+        let (count, _, _) = *some;
+        first = first.saturating_add(count);
+    }
+    let [asked, _, _] = asked_where(rt, alloc, &file, first, asking.wanted);
+    assert_same_at(rt, &asking.name, asked, Ok(asking.bytes));
+}
+
+#[test]
+fn each_call_for_bytes_may_fail(rt: HostRuntime) {
+    for asking in ASKINGS {
+        assert_all_told(&rt, rt.alloc(), asking);
+    }
 }

@@ -43,27 +43,35 @@ fn opened_within<S: Store + Drop>(
     }
 }
 
-/// Why they are not opened within this budget, if they are not.
-fn refused_within(budget: u64) -> Option<OpenFault> {
+/// Asserts what comes of opening a view of the entries of these types within these limits, of a store in memory and of
+/// one that gives a byte a call, and that no more is fetched than the budget.
+fn assert_opened_within(
+    rt: &impl Abort,
+    alloc: Global,
+    file: &[u8],
+    types: &[u32],
+    limits: Limits,
+    answer: Result<u128, ReadFault>,
+) {
+    let most = u128::from(limits.budget.unwrap_or(u64::MAX));
+    let at = (limits.budget, limits.memory);
+    let (found, fetched) = opened_within(rt, alloc, MemoryStore::new(file), limits, types);
+    assert_same_at(rt, &at, (found, fetched <= most), (answer, true));
+    let slow = PatchyStore::new(file, &[1], None);
+    let (found, fetched) = opened_within(rt, alloc, slow, limits, types);
+    assert_same_at(rt, &at, (found, fetched <= most), (answer, true));
+}
+
+/// What comes of opening a view of them within this budget.
+fn answer_within(budget: u64) -> Result<u128, ReadFault> {
     let (offset, size) = match budget {
         0..32 => (0, 32),
         32..104 => (32, 72),
         104..156 => (196, 52),
         156..OPENED => (264, 168),
-        _ => return None,
+        _ => return Ok(NEEDED),
     };
-    Some(OpenFault::Budget { offset, size })
-}
-
-/// Asserts what comes of opening a view of them within this budget.
-fn assert_opened_within(rt: &impl Abort, budget: u64, outcome: OpenedWithin) {
-    let (answer, fetched) = outcome;
-    assert_same_at(rt, &budget, fetched <= u128::from(budget), true);
-    let expected = match refused_within(budget) {
-        Some(fault) => Err(ReadFault::Opening(fault)),
-        None => Ok(NEEDED),
-    };
-    assert_same_at(rt, &budget, answer, expected);
+    Err(ReadFault::Opening(OpenFault::Budget { offset, size }))
 }
 
 #[test]
@@ -71,91 +79,108 @@ fn view_is_opened_within_a_budget(rt: HostRuntime) {
     let six = file_of(&rt, rt.alloc(), SIX_FILE);
     for budget in 0..OPENED + 2 {
         let limits = limits_of(Some(budget), None);
-        let outcome = opened_within(&rt, rt.alloc(), MemoryStore::new(&six), limits, &[3, 6]);
-        assert_opened_within(&rt, budget, outcome);
-        let slow = PatchyStore::new(&six, &[1], None);
-        let outcome = opened_within(&rt, rt.alloc(), slow, limits, &[3, 6]);
-        assert_opened_within(&rt, budget, outcome);
+        assert_opened_within(
+            &rt,
+            rt.alloc(),
+            &six,
+            &[3, 6],
+            limits,
+            answer_within(budget),
+        );
     }
 }
 
-/// Asserts what comes of opening a view of a system with a name within this budget, over a store in memory and
-/// over one that gives a byte a call.
-fn assert_named_within(
-    rt: &impl Abort,
-    alloc: Global,
-    budget: u64,
-    answer: Result<u128, ReadFault>,
-) {
-    let file = file_of(rt, alloc, SYSTEM_FILE);
-    let limits = limits_of(Some(budget), None);
-    let (found, _) = opened_within(rt, alloc, MemoryStore::new(&file), limits, &[7]);
-    assert_same_at(rt, &budget, found, answer);
-    let slow = PatchyStore::new(&file, &[1], None);
-    let (found, _) = opened_within(rt, alloc, slow, limits, &[7]);
-    assert_same_at(rt, &budget, found, answer);
-}
-
-/// So many bytes of the stream and of its names are not read.
-fn unread(size: u64) -> Result<u128, ReadFault> {
-    Err(ReadFault::Opening(OpenFault::Budget { offset: 44, size }))
-}
+/// What comes of opening a view of a system with a name within a budget: 100 bytes are the header, the directory and the
+/// stream, and 4 the length of the name. A copy passes the stream twice more, and reads the 28 bytes of the name.
+const NAMED_WITHIN: [(u64, Result<u128, ReadFault>); 4] = [
+    (
+        99,
+        Err(ReadFault::Opening(OpenFault::Budget {
+            offset: 44,
+            size: 56,
+        })),
+    ),
+    (
+        100,
+        Err(ReadFault::Opening(OpenFault::Budget {
+            offset: 44,
+            size: 60,
+        })),
+    ),
+    (
+        103,
+        Err(ReadFault::Opening(OpenFault::Budget {
+            offset: 44,
+            size: 60,
+        })),
+    ),
+    (104, Ok(104 + 2 * 60 + 28)),
+];
 
 #[test]
 fn stream_is_begun_if_the_budget_has_room_for_it_and_the_lengths_of_its_names(rt: HostRuntime) {
-    let opened = 32 + 12 + 56 + 4;
-    let rows = [
-        (99, unread(56)),
-        (100, unread(60)),
-        (103, unread(60)),
-        // A copy passes the stream twice more, and reads the 28 bytes of the name.
-        (opened, Ok(u128::from(opened) + 2 * 60 + 28)),
-    ];
-    for (budget, answer) in rows {
-        assert_named_within(&rt, rt.alloc(), budget, answer);
+    let file = file_of(&rt, rt.alloc(), SYSTEM_FILE);
+    for (budget, answer) in &NAMED_WITHIN {
+        let limits = limits_of(Some(*budget), None);
+        assert_opened_within(&rt, rt.alloc(), &file, &[7], limits, *answer);
     }
 }
+
+/// What two windows take, and 24 bytes for each of six entries.
+const HELD: u64 = 2 * 168 + 24 * 6;
+
+/// Why a view does not keep within its limit of memory.
+const OVER: Result<u128, ReadFault> = Err(ReadFault::Opening(OpenFault::MemoryLimit {
+    held: 2 * 168 + 24 * 6,
+}));
+
+/// What comes of opening a view of the thread and the exception within a limit of memory.
+const MEMORY_WITHIN: [(u64, Result<u128, ReadFault>); 5] = [
+    (0, OVER),
+    (HELD - 2, OVER),
+    (HELD - 1, OVER),
+    (HELD, Ok(NEEDED)),
+    (HELD + 1, Ok(NEEDED)),
+];
 
 #[test]
 fn view_and_a_buffer_are_within_a_limit_of_memory(rt: HostRuntime) {
     let six = file_of(&rt, rt.alloc(), SIX_FILE);
-    let held = 2 * 168 + 24 * 6;
-    for memory in [0, held - 2, held - 1, held, held + 1] {
-        let limits = limits_of(None, Some(memory));
-        let (answer, _) = opened_within(&rt, rt.alloc(), MemoryStore::new(&six), limits, &[3, 6]);
-        let limit = ReadFault::Opening(OpenFault::MemoryLimit {
-            held: u128::from(held),
-        });
-        let expected = if memory < held {
-            Err(limit)
-        } else {
-            Ok(NEEDED)
-        };
-        assert_same_at(&rt, &memory, answer, expected);
+    for (memory, answer) in &MEMORY_WITHIN {
+        let limits = limits_of(None, Some(*memory));
+        assert_opened_within(&rt, rt.alloc(), &six, &[3, 6], limits, *answer);
     }
 }
 
-/// Asserts that a copy of all entries of a file fetches what its view needs.
-fn assert_needed(rt: &impl Abort, alloc: Global, sample: Sample<'_>) {
+/// Files of which all entries are copied.
+const COPIED: [Sample<'static>; 2] = [SIX_FILE, Sample::Numbers(1, &COMMENT)];
+
+/// What a copy of all entries of a file fetches at most by what its view needs, what it fetches, and that with what was
+/// passed and asked of the view.
+fn fetched_by_copy(rt: &impl Abort, alloc: Global, sample: Sample<'_>) -> (u128, u128, u128) {
     let file = file_of(rt, alloc, sample);
     let source = Source::new(MemoryStore::new(&file));
-    let mut view = FileView::open(alloc, source, limits_of(None, None), Choice::All).expect(
-        rt, "a view",
-    );
+    let limits = limits_of(None, None);
+    let mut view = FileView::open(alloc, source, limits, Choice::All).expect(rt, "a view");
     let needed = view.needed();
-    let (_, bytes) = outcome_of(rt, alloc, &mut view, 168);
-    assert_same_at(rt, &bytes.len(), view.fetched() <= needed, true);
-    let most = view
-        .fetched()
-        .saturating_add(view.passed())
-        .saturating_add(view.asked());
-    assert_same_at(rt, &bytes.len(), most >= needed, true);
+    let _ = outcome_of(rt, alloc, &mut view, 168);
+    let fetched = view.fetched();
+    let passed = view.passed();
+    let spent = fetched.saturating_add(passed).saturating_add(view.asked());
+    (needed, fetched, spent)
 }
 
 #[test]
 fn copy_fetches_what_its_view_needs(rt: HostRuntime) {
-    assert_needed(&rt, rt.alloc(), SIX_FILE);
-    assert_needed(&rt, rt.alloc(), Sample::Numbers(1, &COMMENT));
+    for sample in &COPIED {
+        let (needed, fetched, spent) = fetched_by_copy(&rt, rt.alloc(), *sample);
+        assert_same_at(
+            &rt,
+            &needed,
+            (fetched <= needed, spent >= needed),
+            (true, true),
+        );
+    }
 }
 
 #[test]
@@ -163,15 +188,10 @@ fn file_that_changes_is_opened_within_a_budget(rt: HostRuntime) {
     let six = file_of(&rt, rt.alloc(), SIX_FILE);
     let mut other = file_of(&rt, rt.alloc(), SIX_FILE);
     *other.get_mut(196).expect(&rt, "a byte of the file") = 0;
+    let limits = limits_of(Some(300), None);
     for turn in 0..8 {
         let store = two_faces(&rt, &six, &other, turn);
-        let (_, fetched) = opened_within(
-            &rt,
-            rt.alloc(),
-            store,
-            limits_of(Some(300), None),
-            &[3, 6],
-        );
+        let (_, fetched) = opened_within(&rt, rt.alloc(), store, limits, &[3, 6]);
         assert_same_at(&rt, &turn, fetched <= 300, true);
     }
 }

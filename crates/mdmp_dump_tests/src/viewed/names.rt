@@ -1,8 +1,8 @@
 //! Names through a view.
-use super::{Through, ViewOutcome, Written, write_sample};
+use super::{Through, ViewOutcome, write_sample};
 use crate::dump::built::fault_of;
 use crate::files::{Sample, file_of};
-use crate::same::{assert_same, assert_same_at};
+use crate::same::assert_same_at;
 use mdmp_dump::ReadFault;
 use mdmp_lister::{FaultKind, Limits, ListFault};
 use std::alloc::Global;
@@ -17,94 +17,154 @@ const EIGHT: Limits = Limits {
     aside: None,
 };
 
-/// What comes of writing a file of unloaded modules.
-fn written_of(rt: &impl Abort, alloc: Global, sample: Sample<'_>) -> Written {
+/// An unloaded module, and the size of the file that it is written as, zeros behind what it is, or why it is refused, as
+/// it gives no value for the same reason.
+struct NameRow {
+    name: &'static str,
+    sample: Sample<'static>,
+    written: Result<usize, ReadFault>,
+}
+
+const NAMES: &[NameRow] = &[
+    // Behind the record its length, its units, the zero that ends it, and two bytes up to a multiple of 4.
+    NameRow {
+        name: "a name of the limit",
+        sample: Sample::Named(b"\x08\0\0\0a\0b\0c\0d\0"),
+        written: Ok(96),
+    },
+    NameRow {
+        name: "a name of two bytes more",
+        sample: Sample::Named(b"\x0a\0\0\0a\0b\0c\0d\0e\0"),
+        written: Err(ReadFault::NameTooLong {
+            entry: 0,
+            index: 0,
+            length: 10,
+        }),
+    },
+    NameRow {
+        name: "a name of no bytes, which is written in eight",
+        sample: Sample::Named(b"\0\0\0\0"),
+        written: Ok(88),
+    },
+    NameRow {
+        name: "a name that is not there",
+        sample: Sample::Numbers(1, &[14, 36, 44, 12, 24, 1, 0, 0, 0, 0, 0, 0]),
+        written: Ok(80),
+    },
+    NameRow {
+        name: "an odd name",
+        sample: Sample::Named(b"\x03\0\0\0abc"),
+        written: Err(ReadFault::List(ListFault {
+            entry: 0,
+            index: Some(0),
+            kind: FaultKind::NameOdd,
+            offset: 80,
+            size: 3,
+        })),
+    },
+    NameRow {
+        name: "a name whose units lie outside",
+        sample: Sample::Named(b"\x04\0\0\0abc"),
+        written: Err(ReadFault::List(ListFault {
+            entry: 0,
+            index: Some(0),
+            kind: FaultKind::NameUnitsOutside,
+            offset: 84,
+            size: 4,
+        })),
+    },
+    NameRow {
+        name: "a name whose length ends outside",
+        sample: Sample::Named(b"\x04\0\0"),
+        written: NO_LENGTH,
+    },
+    NameRow {
+        name: "a name whose length begins outside",
+        sample: Sample::Named(b""),
+        written: NO_LENGTH,
+    },
+    // Over the limit, and odd or past the end of the file: the first fault is told.
+    NameRow {
+        name: "a long name past the end",
+        sample: Sample::Named(b"\x0a\0\0\0abc"),
+        written: Err(ReadFault::List(ListFault {
+            entry: 0,
+            index: Some(0),
+            kind: FaultKind::NameUnitsOutside,
+            offset: 84,
+            size: 10,
+        })),
+    },
+    NameRow {
+        name: "a long odd name",
+        sample: Sample::Named(b"\x09\0\0\0a\0b\0c\0d\0e\0"),
+        written: Err(ReadFault::List(ListFault {
+            entry: 0,
+            index: Some(0),
+            kind: FaultKind::NameOdd,
+            offset: 80,
+            size: 9,
+        })),
+    },
+    NameRow {
+        name: "a name of almost the greatest length",
+        sample: Sample::Named(b"\xfe\xff\xff\xffab"),
+        written: Err(ReadFault::List(ListFault {
+            entry: 0,
+            index: Some(0),
+            kind: FaultKind::NameUnitsOutside,
+            offset: 84,
+            size: 4294967294,
+        })),
+    },
+    NameRow {
+        name: "an odd name of the greatest length",
+        sample: Sample::Named(b"\xff\xff\xff\xffab"),
+        written: Err(ReadFault::List(ListFault {
+            entry: 0,
+            index: Some(0),
+            kind: FaultKind::NameOdd,
+            offset: 80,
+            size: 4294967295,
+        })),
+    },
+];
+
+/// Not even the length of the name is there.
+const NO_LENGTH: Result<usize, ReadFault> = Err(ReadFault::List(ListFault {
+    entry: 0,
+    index: Some(0),
+    kind: FaultKind::NameLengthOutside,
+    offset: 80,
+    size: 4,
+}));
+
+/// What comes of writing a file through a view, what is written, and why it gives no value.
+type WrittenName = (ViewOutcome, Vec<u8, Global>, Option<ReadFault>);
+
+/// What is expected of a row.
+fn expected_of(rt: &impl Abort, alloc: Global, row: &NameRow) -> WrittenName {
+    match row.written {
+        Ok(size) => {
+            let mut bytes = file_of(rt, alloc, row.sample);
+            bytes.resize(size, 0).expect(rt, "memory for zeros");
+            (ViewOutcome::Wrote(size as u64), bytes, None)
+        }
+        Err(fault) => (ViewOutcome::Refused(fault), Vec::new(alloc), Some(fault)),
+    }
+}
+
+#[test]
+fn names_are_written_or_refused_for_their_first_fault(rt: HostRuntime) {
     let through = Through {
         limits: EIGHT,
         room: 5,
     };
-    write_sample(rt, alloc, sample, &[14], through)
-}
-
-/// A fault of the name of the unloaded module.
-fn fault(kind: FaultKind, offset: u64, size: u64) -> ReadFault {
-    ReadFault::List(ListFault {
-        entry: 0,
-        index: Some(0),
-        kind,
-        offset,
-        size,
-    })
-}
-
-/// Asserts that the file of an unloaded module is written as it is, with zeros up to this size.
-fn assert_written(rt: &impl Abort, alloc: Global, sample: Sample<'_>, size: usize) {
-    let mut expected = file_of(rt, alloc, sample);
-    expected.resize(size, 0).expect(rt, "memory for zeros");
-    let written = written_of(rt, alloc, sample);
-    assert_same(rt, written.outcome, ViewOutcome::Wrote(size as u64));
-    assert_same(rt, written.bytes, expected);
-}
-
-#[test]
-fn name_of_the_limit_is_written(rt: HostRuntime) {
-    // Behind the record its length, its units, the zero that ends it, and two bytes up to a multiple of 4.
-    let named = Sample::Named(b"\x08\0\0\0a\0b\0c\0d\0");
-    assert_written(&rt, rt.alloc(), named, 96);
-}
-
-/// Asserts that an unloaded module whose name, at 80, is these bytes is refused for this.
-fn assert_refused(rt: &impl Abort, alloc: Global, name: &[u8], fault: ReadFault) {
-    let written = written_of(rt, alloc, Sample::Named(name));
-    assert_same(rt, written.outcome, ViewOutcome::Refused(fault));
-    assert_same(rt, written.bytes.len(), 0);
-}
-
-#[test]
-fn name_of_two_bytes_more_is_too_long(rt: HostRuntime) {
-    let long = ReadFault::NameTooLong {
-        entry: 0,
-        index: 0,
-        length: 10,
-    };
-    assert_refused(&rt, rt.alloc(), b"\x0a\0\0\0a\0b\0c\0d\0e\0", long);
-}
-
-#[test]
-fn name_of_no_bytes_is_written_in_eight(rt: HostRuntime) {
-    assert_written(&rt, rt.alloc(), Sample::Named(b"\0\0\0\0"), 88);
-}
-
-#[test]
-fn name_that_is_not_there_is_not_written(rt: HostRuntime) {
-    let numbers = [14, 36, 44, 12, 24, 1, 0, 0, 0, 0, 0, 0];
-    assert_written(&rt, rt.alloc(), Sample::Numbers(1, &numbers), 80);
-}
-
-#[test]
-fn bad_names_are_refused(rt: HostRuntime) {
-    let odd = fault(FaultKind::NameOdd, 80, 3);
-    assert_refused(&rt, rt.alloc(), b"\x03\0\0\0abc", odd);
-    let units = fault(FaultKind::NameUnitsOutside, 84, 4);
-    assert_refused(&rt, rt.alloc(), b"\x04\0\0\0abc", units);
-    let length = fault(FaultKind::NameLengthOutside, 80, 4);
-    assert_refused(&rt, rt.alloc(), b"\x04\0\0", length);
-    assert_refused(&rt, rt.alloc(), b"", length);
-}
-
-/// Asserts that a file with this name is refused for what it gives no value for.
-fn assert_fault_of_value(rt: &impl Abort, alloc: Global, name: &[u8]) {
-    let named = Sample::Named(name);
-    let fault = fault_of(alloc, &file_of(rt, alloc, named), EIGHT, 0).expect(rt, "a fault");
-    let written = written_of(rt, alloc, named);
-    assert_same_at(rt, &name, written.outcome, ViewOutcome::Refused(fault));
-}
-
-#[test]
-fn first_fault_of_a_name_is_that_of_the_value(rt: HostRuntime) {
-    // Over the limit, and odd or past the end of the file.
-    assert_fault_of_value(&rt, rt.alloc(), b"\x0a\0\0\0abc");
-    assert_fault_of_value(&rt, rt.alloc(), b"\x09\0\0\0a\0b\0c\0d\0e\0");
-    assert_fault_of_value(&rt, rt.alloc(), b"\xfe\xff\xff\xffab");
-    assert_fault_of_value(&rt, rt.alloc(), b"\xff\xff\xff\xffab");
+    for row in NAMES {
+        let written = write_sample(&rt, rt.alloc(), row.sample, &[14], through);
+        let file = file_of(&rt, rt.alloc(), row.sample);
+        let fault = fault_of(rt.alloc(), &file, EIGHT, 0);
+        let found = (written.outcome, written.bytes, fault);
+        assert_same_at(&rt, &row.name, found, expected_of(&rt, rt.alloc(), row));
+    }
 }

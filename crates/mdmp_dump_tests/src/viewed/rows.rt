@@ -1,13 +1,10 @@
 //! What is written through a view of small files, and what it holds, fetches and counts.
-use super::{Through, ViewOutcome, Written, reads_to_open, write_sample, written_by_turns};
-use crate::files::{CRASH_FILE, LEAST, NAMED, SIX_FILE, Sample, file_of};
+use super::{Through, ViewOutcome, reads_of, two_faces, write_over, write_sample};
+use crate::files::{ALL, CRASH_FILE, LEAST, NAMED, SIX_FILE, Sample, file_of};
 use crate::same::{assert_same, assert_same_at};
-use mdmp_dump::{PartName, ReadFault, ViewFault};
+use mdmp_dump::ViewFault;
 use mdmp_source::SourceFault;
-use mdmp_test_support::{ABSENT_STACK, CRASH};
 use mdmp_writer::WriteFault;
-use std::alloc::Global;
-use std::process::Abort;
 
 /// How most of the files are written.
 const BY_WINDOW: Through = Through {
@@ -15,17 +12,18 @@ const BY_WINDOW: Through = Through {
     room: 168,
 };
 
-/// Asserts that all of this file was written.
-fn assert_wrote(rt: &impl Abort, alloc: Global, written: &Written, sample: Sample<'_>) {
-    let file = file_of(rt, alloc, sample);
-    let size = file.len() as u64;
-    assert_same(rt, written.outcome, ViewOutcome::Wrote(size));
-    assert_same(rt, written.bytes.as_slice(), file.as_slice());
-}
-
-/// Asserts that something is at most so much.
-fn assert_most(rt: &impl Abort, found: u128, most: u128) {
-    assert_same_at(rt, &found, found <= most, true);
+/// Entries of a file, the file that they are written as, how much their view holds, fetches as it is opened, fetches in
+/// all and passes at most, and how much is asked of it.
+struct CountedRow {
+    name: &'static str,
+    sample: Sample<'static>,
+    types: &'static [u32],
+    written: Sample<'static>,
+    held: u128,
+    opened: u128,
+    fetched: u128,
+    passed: u128,
+    asked: u128,
 }
 
 /// A file of 372 bytes with a list of three modules without names and parts.
@@ -38,89 +36,80 @@ const MODULES: Sample<'static> = Sample::Parts(
     372,
 );
 
+const COUNTED: &[CountedRow] = &[
+    CountedRow {
+        name: "three modules",
+        sample: MODULES,
+        types: &[4],
+        written: MODULES,
+        held: 168 + 24,
+        opened: 32 + 12 + 328 + 12,
+        fetched: 1064,
+        passed: 680,
+        asked: 0,
+    },
+    CountedRow {
+        name: "streams chosen of the room of a directory",
+        sample: SIX_FILE,
+        types: &[3, 6],
+        written: CRASH_FILE,
+        held: 312,
+        opened: 32 + 72 + 52 + 168,
+        fetched: 778,
+        passed: 440,
+        asked: 14,
+    },
+];
+
 #[test]
 fn open_succeeds(rt: HostRuntime) {
-    let written = write_sample(&rt, rt.alloc(), MODULES, &[4], BY_WINDOW);
-    assert_wrote(&rt, rt.alloc(), &written, MODULES);
-    let counts = written.counts;
-    assert_most(&rt, counts.held, 168 + 24);
-    assert_most(&rt, counts.opened, 32 + 12 + 328 + 12);
-    assert_most(&rt, counts.fetched, 1064);
-    assert_most(&rt, counts.passed, 680);
-    assert_same(&rt, counts.asked, 0);
+    for row in COUNTED {
+        let written = write_sample(&rt, rt.alloc(), row.sample, row.types, BY_WINDOW);
+        let file = file_of(&rt, rt.alloc(), row.written);
+        let wrote = ViewOutcome::Wrote(file.len() as u64);
+        assert_same_at(
+            &rt,
+            &row.name,
+            (written.outcome, written.bytes),
+            (wrote, file),
+        );
+        let counts = written.counts;
+        let held = counts.held <= row.held && counts.opened <= row.opened;
+        let fetched = counts.fetched <= row.fetched && counts.passed <= row.passed;
+        let found = (held, fetched, counts.asked);
+        assert_same_at(&rt, &row.name, found, (true, true, row.asked));
+    }
 }
+
+/// Types of streams of the six.
+const PAID: [&[u32]; 3] = [&[3, 6], &[7, 4, 5, 12], ALL];
 
 #[test]
-fn chosen_streams_are_written_from_the_room_of_the_directory(rt: HostRuntime) {
-    let written = write_sample(&rt, rt.alloc(), SIX_FILE, &[3, 6], BY_WINDOW);
-    assert_wrote(&rt, rt.alloc(), &written, CRASH_FILE);
-    let counts = written.counts;
-    assert_most(&rt, counts.held, 312);
-    assert_most(&rt, counts.fetched, 778);
-    assert_same(&rt, counts.asked, 14);
-}
-
-/// Asserts that what is fetched as entries of these types of the six are written is at most what the opening
-/// fetched, what was passed and what was asked for.
-fn assert_paid(rt: &impl Abort, alloc: Global, types: &[u32]) {
+fn what_is_fetched_is_that_of_the_opening_what_was_passed_and_asked(rt: HostRuntime) {
     let by_seven = Through {
         limits: NAMED,
         room: 7,
     };
-    let counts = write_sample(rt, alloc, SIX_FILE, types, by_seven).counts;
-    let paid = counts.opened.saturating_add(counts.passed);
-    assert_most(rt, counts.fetched, paid.saturating_add(counts.asked));
-}
-
-#[test]
-fn what_is_fetched_is_that_of_the_opening_what_was_passed_and_asked(rt: HostRuntime) {
-    assert_paid(&rt, rt.alloc(), &[3, 6]);
-    assert_paid(&rt, rt.alloc(), &[7, 4, 5, 12]);
-    assert_paid(&rt, rt.alloc(), &[]);
-}
-
-/// Asserts what comes of writing the threads of a file.
-fn assert_threads(rt: &impl Abort, alloc: Global, sample: Sample<'_>, outcome: ViewOutcome) {
-    let written = write_sample(rt, alloc, sample, &[3], BY_WINDOW);
-    assert_same(rt, written.outcome, outcome);
-}
-
-#[test]
-fn part_that_is_cut_off_gives_no_view(rt: HostRuntime) {
-    let context = ReadFault::PartOutside {
-        entry: 0,
-        index: 0,
-        part: PartName::Context,
-        offset: 96,
-        size: 1,
-    };
-    let cut = Sample::Cut(1, &ABSENT_STACK, 96);
-    assert_threads(&rt, rt.alloc(), cut, ViewOutcome::Refused(context));
-}
-
-#[test]
-fn into_source_tells_what_was_read(rt: HostRuntime) {
-    // The header, the directory, and two streams that the window holds.
-    let crash = file_of(&rt, rt.alloc(), CRASH_FILE);
-    assert_same(&rt, reads_to_open(&rt, rt.alloc(), &crash, LEAST), 4);
-}
-
-/// Asserts what comes of writing the thread and the exception, which become another file as soon as their view
-/// is open.
-fn assert_changed(rt: &impl Abort, alloc: Global, other: Sample<'_>, outcome: ViewOutcome) {
-    let crash = file_of(rt, alloc, CRASH_FILE);
-    let second = file_of(rt, alloc, other);
-    let turn = reads_to_open(rt, alloc, &crash, LEAST);
-    let written = written_by_turns(rt, alloc, &crash, &second, turn, BY_WINDOW);
-    assert_same(rt, written.outcome, outcome);
+    for types in &PAID {
+        let counts = write_sample(&rt, rt.alloc(), SIX_FILE, *types, by_seven).counts;
+        let paid = counts.opened.saturating_add(counts.passed);
+        let most = paid.saturating_add(counts.asked);
+        assert_same_at(&rt, types, counts.fetched <= most, true);
+    }
 }
 
 #[test]
 fn list_that_has_become_shorter_is_told_as_changed(rt: HostRuntime) {
-    let mut numbers = CRASH;
-    numbers[6] = 0;
-    let none = Sample::Numbers(2, &numbers);
+    // The thread and the exception, of which the number of threads becomes 0 as soon as their view is open.
+    let crash = file_of(&rt, rt.alloc(), CRASH_FILE);
+    let mut none = file_of(&rt, rt.alloc(), CRASH_FILE);
+    *none.get_mut(56).expect(&rt, "a byte of the file") = 0;
+    let (turn, _) = reads_of(&rt, rt.alloc(), &crash, BY_WINDOW);
+    // The header, the directory, and two streams that the window holds.
+    assert_same(&rt, turn, 4);
+    let store = two_faces(&rt, &crash, &none, turn);
+    let written = write_over(&rt, rt.alloc(), store, ALL, BY_WINDOW);
     let changed = ViewFault::Source(SourceFault::Changed { at: 56 });
     let stopped = ViewOutcome::Stopped(WriteFault::View(changed));
-    assert_changed(&rt, rt.alloc(), none, stopped);
+    assert_same(&rt, written.outcome, stopped);
 }

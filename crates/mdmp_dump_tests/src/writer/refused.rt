@@ -6,9 +6,9 @@ ghost use Rattle.mdmp_dump.specs.declared.view.Kind.TheVariants as kinds;
 ghost use Rattle.std.proofs.lemmas.Option.{none-some};
 ghost use Rattle.mdmp_dump_tests.specs.Sizes.{no_stray_parts};
 
-use super::{assert_size, assert_wrote, open_out, size_of, write_view};
-use crate::dump::built::{bytes, dump_of, of_one, records};
-use crate::same::{assert_same, assert_same_at};
+use super::{assert_wrote, open_out, size_of};
+use crate::dump::built::{bytes, dump_of, records};
+use crate::same::assert_same_at;
 use mdmp_dump::{DumpView, Fields, HeaderFields, Kind, Stream, ViewFault};
 use mdmp_source::SourceFault;
 use mdmp_writer::{LayoutFault, WriteFault};
@@ -111,89 +111,74 @@ fn no_bytes() -> ViewFault
     ViewFault::Source(SourceFault::Failed { at: 0 })
 }
 
-/// Asserts that raw bytes of a type whose records are known are refused.
-fn assert_type_refused(rt: &impl Abort, alloc: Global, stream_type: u32) {
-    let raw = Stream::Raw(stream_type, bytes(rt, alloc, &[1]));
-    let dump = of_one(rt, alloc, raw);
-    let fault = LayoutFault::RawKnownType { stream: 0 };
-    assert_size(rt, &dump, Err(fault));
+/// Asserts that a view can't be written for this reason, and that nothing of it is.
+fn assert_refused<V: DumpView>(rt: &impl Abort, alloc: Global, view: &mut V, fault: LayoutFault) {
+    assert_same_at(rt, &fault, size_of(view), Err(fault));
     let refused = Err(WriteFault::Layout(fault));
-    assert_wrote(rt, &dump, open_out(rt, alloc), 1, refused, b"");
+    assert_wrote(rt, view, open_out(rt, alloc), 1, refused, b"");
 }
 
+/// Types whose records are known.
+const KNOWN: [u32; 10] = [0, 3, 4, 5, 6, 7, 9, 14, 16, 24];
+
 #[test]
-fn raw_bytes_of_a_known_type_are_refused(rt: HostRuntime) {
-    for stream_type in [0, 3, 4, 5, 6, 7, 9, 14, 16, 24] {
-        assert_type_refused(&rt, rt.alloc(), stream_type);
+fn first_stream_of_raw_bytes_of_a_known_type_is_refused(rt: HostRuntime) {
+    for stream_type in &KNOWN {
+        let raw = Stream::Raw(*stream_type, bytes(&rt, rt.alloc(), &[1]));
+        let empty = Stream::Raw(3, bytes(&rt, rt.alloc(), &[]));
+        let dump = dump_of(records(&rt, rt.alloc(), [Stream::Unused, raw, empty]));
+        let fault = LayoutFault::RawKnownType { stream: 1 };
+        assert_refused(&rt, rt.alloc(), &mut dump.view(), fault);
     }
-}
-
-#[test]
-fn first_such_stream_is_told(rt: HostRuntime) {
     let raw = Stream::Raw(3, bytes(&rt, rt.alloc(), &[]));
-    let dump = dump_of(records(&rt, rt.alloc(), [Stream::Unused, raw]));
-    assert_size(&rt, &dump, Err(LayoutFault::RawKnownType { stream: 1 }));
-}
-
-/// Asserts how large a dump is of a raw stream of this type and of so much 64-bit memory, for each row of
-/// both numbers. Its streams end 88 bytes behind these, up to a multiple of 4.
-fn assert_sizes(
-    rt: &impl Abort,
-    stream_type: u32,
-    rows: &[(u64, u64)],
-    size: Result<u64, LayoutFault>,
-) {
-    for row in rows {
-        let (raw, far) = *row;
-        let mut view = SizesView {
-            stream_type,
-            raw,
-            far,
-        };
-        assert_same_at(rt, row, size_of(&mut view), size);
-    }
+    let dump = dump_of(records(&rt, rt.alloc(), [raw]));
+    let fault = LayoutFault::RawKnownType { stream: 0 };
+    assert_refused(&rt, rt.alloc(), &mut dump.view(), fault);
 }
 
 /// Where no stream ends, nor begins.
 const END: u64 = 1 << 32;
 
-#[test]
-fn streams_end_below_2_to_the_32(rt: HostRuntime) {
-    let large = [(END - 88, 0), (END - 91, 0), (END, 0), (u64::MAX, 0)];
-    assert_sizes(&rt, 10, &large, Err(LayoutFault::TooLarge));
-    assert_sizes(&rt, 10, &[(END - 92, 0), (END - 95, 0)], Ok(END - 4));
-    assert_sizes(&rt, 10, &[(END - 92, END)], Ok(2 * END - 4));
-}
+/// The type and the size of a raw stream, how much 64-bit memory there is, and how large both are as a dump. Its streams
+/// end 88 bytes behind these, up to a multiple of 4.
+type SizesRow = (u32, u64, u64, Result<u64, LayoutFault>);
 
-#[test]
-fn file_ends_below_2_to_the_64(rt: HostRuntime) {
-    let large = [(0, u64::MAX - 87), (0, u64::MAX - 90), (0, u64::MAX)];
-    assert_sizes(&rt, 10, &large, Err(LayoutFault::TooLarge));
-    let last = [(0, u64::MAX - 91), (0, u64::MAX - 94)];
-    assert_sizes(&rt, 10, &last, Ok(u64::MAX - 3));
-}
-
-/// Asserts that nothing is written of what a view gives that is too large.
-fn assert_not_begun(rt: &impl Abort, alloc: Global, view: SizesView) {
-    let mut large = view;
-    let mut out = open_out(rt, alloc);
-    let fault = WriteFault::Layout(LayoutFault::TooLarge);
-    assert_same(rt, write_view(&mut large, &mut out, 1), Err(fault));
-    assert_same(rt, out.bytes(), b"".as_slice());
-}
+const SIZES: &[SizesRow] = &[
+    // Streams end below 2^32,
+    (10, END - 88, 0, Err(LayoutFault::TooLarge)),
+    (10, END - 91, 0, Err(LayoutFault::TooLarge)),
+    (10, END, 0, Err(LayoutFault::TooLarge)),
+    (10, u64::MAX, 0, Err(LayoutFault::TooLarge)),
+    (10, END - 92, 0, Ok(END - 4)),
+    (10, END - 95, 0, Ok(END - 4)),
+    (10, END - 92, END, Ok(2 * END - 4)),
+    // and a file below 2^64.
+    (10, 0, u64::MAX - 87, Err(LayoutFault::TooLarge)),
+    (10, 0, u64::MAX - 90, Err(LayoutFault::TooLarge)),
+    (10, 0, u64::MAX, Err(LayoutFault::TooLarge)),
+    (10, 0, u64::MAX - 91, Ok(u64::MAX - 3)),
+    (10, 0, u64::MAX - 94, Ok(u64::MAX - 3)),
+    // A type is told before the size.
+    (
+        3,
+        u64::MAX,
+        u64::MAX,
+        Err(LayoutFault::RawKnownType { stream: 0 }),
+    ),
+];
 
 #[test]
 fn dump_that_is_too_large_is_not_begun(rt: HostRuntime) {
-    let large = SizesView {
-        stream_type: 10,
-        raw: END,
-        far: 0,
-    };
-    assert_not_begun(&rt, rt.alloc(), large);
-}
-
-#[test]
-fn type_is_told_before_the_size(rt: HostRuntime) {
-    let fault = LayoutFault::RawKnownType { stream: 0 };
-    assert_sizes(&rt, 3, &[(u64::MAX, u64::MAX)], Err(fault));
+    for row in SIZES {
+        let (stream_type, raw, far, size) = *row;
+        let mut view = SizesView {
+            stream_type,
+            raw,
+            far,
+        };
+        match size {
+            Ok(size) => assert_same_at(&rt, row, size_of(&mut view), Ok(size)),
+            Err(fault) => assert_refused(&rt, rt.alloc(), &mut view, fault),
+        }
+    }
 }

@@ -5,8 +5,10 @@ ghost use Rattle.std.proofs.lemmas.Option.{none-some};
 
 use super::{open_out, write_view};
 use crate::dump::built::value_of;
-use crate::files::{DumpReading, MEMORY64_READING, NAMED, SIX_FILE, SIX_READING, Sample, file_of};
-use crate::same::{assert_same, assert_same_at};
+use crate::files::{
+    ALL, DumpReading, MEMORY64_READING, NAMED, SIX_FILE, SIX_READING, Sample, file_of,
+};
+use crate::same::assert_same_at;
 use mdmp_dump::{Dump, DumpView, Fields, HeaderFields, Kind, ViewFault};
 use mdmp_source::SourceFault;
 use mdmp_test_support::{MODULE, OVERLAPPING, THRICE};
@@ -176,139 +178,157 @@ fn written_with(
 
 /// Writes the dump of a file with each call of its view failing in turn, and asserts that what went out is a
 /// first part of the file, and all of it where no call failed.
-fn assert_first_parts(rt: &impl Abort, alloc: Global, reading: DumpReading<'_>, room: usize) {
+fn assert_first_parts(rt: &impl Abort, alloc: Global, reading: DumpReading, room: usize) {
     let file = file_of(rt, alloc, reading.sample);
     let dump = value_of(rt, alloc, reading);
     for fail_at in 0..1000 {
         let (answer, bytes) = written_with(rt, alloc, &dump, fail_at, room);
-        if answer.is_ok() {
-            assert_same(rt, answer, Ok(file.len() as u64));
-            assert_same(rt, bytes.as_slice(), file.as_slice());
+        let is_whole = answer.is_ok();
+        let expected = if is_whole {
+            Ok(file.len() as u64)
+        } else {
+            Err(WriteFault::View(FAULT))
+        };
+        let first = if is_whole {
+            Some(file.as_slice())
+        } else {
+            file.get(..bytes.len())
+        };
+        let found = (answer, Some(bytes.as_slice()));
+        assert_same_at(rt, &(reading.name, fail_at), found, (expected, first));
+        if is_whole {
             return;
         }
-        assert_same_at(rt, &fail_at, answer, Err(WriteFault::View(FAULT)));
-        let first = file.get(..bytes.len());
-        assert_same_at(rt, &fail_at, first, Some(bytes.as_slice()));
     }
     rt.panic("a call without a fault")
 }
 
-#[test]
-fn fault_of_a_view_leaves_a_first_part(rt: HostRuntime) {
-    assert_first_parts(&rt, rt.alloc(), SIX_READING, 1);
-    assert_first_parts(&rt, rt.alloc(), SIX_READING, 64);
-}
-
-#[test]
-fn fault_in_64_bit_memory_leaves_a_first_part(rt: HostRuntime) {
-    assert_first_parts(&rt, rt.alloc(), MEMORY64_READING, 1);
-    assert_first_parts(&rt, rt.alloc(), MEMORY64_READING, 64);
-}
-
-/// How often each of the first six streams of a file was begun, and asked for the sizes of its body and of its
-/// parts, as it was written.
-fn counts_of(rt: &impl Abort, alloc: Global, sample: Sample<'_>) -> ([u32; 6], [u32; 6], [u32; 6]) {
-    let reading = DumpReading {
-        sample,
-        limits: NAMED,
-        parts: 18,
-    };
-    let dump = value_of(rt, alloc, reading);
-    let mut view = WatchedView::new(dump.view(), u64::MAX);
-    let mut out = open_out(rt, alloc);
-    assert_same_at(
-        rt,
-        &"written",
-        write_view(&mut view, &mut out, 64).is_ok(),
-        true,
-    );
-    (view.begun.counts, view.bodies.counts, view.parts.counts)
-}
-
-/// Asserts how often each stream of a file was begun as it was written.
-fn assert_begun(rt: &impl Abort, alloc: Global, sample: Sample<'_>, begun: [u32; 6]) {
-    let (found, _, _) = counts_of(rt, alloc, sample);
-    assert_same(rt, found, begun);
-}
-
-/// A range of 64-bit memory, a byte, and no range.
-const FAR_RANGE: [u32; 23] = [
-    9, 32, 68, 10, 1, 100, 9, 16, 104, // the directory
-    1, 0, 120, 0, 0x3000, 0, 2, 0, // one range
-    1, // the byte
-    0, 0, 124, 0, // no range
-    0x4847,
+/// Dumps of files, and buffers through which they are written.
+const WRITTEN: [(DumpReading, usize); 4] = [
+    (SIX_READING, 1),
+    (SIX_READING, 64),
+    (MEMORY64_READING, 1),
+    (MEMORY64_READING, 64),
 ];
 
-/// Raw bytes, none and some.
-const RAW: [u32; 15] = [10, 5, 80, 0, 0, 0, 11, 0, 0, 12, 1, 88, 0x04030201, 5, 6];
+#[test]
+fn fault_of_a_view_leaves_a_first_part(rt: HostRuntime) {
+    for (reading, room) in &WRITTEN {
+        assert_first_parts(&rt, rt.alloc(), *reading, *room);
+    }
+}
+
+/// A file, how often each of the first six streams of its dump is begun as it is written, and how often it is asked for
+/// the size of its body, and for that of its parts: for the layout, the directory and their blocks, and for the bytes of
+/// 64-bit memory behind all streams too.
+struct WatchedRow {
+    name: &'static str,
+    sample: Sample<'static>,
+    begun: [u32; 6],
+    asked: [u32; 6],
+}
+
+const WATCHED: &[WatchedRow] = &[
+    WatchedRow {
+        name: "six streams, two of which are empty lists",
+        sample: SIX_FILE,
+        begun: [2, 2, 1, 2, 1, 1],
+        asked: [3, 3, 3, 3, 3, 3],
+    },
+    WatchedRow {
+        name: "threads without parts",
+        sample: Sample::Numbers(3, &THRICE),
+        begun: [1, 1, 1, 0, 0, 0],
+        asked: [3, 3, 3, 0, 0, 0],
+    },
+    WatchedRow {
+        name: "a module with its name and parts",
+        sample: Sample::Numbers(1, &MODULE),
+        begun: [2, 0, 0, 0, 0, 0],
+        asked: [3, 0, 0, 0, 0, 0],
+    },
+    WatchedRow {
+        name: "ranges of memory",
+        sample: Sample::Numbers(1, &OVERLAPPING),
+        begun: [2, 0, 0, 0, 0, 0],
+        asked: [3, 0, 0, 0, 0, 0],
+    },
+    WatchedRow {
+        name: "memory without bytes",
+        sample: Sample::Numbers(1, &[5, 36, 44, 2, 0x1000, 0, 4, 0, 0x2000, 0, 0, 0]),
+        begun: [1, 0, 0, 0, 0, 0],
+        asked: [3, 0, 0, 0, 0, 0],
+    },
+    WatchedRow {
+        name: "an unloaded module and its name",
+        sample: Sample::Numbers(1, &[14, 36, 44, 12, 24, 1, 0, 0, 0, 0, 0, 80, 0, 0]),
+        begun: [2, 0, 0, 0, 0, 0],
+        asked: [3, 0, 0, 0, 0, 0],
+    },
+    WatchedRow {
+        name: "a name of a thread",
+        sample: Sample::Numbers(1, &[24, 16, 44, 1, 7, 60, 0, 0]),
+        begun: [2, 0, 0, 0, 0, 0],
+        asked: [3, 0, 0, 0, 0, 0],
+    },
+    WatchedRow {
+        name: "a region of memory",
+        sample: Sample::Numbers(
+            1,
+            &[16, 64, 44, 16, 48, 1, 0, 0, 0, 0, 0, 0, 0, 0, 0, 0, 0, 0, 0],
+        ),
+        begun: [1, 0, 0, 0, 0, 0],
+        asked: [3, 0, 0, 0, 0, 0],
+    },
+    WatchedRow {
+        name: "a range of 64-bit memory, a byte, and no range",
+        sample: Sample::Numbers(
+            3,
+            &[
+                9, 32, 68, 10, 1, 100, 9, 16, 104, // the directory
+                1, 0, 120, 0, 0x3000, 0, 2, 0, // one range
+                1, // the byte
+                0, 0, 124, 0, // no range
+                0x4847,
+            ],
+        ),
+        begun: [2, 1, 2, 0, 0, 0],
+        asked: [4, 3, 4, 0, 0, 0],
+    },
+    WatchedRow {
+        name: "raw bytes, none and some",
+        sample: Sample::Numbers(
+            4,
+            &[10, 5, 80, 0, 0, 0, 11, 0, 0, 12, 1, 88, 0x04030201, 5, 6],
+        ),
+        begun: [1, 0, 1, 1, 0, 0],
+        asked: [3, 3, 3, 3, 0, 0],
+    },
+];
 
 #[test]
-fn streams_are_begun_twice_at_most(rt: HostRuntime) {
-    // Two of the six are empty lists.
-    assert_begun(&rt, rt.alloc(), SIX_FILE, [2, 2, 1, 2, 1, 1]);
-    // Threads without parts.
-    let threads = Sample::Numbers(3, &THRICE);
-    assert_begun(&rt, rt.alloc(), threads, [1, 1, 1, 0, 0, 0]);
-    // With its name and parts.
-    let module = Sample::Numbers(1, &MODULE);
-    assert_begun(&rt, rt.alloc(), module, [2, 0, 0, 0, 0, 0]);
-    let memory = Sample::Numbers(1, &OVERLAPPING);
-    assert_begun(&rt, rt.alloc(), memory, [2, 0, 0, 0, 0, 0]);
-    // Memory without bytes.
-    let empty = [5, 36, 44, 2, 0x1000, 0, 4, 0, 0x2000, 0, 0, 0];
-    let memory = Sample::Numbers(1, &empty);
-    assert_begun(&rt, rt.alloc(), memory, [1, 0, 0, 0, 0, 0]);
-    // An unloaded module and its name.
-    let unloaded = [14, 36, 44, 12, 24, 1, 0, 0, 0, 0, 0, 80, 0, 0];
-    let module = Sample::Numbers(1, &unloaded);
-    assert_begun(&rt, rt.alloc(), module, [2, 0, 0, 0, 0, 0]);
-    let thread_name = Sample::Numbers(1, &[24, 16, 44, 1, 7, 60, 0, 0]);
-    assert_begun(&rt, rt.alloc(), thread_name, [2, 0, 0, 0, 0, 0]);
-    let region = [16, 64, 44, 16, 48, 1, 0, 0, 0, 0, 0, 0, 0, 0, 0, 0, 0, 0, 0];
-    let memory = Sample::Numbers(1, &region);
-    assert_begun(&rt, rt.alloc(), memory, [1, 0, 0, 0, 0, 0]);
-    let far = Sample::Numbers(3, &FAR_RANGE);
-    assert_begun(&rt, rt.alloc(), far, [2, 1, 2, 0, 0, 0]);
-    assert_begun(
-        &rt,
-        rt.alloc(),
-        Sample::Numbers(4, &RAW),
-        [1, 0, 1, 1, 0, 0],
-    );
-}
-
-/// Asserts how often each stream of a file was asked for the sizes of its body and of its parts.
-fn assert_asked(rt: &impl Abort, alloc: Global, sample: Sample<'_>, asked: [u32; 6]) {
-    let (_, bodies, parts) = counts_of(rt, alloc, sample);
-    assert_same(rt, (bodies, parts), (asked, asked));
-}
-
-#[test]
-fn sizes_are_asked_once_a_pass(rt: HostRuntime) {
-    // For the layout, the directory and their blocks.
-    assert_asked(&rt, rt.alloc(), SIX_FILE, [3, 3, 3, 3, 3, 3]);
-    // For the bytes of 64-bit memory behind all streams too.
-    let far = Sample::Numbers(3, &FAR_RANGE);
-    assert_asked(&rt, rt.alloc(), far, [4, 3, 4, 0, 0, 0]);
-    assert_asked(
-        &rt,
-        rt.alloc(),
-        Sample::Numbers(4, &RAW),
-        [3, 3, 3, 3, 0, 0],
-    );
-}
-
-/// How much is passed and asked of a value as it is written.
-fn spent_of(rt: &impl Abort, alloc: Global, dump: &Dump<Global>, size: u64) -> (u128, u128) {
-    let mut view = dump.view();
-    let mut out = open_out(rt, alloc);
-    assert_same(rt, write_view(&mut view, &mut out, 64), Ok(size));
-    (view.passed(), view.asked())
-}
-
-#[test]
-fn nothing_is_spent_of_a_value(rt: HostRuntime) {
-    let six = value_of(&rt, rt.alloc(), SIX_READING);
-    assert_same(&rt, spent_of(&rt, rt.alloc(), &six, 444), (0, 0));
+fn streams_are_begun_twice_at_most_and_asked_once_a_pass(rt: HostRuntime) {
+    for row in WATCHED {
+        let reading = DumpReading {
+            name: row.name,
+            sample: row.sample,
+            types: ALL,
+            limits: NAMED,
+            parts: 18,
+        };
+        let dump = value_of(&rt, rt.alloc(), reading);
+        let mut view = WatchedView::new(dump.view(), u64::MAX);
+        let mut out = open_out(&rt, rt.alloc());
+        let is_written = write_view(&mut view, &mut out, 64).is_ok();
+        // Nothing is spent of a value.
+        let spent = (is_written, view.passed(), view.asked());
+        let found = (
+            spent,
+            view.begun.counts,
+            view.bodies.counts,
+            view.parts.counts,
+        );
+        let expected = ((true, 0, 0), row.begun, row.asked, row.asked);
+        assert_same_at(&rt, &row.name, found, expected);
+    }
 }
