@@ -6,22 +6,46 @@ use std::alloc::Global;
 use std::process::Abort;
 
 /// A short text: how many bytes it has, and the first sixteen, with zeros behind them.
-#[derive(Clone, Copy, Debug, PartialEq, Eq)]
+#[derive(Clone, Copy, Debug, PartialEq)]
 pub struct Text {
     pub len: usize,
     pub bytes: [u8; 16],
 }
 
 /// The name of an item.
-#[derive(Clone, Copy, Debug, PartialEq, Eq)]
+#[derive(Clone, Copy, Debug, PartialEq)]
 pub enum Named {
     None,
     Text(Text),
     Long(u32),
 }
 
+/// The name of no units.
+pub const EMPTY: Named = Named::Text(Text {
+    len: 0,
+    bytes: [0; 16],
+});
+
+/// The name `abcd`.
+pub const ABCD: Named = Named::Text(Text {
+    len: 4,
+    bytes: *b"abcd\0\0\0\0\0\0\0\0\0\0\0\0",
+});
+
+/// The name `abcde`.
+pub const ABCDE: Named = Named::Text(Text {
+    len: 5,
+    bytes: *b"abcde\0\0\0\0\0\0\0\0\0\0\0",
+});
+
+/// The name of the system of `SYSTEM`.
+pub const SERVICE_PACK: Named = Named::Text(Text {
+    len: 14,
+    bytes: *b"Service Pack 1\0\0",
+});
+
 /// Telling numbers of an item, by its kind.
-#[derive(Clone, Copy, Debug, PartialEq, Eq)]
+#[derive(Clone, Copy, Debug, PartialEq)]
 pub enum What {
     Stream {
         stream_type: u32,
@@ -63,12 +87,124 @@ pub enum What {
 }
 
 /// An item. That of an entry has the index 0, and where a kind has no name it has none.
-#[derive(Clone, Copy, Debug, PartialEq, Eq)]
+#[derive(Clone, Copy, Debug, PartialEq)]
 pub struct GivenItem {
     pub entry: u32,
     pub index: u64,
     pub what: What,
     pub name: Named,
+}
+
+/// An item, as a constant.
+macro_rules! item {
+    // The entry of the directory with this number, and the three numbers that stand there.
+    (stream($entry:expr, $stream_type:expr, $size:expr, $rva:expr)) => {
+        $crate::given::item!(
+            $entry, 0, None,
+            Stream { stream_type: $stream_type, size: $size, rva: $rva }
+        )
+    };
+    // A thread without a stack and a context.
+    (thread($entry:expr, $index:expr, $id:expr)) => {
+        $crate::given::item!(thread($entry, $index, $id, Empty, Empty))
+    };
+    (thread($entry:expr, $index:expr, $id:expr, $stack:ident, $context:ident)) => {
+        $crate::given::item!(
+            $entry, $index, None,
+            Thread {
+                id: $id,
+                stack: mdmp_source::Extent::$stack,
+                context: mdmp_source::Extent::$context,
+            }
+        )
+    };
+    // A module of the first entry without a name and without parts.
+    (module($index:expr, $base:expr)) => {
+        $crate::given::item!(
+            0, $index, None,
+            Module {
+                base: $base,
+                codeview: mdmp_source::Extent::Empty,
+                misc: mdmp_source::Extent::Empty,
+            }
+        )
+    };
+    // A range of an entry.
+    (range($entry:expr, $index:expr, $start:expr, $size:expr, $extent:ident, $offset:expr)) => {
+        $crate::given::item!(
+            $entry, $index, None,
+            Range {
+                start: $start,
+                size: $size,
+                extent: mdmp_source::Extent::$extent,
+                offset: $offset,
+            }
+        )
+    };
+    // An unloaded module of the first entry.
+    (unloaded($index:expr, $base:expr, $name:expr)) => {
+        $crate::given::item!(named 0, $index, $name, Unloaded { base: $base })
+    };
+    // The first name of a thread, of the first entry.
+    (thread_name($id:expr, $name:expr)) => {
+        $crate::given::item!(named 0, 0, $name, ThreadName { id: $id })
+    };
+    // The system of the first entry.
+    (system($processors:expr, $build:expr, $name:expr)) => {
+        $crate::given::item!(
+            named 0, 0, $name,
+            System { processors: $processors, build: $build }
+        )
+    };
+    (exception($entry:expr, $thread:expr, $code:expr, $context:ident)) => {
+        $crate::given::item!(
+            $entry, 0, None,
+            Exception {
+                thread: $thread,
+                code: $code,
+                context: mdmp_source::Extent::$context,
+            }
+        )
+    };
+    // A region of the first entry.
+    (region($fields:expr)) => {
+        $crate::given::GivenItem {
+            entry: 0,
+            index: 0,
+            what: $crate::given::What::MemoryInfo($fields),
+            name: $crate::given::Named::None,
+        }
+    };
+    (named $entry:expr, $index:expr, $name:expr, $what:ident $fields:tt) => {
+        $crate::given::GivenItem {
+            entry: $entry,
+            index: $index,
+            what: $crate::given::What::$what $fields,
+            name: $name,
+        }
+    };
+    ($entry:expr, $index:expr, None, $what:ident $fields:tt) => {
+        $crate::given::GivenItem {
+            entry: $entry,
+            index: $index,
+            what: $crate::given::What::$what $fields,
+            name: $crate::given::Named::None,
+        }
+    };
+}
+
+pub(crate) use item;
+
+/// A name as a plain value.
+pub fn plain_name(rt: &impl Abort, alloc: Global, name: &Name<'_>) -> Named {
+    match name {
+        Name::None => Named::None,
+        Name::Units(units) => {
+            let utf8 = units.to_utf8(alloc).expect(rt, "memory for a name");
+            Named::Text(short_text(utf8.as_bytes()))
+        }
+        Name::Long(bytes) => Named::Long(*bytes),
+    }
 }
 
 /// These bytes as a short text.
@@ -83,97 +219,14 @@ pub fn short_text(from: &[u8]) -> Text {
     }
 }
 
-/// A text as a name.
-pub fn spelled(name: &str) -> Named {
-    Named::Text(short_text(name.as_bytes()))
-}
-
-/// The entry of the directory with this number, and the three numbers that stand there.
-pub fn stream(entry: u32, stream_type: u32, size: u32, rva: u32) -> GivenItem {
-    let what = What::Stream {
-        stream_type,
-        size,
-        rva,
-    };
-    nameless(entry, 0, what)
-}
-
-/// A thread without a stack and a context.
-pub fn thread(entry: u32, id: u32) -> GivenItem {
-    let what = What::Thread {
-        id,
-        stack: Extent::Empty,
-        context: Extent::Empty,
-    };
-    nameless(entry, 0, what)
-}
-
-/// A module of the first entry without a name and without parts.
-pub fn module(index: u64, base: u64) -> GivenItem {
-    let what = What::Module {
-        base,
-        codeview: Extent::Empty,
-        misc: Extent::Empty,
-    };
-    nameless(0, index, what)
-}
-
-/// A range of the first entry.
-pub fn range(index: u64, start: u64, size: u64, extent: Extent, offset: u128) -> GivenItem {
-    let what = What::Range {
-        start,
-        size,
-        extent,
-        offset,
-    };
-    nameless(0, index, what)
-}
-
-/// An unloaded module of the first entry.
-pub fn unloaded(index: u64, base: u64, name: Named) -> GivenItem {
-    with_name(0, index, What::Unloaded { base }, name)
-}
-
-/// The first name of a thread, of the first entry.
-pub fn thread_name(id: u32, name: Named) -> GivenItem {
-    with_name(0, 0, What::ThreadName { id }, name)
-}
-
-/// The system of the first entry.
-pub fn system(processors: u8, build: u32, name: Named) -> GivenItem {
-    with_name(0, 0, What::System { processors, build }, name)
-}
-
-/// An item of a kind that has no name.
-pub fn nameless(entry: u32, index: u64, what: What) -> GivenItem {
-    with_name(entry, index, what, Named::None)
-}
-
-fn with_name(entry: u32, index: u64, what: What, name: Named) -> GivenItem {
-    GivenItem {
-        entry,
-        index,
-        what,
-        name,
-    }
-}
-
-/// A name as a plain value.
-pub fn plain_name(rt: &impl Abort, alloc: Global, name: &Name<'_>) -> Named {
-    match name {
-        Name::None => Named::None,
-        Name::Units(units) => {
-            let utf8 = units.to_utf8(alloc).expect(rt, "memory for a name");
-            spelled(utf8.as_str())
-        }
-        Name::Long(bytes) => Named::Long(*bytes),
-    }
-}
-
 /// An item as a plain value.
 pub fn plain(rt: &impl Abort, alloc: Global, item: &Item<'_>) -> GivenItem {
-    let name = plain_name(rt, alloc, item.name());
-    with_name(item.entry(), item.index(), what_of(item), name)
+    GivenItem {
+        entry: item.entry(),
+        index: item.index(),
+        what: what_of(item),
+        name: plain_name(rt, alloc, item.name()),
+    }
 }
 
 /// The telling numbers of an item.

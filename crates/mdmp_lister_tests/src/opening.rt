@@ -8,7 +8,7 @@ use std::alloc::{Allocator, Global};
 use std::process::Abort;
 
 /// All items and how many ranges of memory were mapped, or why there is no lister.
-#[derive(Clone, Copy, Debug, PartialEq, Eq)]
+#[derive(Clone, Copy, Debug, PartialEq)]
 pub enum Outcome {
     Listed {
         fault: Option<RunFault>,
@@ -24,11 +24,6 @@ pub fn chosen(rt: &impl Abort, types: &[u32]) -> Choice {
         return Choice::All;
     }
     Choice::Types(TypeSet::new(types).expect(rt, "types"))
-}
-
-/// A window of so many bytes, and names of at most so many.
-pub fn limits_of(rt: &impl Abort, window: u32, name: u32) -> Limits {
-    Limits::new(window, name).expect(rt, "limits")
 }
 
 /// A lister of a store.
@@ -56,16 +51,23 @@ pub fn patchy<'a>(
     PatchyStore::new(bytes, caps, fail_at)
 }
 
-/// A fault of the first entry.
-pub fn fault(index: Option<u64>, kind: FaultKind, offset: u64, size: u64) -> ListFault {
-    ListFault {
-        entry: 0,
-        index,
-        kind,
-        offset,
-        size,
-    }
+/// A fault of the first entry, or of another one, as a constant.
+macro_rules! fault {
+    ($index:expr, $kind:ident, $offset:expr, $size:expr) => {
+        $crate::opening::fault!(0, $index, mdmp_lister::FaultKind::$kind, $offset, $size)
+    };
+    ($entry:expr, $index:expr, $kind:expr, $offset:expr, $size:expr) => {
+        mdmp_lister::ListFault {
+            entry: $entry,
+            index: $index,
+            kind: $kind,
+            offset: $offset,
+            size: $size,
+        }
+    };
 }
+
+pub(crate) use fault;
 
 /// The fault of the second entry of `FAULTY`, in the name of its module.
 pub const FAULTY_NAME: ListFault = ListFault {
@@ -149,13 +151,17 @@ pub fn run_over<S: Store + Drop, A: Allocator + Copy>(
 }
 
 /// What a listing without a fault comes to.
-pub fn all(items: u64, mapped: usize) -> Outcome {
-    Outcome::Listed {
-        fault: None,
-        items,
-        mapped,
-    }
+macro_rules! all {
+    ($items:expr, $mapped:expr) => {
+        $crate::opening::Outcome::Listed {
+            fault: None,
+            items: $items,
+            mapped: $mapped,
+        }
+    };
 }
+
+pub(crate) use all;
 
 /// What ended a listing of the ranges of a store, and how many were mapped; none where it is not opened.
 pub fn listed_ranges<S: Store + Drop>(
