@@ -138,7 +138,7 @@ fn assert_outcome<S: Store + Drop>(
     let HeapCounts { growths, out, .. } = heap.counts();
     let ample = limits_of(None);
     let (again, _) = fault_into(alloc, row.into, source, ample, choice_of(rt, types), 18);
-    let at = (row.into, row.memory, growth);
+    let at = (row.memory, growth);
     assert_same_at(rt, &at, (fault, growths, out, again), expected);
 }
 

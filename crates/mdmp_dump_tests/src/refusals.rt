@@ -14,7 +14,7 @@ use std::alloc::{Allocator, Global};
 use std::process::Abort;
 
 /// A call that takes memory.
-#[derive(Clone, Copy, Debug)]
+#[derive(Clone, Copy)]
 enum DumpCall {
     Read,
     Open,
@@ -113,9 +113,10 @@ fn assert_growths_of(
     alloc: Global,
     file: &[u8],
     reading: u64,
-    call: DumpCall,
+    call: (&str, DumpCall),
     growths: u64,
 ) {
+    let (name, call) = call;
     for growth in 0..growths.saturating_add(1) {
         let taken = match call {
             DumpCall::ToMemory | DumpCall::WriteAndRead => {
@@ -128,7 +129,7 @@ fn assert_growths_of(
         } else {
             (None, growths, 0)
         };
-        assert_same_at(rt, &(call, growth), taken, expected);
+        assert_same_at(rt, &(name, growth), taken, expected);
     }
 }
 
@@ -136,12 +137,18 @@ fn assert_growths_of(
 /// two lists, and what is written takes one block.
 fn assert_growths(rt: &impl Abort, alloc: Global, file: &[u8], reading: u64) {
     for (call, growths) in &[
-        (DumpCall::Read, reading),
-        (DumpCall::OfSource(ReadInto::Value), reading),
-        (DumpCall::Open, 4),
-        (DumpCall::OfSource(ReadInto::View), 4),
-        (DumpCall::ToMemory, 1),
-        (DumpCall::WriteAndRead, reading.saturating_add(1)),
+        (("read", DumpCall::Read), reading),
+        (
+            ("read_source", DumpCall::OfSource(ReadInto::Value)),
+            reading,
+        ),
+        (("open", DumpCall::Open), 4),
+        (("open_source", DumpCall::OfSource(ReadInto::View)), 4),
+        (("to_memory", DumpCall::ToMemory), 1),
+        (
+            ("write_and_read", DumpCall::WriteAndRead),
+            reading.saturating_add(1),
+        ),
     ] {
         assert_growths_of(rt, alloc, file, reading, *call, *growths);
     }

@@ -12,7 +12,7 @@ use std::alloc::{Allocator, Global};
 use std::process::Abort;
 
 /// What a source is read into.
-#[derive(Clone, Copy, Debug)]
+#[derive(Clone, Copy)]
 pub enum ReadInto {
     Value,
     View,
@@ -154,7 +154,7 @@ fn assert_outcome(
     let source = Source::new(PatchyStore::new(bytes, &[1], Some(fail_at)));
     let (fault, source) = fault_into(alloc, into, source, NAMED, Choice::All, 18);
     let found = (fault, is_read_as(alloc, source, value));
-    assert_same_at(rt, &(into, fail_at), found, expected);
+    assert_same_at(rt, &(bytes.len(), fail_at), found, expected);
 }
 
 /// Asserts that the failure of each of these calls is told, which are numbered from `first` on.
@@ -186,7 +186,7 @@ fn assert_all_told(rt: &impl Abort, alloc: Global, row: &CallsRow) {
         let (more, _, _) = *some;
         first = first.saturating_add(more);
     }
-    assert_same_at(rt, &row.into, first, row.count);
+    assert_same_at(rt, &row.reading.name, first, row.count);
     assert_outcome(rt, alloc, row.into, &bytes, first, &value, (None, false));
 }
 
@@ -202,7 +202,7 @@ fn assert_stops(rt: &impl Abort, alloc: Global, bytes: &[u8], into: ReadInto) {
     let source = Source::new(PatchyStore::new(bytes, &[1, 3, 0], None));
     let (found, _) = fault_into(alloc, into, source, NAMED, Choice::All, 18);
     let short = ReadFault::Opening(OpenFault::Source(SourceFault::ShortRead { at: 4 }));
-    assert_same_at(rt, &into, found, Some(short));
+    assert_same_at(rt, &bytes.len(), found, Some(short));
 }
 
 #[test]

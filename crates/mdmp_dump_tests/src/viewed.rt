@@ -19,16 +19,9 @@ use mdmp_writer::WriteFault;
 use std::alloc::{Allocator, Global};
 use std::process::Abort;
 
-/// What came of writing a file through a view of it.
-#[derive(Clone, Copy, Debug, PartialEq, Eq)]
-enum ViewOutcome {
-    /// The file gives no view.
-    Refused(ReadFault),
-    /// The dump has so many bytes, and all of them went out.
-    Wrote(u64),
-    /// A first part went out.
-    Stopped(WriteFault),
-}
+/// What came of writing a file through a view of it: how many bytes the dump has, all of which went out, or why a first part
+/// alone did; or why the file gives no view.
+type ViewOutcome = Result<Result<u64, WriteFault>, ReadFault>;
 
 /// What a view counted, and `opened`, what it had fetched as it was opened.
 #[derive(Clone, Copy)]
@@ -123,10 +116,7 @@ fn outcome_of<V: DumpView>(
     room: usize,
 ) -> (ViewOutcome, Vec<u8, Global>) {
     let mut out = open_out(rt, alloc);
-    let outcome = match write_view(view, &mut out, room) {
-        Ok(size) => ViewOutcome::Wrote(size),
-        Err(fault) => ViewOutcome::Stopped(fault),
-    };
+    let outcome = Ok(write_view(view, &mut out, room));
     let bytes = out.bytes().to_vec(alloc).expect(rt, "memory for bytes");
     (outcome, bytes)
 }
@@ -162,7 +152,7 @@ fn write_over<S: Store + Drop>(
     match FileView::open(alloc, Source::new(store), limits, choice_of(rt, types)) {
         Ok(view) => write_opened(rt, alloc, view, room),
         Err(fault) => Written {
-            outcome: ViewOutcome::Refused(fault),
+            outcome: Err(fault),
             told: 0,
             bytes: Vec::new(alloc),
             counts: NOTHING,
@@ -213,7 +203,7 @@ fn reads_of(rt: &impl Abort, alloc: Global, file: &[u8], through: Through) -> (u
     let (outcome, _) = outcome_of(rt, alloc, &mut view, through.room);
     let reads = opened.into_source().into_store().reads();
     match outcome {
-        ViewOutcome::Wrote(_) => (reads, view.into_source().into_store().reads()),
+        Ok(Ok(_)) => (reads, view.into_source().into_store().reads()),
         _ => rt.panic("a file that is written"),
     }
 }

@@ -57,20 +57,21 @@ pub fn has_records<V: DumpView>(view: &mut V, stream: u64) -> bool
     }
 }
 
-/// A call of a view.
-#[derive(Clone, Copy, Debug, PartialEq, Eq)]
-pub enum ViewCall {
-    Rewind,
-    NextRecord,
-    Part,
-}
+/// The name of a call of a view. It is a text, since what a derive makes of an enum is long for the prover.
+pub type ViewCall = &'static str;
+
+pub const REWIND: ViewCall = "rewind";
+
+pub const NEXT_RECORD: ViewCall = "next_record";
+
+pub const PART: ViewCall = "part";
 
 /// The fault of a view, and the call that told it.
 pub type CallFault = (ViewCall, ViewFault);
 
 /// What of a view is asked for: bytes of a stream, of its own or of a part of its first record, from a place
 /// on.
-#[derive(Clone, Copy, Debug)]
+#[derive(Clone, Copy)]
 pub struct Wanted {
     pub stream: u64,
     pub which: usize,
@@ -89,16 +90,16 @@ pub fn first_record<V: DumpView>(
         return Ok(None);
     }
     if let Err(fault) = view.rewind(stream) {
-        return Err((ViewCall::Rewind, fault));
+        return Err((REWIND, fault));
     }
     let fields = match view.next_record() {
         Ok(fields) => fields,
-        Err(fault) => return Err((ViewCall::NextRecord, fault)),
+        Err(fault) => return Err((NEXT_RECORD, fault)),
     };
     if let Some(PartSize::Size(size)) = fields.parts.get(which) {
         if at <= *size && out.len() as u64 <= *size - at {
             if let Err(fault) = view.part(which, at, out) {
-                return Err((ViewCall::Part, fault));
+                return Err((PART, fault));
             }
         }
     }
@@ -120,11 +121,11 @@ pub fn raw_bytes<V: DumpView>(
     };
     let size = view.body_size(stream);
     if let Err(fault) = view.rewind(stream) {
-        return Err((ViewCall::Rewind, fault));
+        return Err((REWIND, fault));
     }
     if at <= size && out.len() as u64 <= size - at {
         if let Err(fault) = view.part(0, at, out) {
-            return Err((ViewCall::Part, fault));
+            return Err((PART, fault));
         }
     }
     Ok(true)
@@ -269,8 +270,9 @@ fn assert_part<V: DumpView>(rt: &impl Abort, view: &mut V, row: &PartRow) {
     let mut buffer = [0; 8];
     let out = buffer.get_mut(..expected.len()).expect(rt, "room");
     let found = first_record(view, wanted, out);
-    assert_same_at(rt, &wanted, matches!(found, Ok(Some(_))), true);
-    assert_same_at(rt, &wanted, buffer.get(..expected.len()), Some(expected));
+    let is_given = matches!(found, Ok(Some(_)));
+    let found = (is_given, buffer.get(..expected.len()));
+    assert_same_at(rt, row, found, (true, Some(expected)));
 }
 
 /// Asserts what a view gives.

@@ -1,6 +1,6 @@
 //! The calls of a view over a store that gives one byte a call, each of whose calls fails in turn.
 use super::{FourBytes, asked_thrice};
-use crate::dump::view::{ViewCall, Wanted};
+use crate::dump::view::{NEXT_RECORD, PART, REWIND, ViewCall, Wanted};
 use crate::files::{CRASH_FILE, NAMED, SIX_FILE, Sample, file_of};
 use crate::same::assert_same_at;
 use mdmp_dump::ViewFault;
@@ -16,9 +16,10 @@ type PassCalls = (u64, u64, ViewCall);
 /// is never begun again, and a part is given when it is asked for again.
 fn expected_of(call: ViewCall, at: u64, bytes: [u8; 4]) -> [FourBytes; 3] {
     let fault = ViewFault::Source(SourceFault::Failed { at });
-    let again = match call {
-        ViewCall::Part => Ok(bytes),
-        _ => Err((ViewCall::Rewind, fault)),
+    let again = if call == PART {
+        Ok(bytes)
+    } else {
+        Err((REWIND, fault))
     };
     [Err((call, fault)), again, again]
 }
@@ -55,7 +56,7 @@ const ASKINGS: &[Asking] = &[
             at: 0,
         },
         bytes: *b"STAK",
-        calls: &[(52, 56, ViewCall::Rewind), (4, 108, ViewCall::Part)],
+        calls: &[(52, 56, REWIND), (4, 108, PART)],
     },
     Asking {
         name: "the end of a context",
@@ -67,7 +68,7 @@ const ASKINGS: &[Asking] = &[
             at: 2,
         },
         bytes: [3, 4, 5, 6],
-        calls: &[(52, 56, ViewCall::Rewind), (4, 114, ViewCall::Part)],
+        calls: &[(52, 56, REWIND), (4, 114, PART)],
     },
     // Where a stream is one record, nothing has to be known to begin it.
     Asking {
@@ -80,7 +81,7 @@ const ASKINGS: &[Asking] = &[
             at: 0,
         },
         bytes: [0xaa, 0xbb, 0xcc, 0xdd],
-        calls: &[(168, 120, ViewCall::NextRecord), (4, 288, ViewCall::Part)],
+        calls: &[(168, 120, NEXT_RECORD), (4, 288, PART)],
     },
     Asking {
         name: "the bytes of a stream",
@@ -92,7 +93,7 @@ const ASKINGS: &[Asking] = &[
             at: 0,
         },
         bytes: [1, 2, 3, 4],
-        calls: &[(4, 440, ViewCall::Part)],
+        calls: &[(4, 440, PART)],
     },
     // What is in the window with the head, then the record, and the length of its name behind it.
     Asking {
@@ -106,9 +107,9 @@ const ASKINGS: &[Asking] = &[
         },
         bytes: *b"a\0b\0",
         calls: &[
-            (168, 44, ViewCall::Rewind),
-            (24 + 4, 244, ViewCall::NextRecord),
-            (4, 272, ViewCall::Part),
+            (168, 44, REWIND),
+            (24 + 4, 244, NEXT_RECORD),
+            (4, 272, PART),
         ],
     },
 ];

@@ -1,5 +1,5 @@
 //! Files that change while a view of them is opened or written.
-use super::{Through, ViewOutcome, Written, reads_of, two_faces, write_over};
+use super::{Through, Written, reads_of, two_faces, write_over};
 use crate::files::{NAMED, SIX_FILE, file_of};
 use crate::same::assert_same_at;
 use mdmp_dump::ViewFault;
@@ -46,9 +46,9 @@ fn assert_length(rt: &impl Abort, at: &(usize, u64), written: &Written) {
     let bytes = written.bytes.len() as u64;
     let told = written.told;
     let found = match written.outcome {
-        ViewOutcome::Refused(_) => bytes == 0,
-        ViewOutcome::Wrote(size) => bytes == told && size == told,
-        ViewOutcome::Stopped(_) => bytes < told,
+        Err(_) => bytes == 0,
+        Ok(Ok(size)) => bytes == told && size == told,
+        Ok(Err(_)) => bytes < told,
     };
     assert_same_at(rt, at, found, true);
 }
@@ -59,7 +59,7 @@ fn assert_first_part(rt: &impl Abort, at: &(usize, u64), six: &[u8], written: &W
     let first = six.get(..written.bytes.len());
     assert_same_at(rt, at, first, Some(written.bytes.as_slice()));
     let changed = ViewFault::Source(SourceFault::Changed { at: rva });
-    if let ViewOutcome::Stopped(fault) = written.outcome {
+    if let Ok(Err(fault)) = written.outcome {
         assert_same_at(rt, at, fault, WriteFault::View(changed));
     }
 }

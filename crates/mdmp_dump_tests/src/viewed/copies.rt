@@ -44,7 +44,7 @@ fn by_value(
 ) -> (ViewOutcome, Vec<u8, Global>) {
     match value {
         Ok(dump) => outcome_of(rt, alloc, &mut dump.view(), room),
-        Err(fault) => (ViewOutcome::Refused(fault), Vec::new(alloc)),
+        Err(fault) => (Err(fault), Vec::new(alloc)),
     }
 }
 
@@ -177,7 +177,7 @@ fn type_that_has_no_place_is_not_written(rt: HostRuntime) {
         room: 1,
     };
     let written = write_sample(&rt, rt.alloc(), SIX_FILE, &[200000], through);
-    assert_same(&rt, written.outcome, ViewOutcome::Wrote(32));
+    assert_same(&rt, written.outcome, Ok(Ok(32)));
     assert_same(&rt, written.bytes.as_slice(), header_of(0, 32).as_slice());
 }
 

@@ -86,7 +86,7 @@ fn view_takes_no_memory_once_it_is_opened(rt: HostRuntime) {
     let file = file_of(&rt, rt.alloc(), SIX_FILE);
     let heap = LocalHeap::new(rt.alloc(), 80 + 176 + 32 + 48).expect(&rt, "a heap");
     let used = used_by_writing(&rt, rt.alloc(), &heap, &file);
-    assert_same(&rt, used, (336, ViewOutcome::Wrote(444), 336));
+    assert_same(&rt, used, (336, Ok(Ok(444)), 336));
     assert_same(&rt, heap.used(), 0);
 }
 

@@ -148,9 +148,9 @@ fn expected_of(rt: &impl Abort, alloc: Global, row: &NameRow) -> WrittenName {
         Ok(size) => {
             let mut bytes = file_of(rt, alloc, row.sample);
             bytes.resize(size, 0).expect(rt, "memory for zeros");
-            (ViewOutcome::Wrote(size as u64), bytes, None)
+            (Ok(Ok(size as u64)), bytes, None)
         }
-        Err(fault) => (ViewOutcome::Refused(fault), Vec::new(alloc), Some(fault)),
+        Err(fault) => (Err(fault), Vec::new(alloc), Some(fault)),
     }
 }
 

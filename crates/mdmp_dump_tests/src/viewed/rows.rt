@@ -1,5 +1,5 @@
 //! What is written through a view of small files, and what it holds, fetches and counts.
-use super::{Through, ViewOutcome, reads_of, two_faces, write_over, write_sample};
+use super::{Through, reads_of, two_faces, write_over, write_sample};
 use crate::files::{ALL, CRASH_FILE, LEAST, NAMED, SIX_FILE, Sample, file_of};
 use crate::same::{assert_same, assert_same_at};
 use mdmp_dump::ViewFault;
@@ -66,7 +66,7 @@ fn open_succeeds(rt: HostRuntime) {
     for row in COUNTED {
         let written = write_sample(&rt, rt.alloc(), row.sample, row.types, BY_WINDOW);
         let file = file_of(&rt, rt.alloc(), row.written);
-        let wrote = ViewOutcome::Wrote(file.len() as u64);
+        let wrote = Ok(Ok(file.len() as u64));
         assert_same_at(
             &rt,
             &row.name,
@@ -110,6 +110,6 @@ fn list_that_has_become_shorter_is_told_as_changed(rt: HostRuntime) {
     let store = two_faces(&rt, &crash, &none, turn);
     let written = write_over(&rt, rt.alloc(), store, ALL, BY_WINDOW);
     let changed = ViewFault::Source(SourceFault::Changed { at: 56 });
-    let stopped = ViewOutcome::Stopped(WriteFault::View(changed));
+    let stopped = Ok(Err(WriteFault::View(changed)));
     assert_same(&rt, written.outcome, stopped);
 }

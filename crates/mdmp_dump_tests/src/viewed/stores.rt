@@ -2,7 +2,7 @@
 use super::{
     FourBytes, Through, ViewOutcome, Written, asked_thrice, four_bytes, view_of, write_over,
 };
-use crate::dump::view::{ViewCall, Wanted};
+use crate::dump::view::{PART, REWIND, Wanted};
 use crate::files::{ALL, CRASH_FILE, LEAST, NAMED, SIX_FILE, file_of};
 use crate::same::{assert_same, assert_same_at};
 use crate::writer::{patchy_out, write_view};
@@ -16,8 +16,8 @@ use std::process::Abort;
 /// Whether an outcome tells that a call of the store failed.
 fn tells_failure(outcome: ViewOutcome) -> bool {
     let fault = match outcome {
-        ViewOutcome::Refused(ReadFault::Opening(OpenFault::Source(fault))) => fault,
-        ViewOutcome::Refused(
+        Err(ReadFault::Opening(OpenFault::Source(fault))) => fault,
+        Err(
             ReadFault::List(
                 ListFault {
                     kind: FaultKind::Source(fault),
@@ -25,7 +25,7 @@ fn tells_failure(outcome: ViewOutcome) -> bool {
                 },
             ),
         ) => fault,
-        ViewOutcome::Stopped(WriteFault::View(ViewFault::Source(fault))) => fault,
+        Ok(Err(WriteFault::View(ViewFault::Source(fault)))) => fault,
         _ => return false,
     };
     matches!(fault, SourceFault::Failed { .. })
@@ -63,7 +63,7 @@ fn assert_calls(rt: &impl Abort, alloc: Global, room: usize, calls: u64) {
         assert_same_at(rt, &(room, fail_at), found, (true, bytes));
     }
     let written = written_where(rt, alloc, &file, calls, room);
-    let wrote = ViewOutcome::Wrote(expected.len() as u64);
+    let wrote = Ok(Ok(expected.len() as u64));
     let found = (written.outcome, written.bytes);
     assert_same_at(rt, &room, found, (wrote, expected));
 }
@@ -89,7 +89,7 @@ fn store_of_few_bytes_a_call_gives_the_same_bytes(rt: HostRuntime) {
         let store = PatchyStore::new(&six, &[1, 3], None);
         let written = write_over(&rt, rt.alloc(), store, ALL, through);
         let found = (written.outcome, written.bytes.as_slice());
-        let wrote = ViewOutcome::Wrote(444);
+        let wrote = Ok(Ok(444));
         assert_same_at(&rt, room, found, (wrote, six.as_slice()));
     }
 }
@@ -144,16 +144,10 @@ const STACK: Wanted = Wanted {
 };
 
 /// What is answered where the pass of the stream failed.
-const BEGUN: FourBytes = Err((
-    ViewCall::Rewind,
-    ViewFault::Source(SourceFault::Failed { at: 56 }),
-));
+const BEGUN: FourBytes = Err((REWIND, ViewFault::Source(SourceFault::Failed { at: 56 })));
 
 /// What is answered where the part could not be read.
-const UNREAD: FourBytes = Err((
-    ViewCall::Part,
-    ViewFault::Source(SourceFault::Failed { at: 108 }),
-));
+const UNREAD: FourBytes = Err((PART, ViewFault::Source(SourceFault::Failed { at: 108 })));
 
 /// A call of the store that fails, and what is answered where the stack is asked for three times. Four calls open the
 /// view, the fifth begins the stream, and the sixth is for the stack: the fault of a pass is told for good, and behind
