@@ -192,7 +192,8 @@ fn assert_all_told(rt: &impl Abort, alloc: Global, row: &CallsRow) {
 
 #[test]
 fn each_call_of_reading_may_fail(rt: HostRuntime) {
-    for row in &CALLS {
+    let rows = CALLS;
+    for row in &rows {
         assert_all_told(&rt, rt.alloc(), row);
     }
 }

@@ -4,7 +4,8 @@ use crate::vectors::VECTORS;
 
 #[test]
 fn streams_of_each_kind_are_read(rt: HostRuntime) {
-    for vector in &VECTORS {
+    let vectors = VECTORS;
+    for vector in &vectors {
         let name = vector.reading.name;
         let dump = value_of(&rt, rt.alloc(), vector.reading);
         assert_printed(&rt, rt.alloc(), name, dump, vector.value);

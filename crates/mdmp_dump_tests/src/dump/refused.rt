@@ -201,7 +201,8 @@ const REFUSED: [NoDumpRow; 13] = [
 
 #[test]
 fn first_of_its_reasons_is_told_for_which_a_file_gives_no_dump(rt: HostRuntime) {
-    for row in &REFUSED {
+    let rows = REFUSED;
+    for row in &rows {
         let file = file_of(&rt, rt.alloc(), row.sample);
         let source = Source::new(MemoryStore::new(&file));
         let (fault, source) = value_fault(rt.alloc(), source, row.limits, Choice::All, row.parts);

@@ -140,9 +140,12 @@ type PartRow = (u64, usize, u64, &'static [u8]);
 struct ViewRow {
     reading: DumpReading,
     told: &'static [StreamTold],
-    records: &'static [(u64, Option<Fields>)],
+    records: [(u64, Option<Fields>); 2],
     parts: &'static [PartRow],
 }
+
+/// No stream has this number, so that there is no record.
+const NO_RECORD: (u64, Option<Fields>) = (6, None);
 
 /// Where nothing is.
 const NOWHERE: Location = Location { size: 0, rva: 0 };
@@ -165,7 +168,7 @@ const VIEWS: [ViewRow; 4] = [
             (Kind::Raw(12), 4, 0),
         ],
         // A record without its locations, and a list without records.
-        records: &[
+        records: [
             (
                 1,
                 Some(Fields {
@@ -199,43 +202,49 @@ const VIEWS: [ViewRow; 4] = [
     ViewRow {
         reading: CRASH_READING,
         told: &[(Kind::Known(3), 52, 12), (Kind::Known(6), 168, 4)],
-        records: &[],
+        records: [NO_RECORD, NO_RECORD],
         parts: &[],
     },
     ViewRow {
         reading: MEMORY64_READING,
         told: &[(Kind::Known(9), 48, 8)],
-        records: &[(
-            0,
-            Some(Fields {
-                wire: AnyRecord::Memory64(Descriptor64 {
-                    start_of_memory_range: 0x1000,
-                    data_size: 4,
+        records: [
+            (
+                0,
+                Some(Fields {
+                    wire: AnyRecord::Memory64(Descriptor64 {
+                        start_of_memory_range: 0x1000,
+                        data_size: 4,
+                    }),
+                    parts: [PartSize::Size(4), PartSize::NoPart, PartSize::NoPart],
                 }),
-                parts: [PartSize::Size(4), PartSize::NoPart, PartSize::NoPart],
-            }),
-        )],
+            ),
+            NO_RECORD,
+        ],
         parts: &[(0, 0, 1, b"BCD")],
     },
     // An absent part is given as its size.
     ViewRow {
         reading: ABSENT_STACK_READING,
         told: &[(Kind::Known(3), 52, 4)],
-        records: &[(
-            0,
-            Some(Fields {
-                wire: AnyRecord::Thread(ThreadRecord {
-                    thread_id: 7,
-                    suspend_count: 0,
-                    priority_class: 0,
-                    priority: 0,
-                    teb: 0,
-                    stack: STACK,
-                    thread_context: NOWHERE,
+        records: [
+            (
+                0,
+                Some(Fields {
+                    wire: AnyRecord::Thread(ThreadRecord {
+                        thread_id: 7,
+                        suspend_count: 0,
+                        priority_class: 0,
+                        priority: 0,
+                        teb: 0,
+                        stack: STACK,
+                        thread_context: NOWHERE,
+                    }),
+                    parts: [PartSize::Absent(256), PartSize::Size(1), PartSize::NoPart],
                 }),
-                parts: [PartSize::Absent(256), PartSize::Size(1), PartSize::NoPart],
-            }),
-        )],
+            ),
+            NO_RECORD,
+        ],
         parts: &[],
     },
 ];
@@ -278,7 +287,7 @@ fn assert_part<V: DumpView>(rt: &impl Abort, view: &mut V, row: &PartRow) {
 /// Asserts what a view gives.
 fn assert_view<V: DumpView>(rt: &impl Abort, view: &mut V, row: &ViewRow) {
     assert_told(rt, view, row.told);
-    assert_records(rt, view, row.records);
+    assert_records(rt, view, &row.records);
     for part in row.parts {
         assert_part(rt, view, part);
     }
@@ -286,7 +295,8 @@ fn assert_view<V: DumpView>(rt: &impl Abort, view: &mut V, row: &ViewRow) {
 
 #[test]
 fn streams_records_and_parts_are_those_of_the_value(rt: HostRuntime) {
-    for row in &VIEWS {
+    let views = VIEWS;
+    for row in &views {
         let dump = value_of(&rt, rt.alloc(), row.reading);
         assert_view(&rt, &mut dump.view(), row);
     }
@@ -300,7 +310,8 @@ fn numbers_of_the_header_are_given(rt: HostRuntime) {
         time: 2,
         flags: 0x0400000000000003,
     };
-    let dump = value_of(&rt, rt.alloc(), VECTORS[0].reading);
+    let vectors = VECTORS;
+    let dump = value_of(&rt, rt.alloc(), vectors[0].reading);
     assert_same(&rt, dump.view().header(), header);
 }
 

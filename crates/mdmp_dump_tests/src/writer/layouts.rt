@@ -22,7 +22,8 @@ fn assert_written(rt: &impl Abort, alloc: Global, vector: &Vector) {
 
 #[test]
 fn each_kind_of_stream_is_written_at_its_place(rt: HostRuntime) {
-    for vector in &VECTORS {
+    let vectors = VECTORS;
+    for vector in &vectors {
         assert_written(&rt, rt.alloc(), vector);
     }
 }

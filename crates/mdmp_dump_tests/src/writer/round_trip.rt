@@ -99,7 +99,8 @@ fn assert_back(rt: &impl Abort, alloc: Global, file: &[u8], dump: &Dump<Global>,
 
 #[test]
 fn dump_is_read_back(rt: HostRuntime) {
-    for row in &BACK {
+    let rows = BACK;
+    for row in &rows {
         let file = file_of(&rt, rt.alloc(), row.reading.sample);
         let dump = value_of(&rt, rt.alloc(), row.reading);
         assert_back(&rt, rt.alloc(), &file, &dump, row);
@@ -120,7 +121,8 @@ fn part_of_two_mebibytes_is_written_and_read_back(rt: HostRuntime) {
     let file = large_file(rt.alloc()).expect(&rt, "memory for a file");
     let read = read_chosen(rt.alloc(), &file, LEAST, Choice::All, LARGE.parts);
     let large = read.expect(&rt, "a value");
-    assert_back(&rt, rt.alloc(), &file, &large, &LARGE);
+    let row = LARGE;
+    assert_back(&rt, rt.alloc(), &file, &large, &row);
 }
 
 #[test]

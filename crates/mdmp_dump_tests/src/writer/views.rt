@@ -213,7 +213,8 @@ const WRITTEN: [(DumpReading, usize); 4] = [
 
 #[test]
 fn fault_of_a_view_leaves_a_first_part(rt: HostRuntime) {
-    for (reading, room) in &WRITTEN {
+    let rows = WRITTEN;
+    for (reading, room) in &rows {
         assert_first_parts(&rt, rt.alloc(), *reading, *room);
     }
 }
