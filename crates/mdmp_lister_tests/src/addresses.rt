@@ -113,7 +113,8 @@ const READS: [Play; 5] = [
 
 #[test]
 fn range_that_was_given_first_decides(rt: HostRuntime) {
-    assert_plays(&rt, rt.alloc(), &READS);
+    let plays = READS;
+    assert_plays(&rt, rt.alloc(), &plays);
 }
 
 /// A call of the store fails while a lister of overlapping ranges reads four bytes of the first.
@@ -145,7 +146,8 @@ const FAILING: [FailingPlay; 1] = [FailingPlay {
 
 #[test]
 fn store_fault_of_a_read_changes_no_item(rt: HostRuntime) {
-    assert_fails(&rt, rt.alloc(), &FAILING);
+    let plays = FAILING;
+    assert_fails(&rt, rt.alloc(), &plays);
 }
 
 /// A lister that has given all items of a file.

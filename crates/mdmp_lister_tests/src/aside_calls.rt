@@ -90,7 +90,8 @@ const READS: [FailingPlay; 3] = [
 
 #[test]
 fn each_call_of_a_read_of_memory_may_fail(rt: HostRuntime) {
-    assert_fails(&rt, rt.alloc(), &READS);
+    let plays = READS;
+    assert_fails(&rt, rt.alloc(), &plays);
 }
 
 const PARTS: [FailingPlay; 2] = [
@@ -119,7 +120,8 @@ const PARTS: [FailingPlay; 2] = [
 
 #[test]
 fn each_call_of_a_part_of_a_lister_may_fail(rt: HostRuntime) {
-    assert_fails(&rt, rt.alloc(), &PARTS);
+    let plays = PARTS;
+    assert_fails(&rt, rt.alloc(), &plays);
 }
 
 /// What ended a listing of two ranges over a store that gives one byte a call and fails at this one, and how many were
@@ -178,7 +180,8 @@ const COUNTS: [FailingPlay; 2] = [
 
 #[test]
 fn each_call_of_a_count_of_records_may_fail(rt: HostRuntime) {
-    assert_fails(&rt, rt.alloc(), &COUNTS);
+    let plays = COUNTS;
+    assert_fails(&rt, rt.alloc(), &plays);
 }
 
 /// The third entry, and then the first one: the list is fetched for each.
@@ -222,7 +225,8 @@ const SOUGHT: [FailingPlay; 3] = [
 
 #[test]
 fn each_call_behind_a_sought_entry_may_fail(rt: HostRuntime) {
-    assert_fails(&rt, rt.alloc(), &SOUGHT);
+    let plays = SOUGHT;
+    assert_fails(&rt, rt.alloc(), &plays);
 }
 
 /// The four bytes at 72 are asked for twice, and all of the first entry is given then.
@@ -258,5 +262,6 @@ const WALKED: [FailingPlay; 2] = [
 
 #[test]
 fn each_call_of_a_part_of_a_walker_may_fail(rt: HostRuntime) {
-    assert_fails(&rt, rt.alloc(), &WALKED);
+    let plays = WALKED;
+    assert_fails(&rt, rt.alloc(), &plays);
 }

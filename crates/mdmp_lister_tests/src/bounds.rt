@@ -135,7 +135,8 @@ const LONG_NAME: ListedFile = ListedFile::Numbers(
 
 #[test]
 fn counts_succeed_and_bound_small_files(rt: HostRuntime) {
-    for row in &BOUNDS {
+    let rows = BOUNDS;
+    for row in &rows {
         let file = file_of(&rt, rt.alloc(), row.file);
         let found = bound_of(rt.alloc(), &file, row.limits);
         assert_same_at(&rt, &row.name, found, Some(row.bound));

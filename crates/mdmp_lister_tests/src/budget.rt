@@ -27,7 +27,7 @@ macro_rules! within {
 /// Why a file is not opened where a fetch of so many bytes at this offset would pass the budget.
 macro_rules! refused {
     ($offset:expr, $size:expr) => {
-        Outcome::Refused(OpenFault::Budget {
+        Err(OpenFault::Budget {
             offset: $offset,
             size: $size,
         })
@@ -37,11 +37,7 @@ macro_rules! refused {
 /// How a listing ends behind its Stream item in the place of such a fetch.
 macro_rules! ended {
     ($offset:expr, $size:expr) => {
-        Outcome::Listed {
-            fault: Some(RunFault::At(fault!(None, Budget, $offset, $size))),
-            items: 1,
-            mapped: 0,
-        }
+        Ok((Some(RunFault::At(fault!(None, Budget, $offset, $size))), 1, 0))
     };
 }
 
@@ -65,13 +61,7 @@ const BUDGETS: &[BudgetRow] = &[
     (&SYSTEM, 136, 133, all!(2, 0), 132),
     (&SYSTEM, 136, u64::MAX, all!(2, 0), 132),
     // A file that is too short is told before the budget.
-    (
-        &SYSTEM,
-        31,
-        0,
-        Outcome::Refused(OpenFault::TooShort { size: 31 }),
-        0,
-    ),
+    (&SYSTEM, 31, 0, Err(OpenFault::TooShort { size: 31 }), 0),
     // The head of a memory list may pass the budget.
     (&MEMORY64, 98, 59, refused!(44, 16), 44),
 ];
@@ -104,7 +94,8 @@ const REACHED: [Play; 1] = [play!(
 
 #[test]
 fn budget_that_is_reached_stays_so(rt: HostRuntime) {
-    assert_plays(&rt, rt.alloc(), &REACHED);
+    let plays = REACHED;
+    assert_plays(&rt, rt.alloc(), &plays);
 }
 
 #[test]
@@ -115,11 +106,7 @@ fn list_that_a_thousand_entries_name_ends_at_the_budget(rt: HostRuntime) {
     let (outcome, source) = run_over(rt.alloc(), source, limits, Choice::All);
     let fetched = source.fetched();
     let (kind, index, size, items) = match outcome {
-        Outcome::Listed {
-            fault: Some(RunFault::At(found)),
-            items,
-            ..
-        } => (found.kind, found.index, found.size, items),
+        Ok((Some(RunFault::At(found)), items, _)) => (found.kind, found.index, found.size, items),
         _ => panic!(&rt; "no fault"),
     };
     // It ends behind some items, and fetches no more.

@@ -21,7 +21,8 @@ const SUCCEEDS: [Play; 1] = [play!(
 
 #[test]
 fn open_succeeds_and_lists(rt: HostRuntime) {
-    assert_plays(&rt, rt.alloc(), &SUCCEEDS);
+    let plays = SUCCEEDS;
+    assert_plays(&rt, rt.alloc(), &plays);
 }
 
 const CALLS: [Play; 7] = [
@@ -111,5 +112,6 @@ const CALLS: [Play; 7] = [
 
 #[test]
 fn each_call_answers_what_it_should(rt: HostRuntime) {
-    assert_plays(&rt, rt.alloc(), &CALLS);
+    let plays = CALLS;
+    assert_plays(&rt, rt.alloc(), &plays);
 }

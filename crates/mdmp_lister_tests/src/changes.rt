@@ -97,7 +97,8 @@ fn reads_of_open(rt: &impl Abort, alloc: Global, file: &[u8]) -> u64 {
 
 #[test]
 fn list_that_counts_more_ranges_than_before_has_changed(rt: HostRuntime) {
-    for (first, second, turn, play) in &CHANGES {
+    let rows = CHANGES;
+    for (first, second, turn, play) in &rows {
         let before = counting(&rt, rt.alloc(), *first);
         let behind = counting(&rt, rt.alloc(), *second);
         assert_same_at(&rt, turn, reads_of_open(&rt, rt.alloc(), &before), 3);

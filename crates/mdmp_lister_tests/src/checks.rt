@@ -132,7 +132,8 @@ const CHECKS: [Play; 4] = [
 
 #[test]
 fn stopped_check_leaves_the_entries_behind_it(rt: HostRuntime) {
-    assert_plays(&rt, rt.alloc(), &CHECKS);
+    let plays = CHECKS;
+    assert_plays(&rt, rt.alloc(), &plays);
 }
 
 /// One byte a call: 68 calls are of the header and the directory, 52 of each list. The head of the second is read by call
@@ -153,5 +154,6 @@ const FAILING: [FailingPlay; 1] = [FailingPlay {
 
 #[test]
 fn check_ends_where_the_store_fails(rt: HostRuntime) {
-    assert_fails(&rt, rt.alloc(), &FAILING);
+    let plays = FAILING;
+    assert_fails(&rt, rt.alloc(), &plays);
 }

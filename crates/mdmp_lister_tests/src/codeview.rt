@@ -57,10 +57,7 @@ macro_rules! symbol_file {
         Ok((
             *b"\x00\x11\x22\x33\x44\x55\x66\x77\x88\x99\xaa\xbb\xcc\xdd\xee\xff",
             1,
-            Text {
-                len: $len,
-                bytes: $bytes,
-            },
+            ($len, $bytes),
             $ended,
         ))
     };
@@ -133,7 +130,7 @@ type NameTold = Option<Result<usize, SourceFault>>;
 /// That of the record of 30 bytes at 156.
 fn named_in<S: Store + Drop, A: Allocator + Copy>(lister: &mut Lister<S, A>) -> NameTold {
     match told_at(lister, Location { size: 30, rva: 156 }) {
-        Some(Ok(Ok((_, _, Text { len, .. }, _)))) => Some(Ok(len)),
+        Some(Ok(Ok((_, _, (len, _), _)))) => Some(Ok(len)),
         Some(Err(fault)) => Some(Err(fault)),
         _ => None,
     }

@@ -87,7 +87,8 @@ const COUNTED: [Play; 5] = [
 
 #[test]
 fn each_list_that_is_chosen_adds_its_ranges(rt: HostRuntime) {
-    assert_plays(&rt, rt.alloc(), &COUNTED);
+    let plays = COUNTED;
+    assert_plays(&rt, rt.alloc(), &plays);
 }
 
 /// What comes of a file of so many ranges that 16,384 entries name: its fault, the size of the source that is

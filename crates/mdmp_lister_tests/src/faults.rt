@@ -1,6 +1,5 @@
 //! Bad files: where a listing ends, and files that are not opened.
 use crate::files::ListedFile;
-use crate::given::Named;
 use crate::opening::{FAULTY_NAME, fault, open_and_close};
 use crate::same::{assert_same, assert_same_at};
 use crate::script::{LEAST, Play, STANDARD, assert_plays, play};
@@ -23,7 +22,7 @@ const FAULTS: [Play; 14] = [
         LEAST,
         [
             gives(stream(0, 7, 56, 68)),
-            gives(system(0, 0, Named::None)),
+            gives(system(0, 0, None)),
             gives(stream(1, 4, 112, 124)),
             fails(FAULTY_NAME),
         ]
@@ -71,7 +70,7 @@ const FAULTS: [Play; 14] = [
         ListedFile::Numbers(1, &[3, 0, u32::MAX]),
         LEAST,
         [
-            gives(stream(0, 3, 0, u32::MAX)),
+            gives(stream(0, 3, 0, 4294967295)),
             fails(fault!(None, ShortStream, 4294967295, 0)),
         ]
     ),
@@ -151,7 +150,8 @@ const FAULTS: [Play; 14] = [
 
 #[test]
 fn fault_ends_the_listing_behind_its_entry(rt: HostRuntime) {
-    assert_plays(&rt, rt.alloc(), &FAULTS);
+    let plays = FAULTS;
+    assert_plays(&rt, rt.alloc(), &plays);
 }
 
 /// Why a file is not opened, the size of the source that is handed back, and whether its header alone was fetched.

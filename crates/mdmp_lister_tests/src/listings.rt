@@ -1,6 +1,6 @@
 //! Whole files, listed: which entries, names, and parts of a thread.
 use crate::files::ListedFile;
-use crate::given::{ABCD, EMPTY, Named, SERVICE_PACK};
+use crate::given::{ABCD, EMPTY, SERVICE_PACK};
 use crate::opening::fault;
 use crate::script::{LEAST, NAMED, Play, SHORT_NAMES, assert_plays, play};
 use mdmp_test_support::{FAULTY, SYSTEM};
@@ -20,7 +20,7 @@ const CHOSEN: [Play; 2] = [
         types & [7],
         [
             gives(stream(0, 7, 56, 68)),
-            gives(system(0, 0, Named::None)),
+            gives(system(0, 0, None)),
             ends(),
         ]
     ),
@@ -28,7 +28,8 @@ const CHOSEN: [Play; 2] = [
 
 #[test]
 fn types_that_are_not_chosen_are_not_listed(rt: HostRuntime) {
-    assert_plays(&rt, rt.alloc(), &CHOSEN);
+    let plays = CHOSEN;
+    assert_plays(&rt, rt.alloc(), &plays);
 }
 
 const NAMES: [Play; 12] = [
@@ -86,7 +87,7 @@ const NAMES: [Play; 12] = [
         SHORT_NAMES,
         [
             gives(stream(0, 14, 36, 44)),
-            gives(unloaded(0, 0, Named::None)),
+            gives(unloaded(0, 0, None)),
             ends(),
         ]
     ),
@@ -116,7 +117,7 @@ const NAMES: [Play; 12] = [
         SHORT_NAMES,
         [
             gives(stream(0, 14, 36, 44)),
-            gives(unloaded(0, 0, Named::Long(10))),
+            gives(unloaded(0, 0, Some(Err(10)))),
             ends(),
         ]
     ),
@@ -151,7 +152,8 @@ const NAMES: [Play; 12] = [
 
 #[test]
 fn names_are_listed_or_end_the_listing(rt: HostRuntime) {
-    assert_plays(&rt, rt.alloc(), &NAMES);
+    let plays = NAMES;
+    assert_plays(&rt, rt.alloc(), &plays);
 }
 
 const THREADS: [Play; 6] = [
@@ -213,5 +215,6 @@ const THREADS: [Play; 6] = [
 
 #[test]
 fn padded_list_is_listed_and_its_parts_are_classified(rt: HostRuntime) {
-    assert_plays(&rt, rt.alloc(), &THREADS);
+    let plays = THREADS;
+    assert_plays(&rt, rt.alloc(), &plays);
 }

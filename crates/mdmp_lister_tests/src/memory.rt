@@ -72,7 +72,7 @@ const RANGES: ListedFile = ListedFile::Numbers(1, &OVERLAPPING);
 const UNUSED: ListedFile = ListedFile::Padded(4, &[], 12, &[]);
 
 /// What is refused.
-const REFUSED: Outcome = Outcome::Refused(OpenFault::Memory);
+const REFUSED: Outcome = Err(OpenFault::Memory);
 
 const HEAPS: [HeapRow; 8] = [
     // A directory of 16 bytes, a window of 176, and a map of 48.
@@ -157,7 +157,8 @@ fn assert_heaps(rt: &impl Abort, alloc: Global, row: &HeapRow) {
 
 #[test]
 fn want_of_memory_hands_the_source_back_until_there_is_enough(rt: HostRuntime) {
-    for row in &HEAPS {
+    let rows = HEAPS;
+    for row in &rows {
         assert_heaps(&rt, rt.alloc(), row);
     }
 }
@@ -171,7 +172,8 @@ const USED: [(ListedFile, Limits, usize); 3] = [
 
 #[test]
 fn memory_is_that_of_four_lists(rt: HostRuntime) {
-    for (sample, limits, size) in &USED {
+    let rows = USED;
+    for (sample, limits, size) in &rows {
         let file = file_of(&rt, rt.alloc(), *sample);
         let used = used_in(&rt, rt.alloc(), *size, *limits, &file);
         assert_same_at(&rt, size, used, (*size, None, *size));

@@ -30,7 +30,7 @@ macro_rules! within {
 /// A refusal since the lists would take so many bytes.
 macro_rules! over {
     ($held:expr) => {
-        Outcome::Refused(OpenFault::MemoryLimit { held: $held })
+        Err(OpenFault::MemoryLimit { held: $held })
     };
 }
 
@@ -172,7 +172,7 @@ fn assert_over_each_store(
 
 /// Asserts what comes of a file by so many growths, and that each of these may be refused before that.
 fn assert_edge(rt: &impl Abort, alloc: Global, row: &EdgeRow) {
-    let memory = Outcome::Refused(OpenFault::Memory);
+    let memory = Err(OpenFault::Memory);
     for growth in 0..row.growths {
         let expected = (memory, growth.saturating_add(1), 0, row.listed);
         assert_over_each_store(rt, alloc, row, growth, expected);
@@ -183,7 +183,8 @@ fn assert_edge(rt: &impl Abort, alloc: Global, row: &EdgeRow) {
 
 #[test]
 fn file_is_opened_at_its_limit_of_memory(rt: HostRuntime) {
-    for row in &EDGES {
+    let rows = EDGES;
+    for row in &rows {
         assert_edge(&rt, rt.alloc(), row);
     }
 }
@@ -198,7 +199,7 @@ struct FirstRow {
     fetched: u128,
 }
 
-const FIRST: [FirstRow; 10] = [
+const FIRST: [FirstRow; 11] = [
     // The header and the place of the directory are tested before memory.
     FirstRow {
         name: "a good header",
@@ -246,7 +247,7 @@ const FIRST: [FirstRow; 10] = [
     FirstRow {
         name: "memory for the window and the directory",
         file: RANGES,
-        limits: within!(0, 179, Some(32)),
+        limits: within!(0, 179),
         fault: OpenFault::MemoryLimit { held: 180 },
         fetched: 32,
     },
@@ -273,6 +274,13 @@ const FIRST: [FirstRow; 10] = [
     FirstRow {
         name: "memory for the ranges",
         file: RANGES,
+        limits: within!(0, 227),
+        fault: OpenFault::MemoryLimit { held: 228 },
+        fetched: 48,
+    },
+    FirstRow {
+        name: "memory for the ranges, and a budget for the head of the list",
+        file: RANGES,
         limits: within!(0, 227, Some(48)),
         fault: OpenFault::MemoryLimit { held: 228 },
         fetched: 48,
@@ -288,7 +296,8 @@ const FIRST: [FirstRow; 10] = [
 
 #[test]
 fn budget_and_memory_are_tested_in_the_order_in_which_a_file_is_opened(rt: HostRuntime) {
-    for row in &FIRST {
+    let rows = FIRST;
+    for row in &rows {
         let file = file_of(&rt, rt.alloc(), row.file);
         let source = Source::new(MemoryStore::new(&file));
         let (fault, source) = open_and_close(rt.alloc(), source, row.limits, Choice::All);

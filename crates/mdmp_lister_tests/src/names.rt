@@ -41,9 +41,9 @@ const NAMES: &[NameAtRow] = &[
     // A name of the limit, one of no units, and none.
     (&SHORT, 16, 4, 8, Ok(ABCD)),
     (&[0; 32], 8, 4, 8, Ok(EMPTY)),
-    (&[0; 32], 8, 0, 8, Ok(Named::None)),
+    (&[0; 32], 8, 0, 8, Ok(None)),
     // Over the limit, and not.
-    (&LONG, 18, 4, 8, Ok(Named::Long(10))),
+    (&LONG, 18, 4, 8, Ok(Some(Err(10)))),
     (&LONG, 18, 4, 10, Ok(ABCDE)),
     (&ODD, 32, 4, 8, bad!(NameOdd, 4, 7)),
     // An odd length is told before its bytes are looked for.

@@ -7,16 +7,8 @@ use mdmp_source::{PatchyStore, Source, SourceFault, Store};
 use std::alloc::{Allocator, Global};
 use std::process::Abort;
 
-/// All items and how many ranges of memory were mapped, or why there is no lister.
-#[derive(Clone, Copy, Debug, PartialEq)]
-pub enum Outcome {
-    Listed {
-        fault: Option<RunFault>,
-        items: u64,
-        mapped: usize,
-    },
-    Refused(OpenFault),
-}
+/// What ended a listing, how many items it gave, and how many ranges of memory were mapped, or why there is no lister.
+pub type Outcome = Result<(Option<RunFault>, u64, usize), OpenFault>;
 
 /// Each entry, or those of these types.
 pub fn chosen(rt: &impl Abort, types: &[u32]) -> Choice {
@@ -137,27 +129,19 @@ pub fn run_over<S: Store + Drop, A: Allocator + Copy>(
         Ok(lister) => lister,
         Err(refused) => {
             let OpenRefused { fault, source } = refused;
-            return (Outcome::Refused(fault), source);
+            return (Err(fault), source);
         }
     };
     let mut sink = StopAt::new(u64::MAX);
     let fault = lister.list_into(&mut sink).err();
-    let outcome = Outcome::Listed {
-        fault,
-        items: sink.calls(),
-        mapped: lister.map().len(),
-    };
+    let outcome = Ok((fault, sink.calls(), lister.map().len()));
     (outcome, lister.into_source())
 }
 
 /// What a listing without a fault comes to.
 macro_rules! all {
     ($items:expr, $mapped:expr) => {
-        $crate::opening::Outcome::Listed {
-            fault: None,
-            items: $items,
-            mapped: $mapped,
-        }
+        Ok((None, $items, $mapped))
     };
 }
 

@@ -40,7 +40,8 @@ const PARTS: [Play; 2] = [
 
 #[test]
 fn part_is_read_between_items_and_counted_aside(rt: HostRuntime) {
-    assert_plays(&rt, rt.alloc(), &PARTS);
+    let plays = PARTS;
+    assert_plays(&rt, rt.alloc(), &plays);
 }
 
 /// A call of the store fails while a lister of two ranges reads the first.
@@ -90,5 +91,6 @@ const FAILING: [FailingPlay; 3] = [
 
 #[test]
 fn store_fault_of_a_part_changes_no_item(rt: HostRuntime) {
-    assert_fails(&rt, rt.alloc(), &FAILING);
+    let plays = FAILING;
+    assert_fails(&rt, rt.alloc(), &plays);
 }

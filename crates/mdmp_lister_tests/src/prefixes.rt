@@ -20,18 +20,14 @@ fn assert_prefix(rt: &impl Abort, alloc: Global, size: usize, expected: Outcome)
 fn header_that_is_cut_is_too_short(rt: HostRuntime) {
     for size in 0..32 {
         let short = OpenFault::TooShort { size: size as u64 };
-        assert_prefix(&rt, rt.alloc(), size, Outcome::Refused(short));
+        assert_prefix(&rt, rt.alloc(), size, Err(short));
     }
 }
 
 /// The Stream item, and then this fault of the entry, or of its record.
 macro_rules! ends_at {
     ($index:expr, $kind:ident, $offset:expr, $size:expr) => {
-        Outcome::Listed {
-            fault: Some(RunFault::At(fault!($index, $kind, $offset, $size))),
-            items: 1,
-            mapped: 0,
-        }
+        Ok((Some(RunFault::At(fault!($index, $kind, $offset, $size))), 1, 0))
     };
 }
 
@@ -40,7 +36,7 @@ const SPANS: &[(usize, usize, Outcome)] = &[
     (
         32,
         43,
-        Outcome::Refused(OpenFault::DirectoryOutside {
+        Err(OpenFault::DirectoryOutside {
             offset: 32,
             size: 12,
         }),

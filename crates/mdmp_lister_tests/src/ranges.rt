@@ -121,7 +121,8 @@ const MAPPED: [Play; 7] = [
 
 #[test]
 fn ranges_are_mapped_as_they_are_given(rt: HostRuntime) {
-    assert_plays(&rt, rt.alloc(), &MAPPED);
+    let plays = MAPPED;
+    assert_plays(&rt, rt.alloc(), &plays);
 }
 
 const LEFT: [Play; 2] = [
@@ -163,5 +164,6 @@ const LEFT: [Play; 2] = [
 
 #[test]
 fn records_left_are_told_once_the_first_was_given(rt: HostRuntime) {
-    assert_plays(&rt, rt.alloc(), &LEFT);
+    let plays = LEFT;
+    assert_plays(&rt, rt.alloc(), &plays);
 }

@@ -2,7 +2,7 @@
 use crate::files::numbers_file;
 use crate::opening::fault;
 use crate::same::assert_same_at;
-use crate::script::{Answer, LEAST};
+use crate::script::{Answer, LEAST, counted};
 use crate::walking::{close, open_over, records_of, step_of};
 use mdmp_lister::{Choice, ListFault, Step, Walker};
 use mdmp_source::{MemoryStore, Store};
@@ -70,11 +70,11 @@ fn read<S: Store + Drop>(walker: &mut Walker<S, Global>) -> Answer {
     for count in 0..4 {
         match step_of(walker) {
             Ok(Some(Step::Record(_))) => {}
-            Ok(_) => return Answer::Counted(count),
+            Ok(_) => return counted(count, 0),
             Err(fault) => return Answer::Fault(fault),
         }
     }
-    Answer::Counted(4)
+    counted(4, 0)
 }
 
 /// Whether the item of a stream comes, what is told of its records before they are read, twice, and what comes of reading
@@ -94,7 +94,7 @@ fn records_of_each_kind_are_counted(rt: HostRuntime) {
     for row in COUNTS {
         let file = stream_file(&rt, rt.alloc(), row);
         let expected = match row.4 {
-            Ok(count) => Answer::Counted(count),
+            Ok(count) => counted(count, 0),
             Err(fault) => Answer::Fault(fault),
         };
         let told = told_of(&rt, rt.alloc(), &file);

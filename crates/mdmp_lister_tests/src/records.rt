@@ -1,21 +1,9 @@
 //! The items of whole files, of each kind of record.
 use crate::files::ListedFile;
-use crate::given::{ABCD, Named};
+use crate::given::ABCD;
 use crate::opening::fault;
 use crate::script::{LEAST, Play, SHORT_NAMES, assert_plays, play};
 use mdmp_test_support::{MEMORY64, THREAD_NAME, THRICE};
-use mdmp_wire::MemoryInfoRecord;
-
-/// The region of memory of a file below.
-const REGION: MemoryInfoRecord = MemoryInfoRecord {
-    base_address: 4096,
-    allocation_base: 4096,
-    allocation_protect: 4,
-    region_size: 8192,
-    state: 4096,
-    protect: 4,
-    memory_type: 131072,
-};
 
 const RECORDS: [Play; 15] = [
     play!(
@@ -52,8 +40,8 @@ const RECORDS: [Play; 15] = [
         LEAST,
         [
             gives(stream(0, 14, 2012, 44)),
-            gives(unloaded(0, 1, Named::None)),
-            gives(unloaded(1, 2, Named::None)),
+            gives(unloaded(0, 1, None)),
+            gives(unloaded(1, 2, None)),
             ends(),
         ]
     ),
@@ -98,8 +86,15 @@ const RECORDS: [Play; 15] = [
         LEAST,
         [
             gives(stream(0, 9, 64, 44)),
-            gives(range(0, 0, 4096, u64::MAX, Outside, 108)),
-            gives(range(0, 1, 8192, u64::MAX, Outside, 18446744073709551723)),
+            gives(range(0, 0, 4096, 18446744073709551615, Outside, 108)),
+            gives(range(
+                0,
+                1,
+                8192,
+                18446744073709551615,
+                Outside,
+                18446744073709551723
+            )),
             gives(range(0, 2, 12288, 1, Outside, 36893488147419103338)),
             ends(),
         ]
@@ -126,7 +121,7 @@ const RECORDS: [Play; 15] = [
             ],
         ),
         LEAST,
-        [gives(stream(0, 16, 64, 44)), gives(region(REGION)), ends()]
+        [gives(stream(0, 16, 64, 44)), gives(region([4096, 4096, 4, 8192, 4096, 4, 131072])), ends()]
     ),
     // Behind its count, and behind the count and four bytes more.
     play!(
@@ -156,7 +151,7 @@ const RECORDS: [Play; 15] = [
         SHORT_NAMES,
         [
             gives(stream(0, 24, 16, 44)),
-            gives(thread_name(7, Named::None)),
+            gives(thread_name(7, None)),
             ends()
         ]
     ),
@@ -216,5 +211,6 @@ const RECORDS: [Play; 15] = [
 
 #[test]
 fn records_of_each_kind_are_listed(rt: HostRuntime) {
-    assert_plays(&rt, rt.alloc(), &RECORDS);
+    let plays = RECORDS;
+    assert_plays(&rt, rt.alloc(), &plays);
 }

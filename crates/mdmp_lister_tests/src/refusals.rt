@@ -21,11 +21,7 @@ fn count_items<S: Store + Drop, A: Allocator + Copy>(walker: &mut Walker<S, A>) 
             Ok(Some(_)) => {}
             Ok(None) => return all!(count, 0),
             Err(found) => {
-                return Outcome::Listed {
-                    fault: Some(RunFault::At(found)),
-                    items: count,
-                    mapped: 0,
-                };
+                return Ok((Some(RunFault::At(found)), count, 0));
             }
         }
     }
@@ -45,7 +41,7 @@ fn walk_over<S: Store + Drop, A: Allocator + Copy>(
         }
         Err(refused) => {
             let OpenRefused { fault, source } = refused;
-            (Outcome::Refused(fault), source)
+            (Err(fault), source)
         }
     }
 }
@@ -177,7 +173,7 @@ const GROWTHS: [GrowthsRow; 9] = [
 /// Asserts that each of so many growths may be refused, which ends the opening, and that there are no more.
 fn assert_each_may_be_refused(rt: &impl Abort, alloc: Global, row: &GrowthsRow) {
     let file = file_of(rt, alloc, row.file);
-    let refused = Outcome::Refused(OpenFault::Memory);
+    let refused = Err(OpenFault::Memory);
     for growth in 0..row.growths.saturating_add(1) {
         let store = MemoryStore::new(&file);
         let found = opened_in(alloc, Refusal::Only(growth), store, row.limits, row.opener);
@@ -192,7 +188,8 @@ fn assert_each_may_be_refused(rt: &impl Abort, alloc: Global, row: &GrowthsRow) 
 
 #[test]
 fn each_growth_of_an_opening_may_be_refused(rt: HostRuntime) {
-    for row in &GROWTHS {
+    let rows = GROWTHS;
+    for row in &rows {
         assert_each_may_be_refused(&rt, rt.alloc(), row);
     }
 }

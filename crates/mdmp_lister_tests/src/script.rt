@@ -95,7 +95,6 @@ pub enum ScriptStep {
 #[derive(Clone, Copy, Debug, PartialEq)]
 pub enum Answer {
     Done,
-    Entries(u32),
     Item(GivenItem),
     End,
     Fault(ListFault),
@@ -103,17 +102,14 @@ pub enum Answer {
     Ran(Option<RunFault>, u64),
     /// Something was given before, so no verdict can be.
     Begun,
-    Room { len: usize, free: usize },
+    /// How many, and for some calls a second number.
+    Numbers(u128, u128),
     Place(Option<Place>),
     /// What was read is something else: the bytes, and which of them are known.
     Others([u8; 16], [bool; 16]),
     /// Not all of what is to be read lies inside the file.
     Outside,
     Failed(SourceFault),
-    Numbers { size: u64, aside: u128 },
-    RecordsLeft(u64),
-    Counted(u64),
-    Fresh(bool),
     /// It has no such call, or it may not be called there.
     NoCall,
 }
@@ -150,7 +146,7 @@ pub struct Call {
 /// A call and its answer, as a constant.
 macro_rules! call {
     (entries($count:expr)) => {
-        $crate::script::call!(Entries => Entries($count))
+        $crate::script::call!(Entries => Numbers($count, 0))
     };
     (gives($kind:ident $fields:tt)) => {
         $crate::script::call!(Next => Item($crate::given::item!($kind $fields)))
@@ -191,7 +187,7 @@ macro_rules! call {
         $crate::script::call!(Check(u64::MAX) => Begun)
     };
     (has_room($len:expr, $free:expr)) => {
-        $crate::script::call!(Room => Room { len: $len, free: $free })
+        $crate::script::call!(Room => Numbers($len, $free))
     };
     (finds($address:expr, $offset:expr, $left:expr)) => {
         $crate::script::call!(
@@ -220,10 +216,10 @@ macro_rules! call {
     };
     // The size of the file, and what was fetched aside so far.
     (has_numbers($size:expr, $aside:expr)) => {
-        $crate::script::call!(Numbers => Numbers { size: $size, aside: $aside })
+        $crate::script::call!(Numbers => Numbers($size, $aside))
     };
     (has_records_left($count:expr)) => {
-        $crate::script::call!(RecordsLeft => RecordsLeft($count))
+        $crate::script::call!(RecordsLeft => Numbers($count, 0))
     };
     (seeks($number:expr)) => {
         $crate::script::call!(Seek($number) => Done)
@@ -233,7 +229,7 @@ macro_rules! call {
         $crate::script::call!(Seek($number) => NoCall)
     };
     (counts($records:expr)) => {
-        $crate::script::call!(Records => Counted($records))
+        $crate::script::call!(Records => Numbers($records, 0))
     };
     (count_fails($fault:expr)) => {
         $crate::script::call!(Records => Fault($fault))
@@ -246,14 +242,17 @@ macro_rules! call {
         $crate::script::call!(Records => NoCall)
     };
     // Whether nothing was given yet.
-    (is_fresh($expected:expr)) => {
-        $crate::script::call!(Fresh => Fresh($expected))
+    (is_fresh(true)) => {
+        $crate::script::call!(Fresh => Numbers(1, 0))
     };
-    ($step:ident $( ( $($given:tt)* ) )? => $answer:ident $( ( $($told:tt)* ) )? $( { $($field:tt)* } )?) => {
+    (is_fresh(false)) => {
+        $crate::script::call!(Fresh => Numbers(0, 0))
+    };
+    ($step:ident $( ( $($given:tt)* ) )? => $answer:ident $( ( $($told:tt)* ) )?) => {
         $crate::script::Call {
             step: $crate::script::ScriptStep::$step $( ( $($given)* ) )?,
             answer: $crate::script::Expected::Is(
-                $crate::script::Answer::$answer $( ( $($told)* ) )? $( { $($field)* } )?,
+                $crate::script::Answer::$answer $( ( $($told)* ) )?,
             ),
         }
     };
@@ -351,6 +350,11 @@ pub fn answer_by(
     }
 }
 
+/// A count, and a second number.
+pub fn counted(count: u64, second: u128) -> Answer {
+    Answer::Numbers(u128::from(count), second)
+}
+
 fn run<S: Store + Drop, A: Allocator + Copy>(
     lister: &mut Lister<S, A>,
     sink: &mut StopAt,
@@ -419,7 +423,7 @@ pub fn answer_of<S: Store + Drop, A: Allocator + Copy>(
     step: ScriptStep,
 ) -> Answer {
     match step {
-        ScriptStep::Entries => Answer::Entries(lister.header().number_of_streams),
+        ScriptStep::Entries => counted(u64::from(lister.header().number_of_streams), 0),
         ScriptStep::Next => answer_by(rt, alloc, lister.next()),
         ScriptStep::Skip => {
             lister.skip_entry();
@@ -434,19 +438,15 @@ pub fn answer_of<S: Store + Drop, A: Allocator + Copy>(
             *sink = StopAt::new(stop_at);
             check(lister, sink)
         }
-        ScriptStep::Room => Answer::Room {
-            len: lister.map().len(),
-            free: lister.map().free(),
-        },
+        ScriptStep::Room => {
+            Answer::Numbers(lister.map().len() as u128, lister.map().free() as u128)
+        }
         ScriptStep::Find(address) => Answer::Place(lister.map().find(address)),
         ScriptStep::Read(address, bytes, known) => read(lister, address, bytes, known),
         ScriptStep::Part(at, bytes) => read_part(lister, at, bytes),
-        ScriptStep::Numbers => Answer::Numbers {
-            size: lister.size(),
-            aside: lister.counts().aside,
-        },
-        ScriptStep::RecordsLeft => Answer::RecordsLeft(lister.records_left()),
-        ScriptStep::Fresh => Answer::Fresh(lister.is_fresh()),
+        ScriptStep::Numbers => counted(lister.size(), lister.counts().aside),
+        ScriptStep::RecordsLeft => counted(lister.records_left(), 0),
+        ScriptStep::Fresh => counted(u64::from(lister.is_fresh()), 0),
         ScriptStep::Seek(_) | ScriptStep::Records => Answer::NoCall,
     }
 }

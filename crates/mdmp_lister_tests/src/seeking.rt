@@ -167,7 +167,8 @@ const NOT_CHOSEN: [Play; 1] = [
 
 #[test]
 fn entry_that_is_not_chosen_may_be_sought(rt: HostRuntime) {
-    assert_plays(&rt, rt.alloc(), &NOT_CHOSEN);
+    let plays = NOT_CHOSEN;
+    assert_plays(&rt, rt.alloc(), &plays);
 }
 
 /// The header and the directory are read, and then the head of a stream.
@@ -222,5 +223,6 @@ const NOT_SOUGHT: [FailingPlay; 2] = [
 
 #[test]
 fn no_entry_is_sought_behind_a_fault_of_the_store(rt: HostRuntime) {
-    assert_fails(&rt, rt.alloc(), &NOT_SOUGHT);
+    let plays = NOT_SOUGHT;
+    assert_fails(&rt, rt.alloc(), &plays);
 }

@@ -64,7 +64,8 @@ const FEW: [Play; 3] = [
 
 #[test]
 fn one_byte_a_call_gives_the_same_items(rt: HostRuntime) {
-    assert_plays(&rt, rt.alloc(), &FEW);
+    let plays = FEW;
+    assert_plays(&rt, rt.alloc(), &plays);
 }
 
 /// How many bytes each call of a store gives, which of them fails, and why a file of one system is not opened.
@@ -107,5 +108,6 @@ const FOR_GOOD: [FailingPlay; 1] = [FailingPlay {
 
 #[test]
 fn store_fault_stands_for_good(rt: HostRuntime) {
-    assert_fails(&rt, rt.alloc(), &FOR_GOOD);
+    let plays = FOR_GOOD;
+    assert_fails(&rt, rt.alloc(), &plays);
 }

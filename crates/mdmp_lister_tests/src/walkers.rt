@@ -161,7 +161,8 @@ const WALKS: [Play; 5] = [
 
 #[test]
 fn walker_gives_what_a_lister_gives(rt: HostRuntime) {
-    assert_plays(&rt, rt.alloc(), &WALKS);
+    let plays = WALKS;
+    assert_plays(&rt, rt.alloc(), &plays);
 }
 
 /// What came of a walk: how many items it gave, and the fault behind them; or why it was refused.
@@ -277,27 +278,21 @@ fn refused_walker_hands_its_source_back(rt: HostRuntime) {
 }
 
 /// What a walker tells of its next item, as it was read: the entry and the type of a stream; the entry and the index of a
-/// record, where its name stands, and that name; or the end.
-#[derive(Clone, Copy, Debug, PartialEq)]
-enum StepTold {
-    Stream(u32, u32),
-    Record(u32, u64, Option<u64>, NameRead),
-    End,
-}
+/// record, where its name stands, and that name; none at the end.
+type StepTold = Option<Result<(u32, u32), (u32, u64, Option<u64>, NameRead)>>;
 
-/// That of the next item, if there is no fault.
-fn told_of<S: Store + Drop>(walker: &mut Walker<S, Global>) -> Option<StepTold> {
-    match step_of(walker) {
-        Ok(Some(Step::Stream(stream))) => Some(StepTold::Stream(stream.entry, stream.stream_type)),
-        Ok(Some(Step::Record(read))) => Some(StepTold::Record(
-            read.entry,
-            read.index,
-            read.fields.name_rva(),
-            read.name,
-        )),
-        Ok(None) => Some(StepTold::End),
-        Err(_) => None,
-    }
+/// That of the next item, or its fault.
+fn told_of<S: Store + Drop>(walker: &mut Walker<S, Global>) -> Result<StepTold, ListFault> {
+    let told = match step_of(walker) {
+        Ok(Some(Step::Stream(stream))) => Some(Ok((stream.entry, stream.stream_type))),
+        Ok(Some(Step::Record(read))) => {
+            let name_rva = read.fields.name_rva();
+            Some(Err((read.entry, read.index, name_rva, read.name)))
+        }
+        Ok(None) => None,
+        Err(fault) => return Err(fault),
+    };
+    Ok(told)
 }
 
 /// An unloaded module whose name has ten bytes.
@@ -319,9 +314,9 @@ fn step_tells_a_record_as_it_stands_in_the_file(rt: HostRuntime) {
     ];
     let _ = close(walker);
     let expected = [
-        Some(StepTold::Stream(0, 14)),
-        Some(StepTold::Record(0, 0, Some(80), NameRead::Long(10))),
-        Some(StepTold::End),
+        Ok(Some(Ok((0, 14)))),
+        Ok(Some(Err((0, 0, Some(80), NameRead::Long(10))))),
+        Ok(None),
     ];
     assert_same(&rt, told, expected);
 }

@@ -1,6 +1,6 @@
 //! A walker that is opened, and its calls in a row.
 use crate::same::assert_same_at;
-use crate::script::{Answer, Call, Here, LEAST, Play, ScriptStep, answer_by, expected_at};
+use crate::script::{Answer, Call, Here, LEAST, Play, ScriptStep, answer_by, counted, expected_at};
 use mdmp_lister::{
     Choice, Counts, Limits, ListFault, OpenFault, OpenRefused, Step as Read, Walker,
 };
@@ -102,7 +102,7 @@ pub fn records_of<S: Store + Drop, A: Allocator + Copy>(walker: &mut Walker<S, A
         return Answer::NoCall;
     }
     match walker.records() {
-        Ok(count) => Answer::Counted(count),
+        Ok(count) => counted(count, 0),
         Err(fault) => Answer::Fault(fault),
     }
 }
@@ -123,7 +123,7 @@ pub fn answer_of<S: Store + Drop, A: Allocator + Copy>(
     step: ScriptStep,
 ) -> Answer {
     match step {
-        ScriptStep::Entries => Answer::Entries(walker.header().number_of_streams),
+        ScriptStep::Entries => counted(u64::from(walker.header().number_of_streams), 0),
         ScriptStep::Next => answer_by(rt, alloc, walker.next()),
         ScriptStep::Skip => {
             walker.skip_entry();

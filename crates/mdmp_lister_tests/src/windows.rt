@@ -1,7 +1,6 @@
 //! Streams that pass through a window: how few fetches that takes, what a fill that fails leaves, and
 //! the same items by any window.
 use crate::files::{ListedFile, file_of};
-use crate::given::Named;
 use crate::opening::{close, counts_of, list_all, opened};
 use crate::same::assert_same_at;
 use crate::script::{FailingPlay, LEAST, Play, assert_fails, assert_plays, play};
@@ -195,7 +194,8 @@ const FILLS: [FailingPlay; 3] = [
 
 #[test]
 fn fill_that_fails_leaves_the_records_that_are_held(rt: HostRuntime) {
-    assert_fails(&rt, rt.alloc(), &FILLS);
+    let plays = FILLS;
+    assert_fails(&rt, rt.alloc(), &plays);
 }
 
 /// What is given of two modules that stand 1000 bytes apart, by a window of so many bytes, in a store that gives as many
@@ -204,8 +204,8 @@ macro_rules! apart {
     ($window:expr, $caps:expr) => {
         play!("two modules 1000 bytes apart", APART_1000, window!($window, $window), caps $caps, [
             gives(stream(0, 14, 2012, 44)),
-            gives(unloaded(0, 1, Named::None)),
-            gives(unloaded(1, 2, Named::None)),
+            gives(unloaded(0, 1, None)),
+            gives(unloaded(1, 2, None)),
             ends(),
         ])
     };
@@ -218,8 +218,8 @@ const WINDOWS: [Play; 20] = [
         LEAST,
         [
             gives(stream(0, 14, 60, 44)),
-            gives(unloaded(0, 1, Named::None)),
-            gives(unloaded(1, 2, Named::None)),
+            gives(unloaded(0, 1, None)),
+            gives(unloaded(1, 2, None)),
             ends(),
         ]
     ),
@@ -246,5 +246,6 @@ const WINDOWS: [Play; 20] = [
 
 #[test]
 fn any_window_and_any_store_give_the_same_items(rt: HostRuntime) {
-    assert_plays(&rt, rt.alloc(), &WINDOWS);
+    let plays = WINDOWS;
+    assert_plays(&rt, rt.alloc(), &plays);
 }
