@@ -1,5 +1,5 @@
 //! An index of ranges, and a search in it.
-use crate::same::assert_same;
+use crate::same::{assert_same, assert_same_at};
 use mdmp_index::{IndexSlot, Listed, index, read, slot_at};
 use mdmp_map::Range;
 use std::process::Abort;
@@ -16,22 +16,26 @@ const NONE: IndexSlot = IndexSlot {
 };
 
 /// A range: its start, its length and its offset in the file.
-fn range(start: u64, length: u64, offset: u64) -> Range {
-    Range {
-        start,
-        length,
-        offset,
-    }
+macro_rules! range {
+    ($start:expr, $length:expr, $offset:expr) => {
+        Range {
+            start: $start,
+            length: $length,
+            offset: $offset,
+        }
+    };
 }
 
 /// A slot: its start, its length, its offset in the file and its owner.
-fn slot(start: u64, length: u64, offset: u64, owner: u64) -> IndexSlot {
-    IndexSlot {
-        start,
-        length,
-        offset,
-        owner,
-    }
+macro_rules! slot {
+    ($start:expr, $length:expr, $offset:expr, $owner:expr) => {
+        IndexSlot {
+            start: $start,
+            length: $length,
+            offset: $offset,
+            owner: $owner,
+        }
+    };
 }
 
 /// Makes an index of ranges: how many slots it has, and the slots.
@@ -54,68 +58,68 @@ fn owner_at(slots: &[IndexSlot], address: u64) -> Option<u64> {
     Some(slots[number].owner)
 }
 
-/// Asserts that the slot of each address has this owner.
-fn assert_owners(rt: &impl Abort, slots: &[IndexSlot], rows: &[(u64, Option<u64>)]) {
-    for (address, owner) in rows {
-        assert_same(rt, owner_at(slots, *address), *owner);
-    }
-}
-
 /// The first of these ranges is inside the second, and the third has no bytes.
-fn overlapping() -> [Range; 3] {
-    [
-        range(0x1004, 4, 100),
-        range(0xff0, 0x40, 200),
-        range(0x1000, 0, 300),
-    ]
-}
+const OVERLAPPING: &[Range] = &[
+    range!(0x1004, 4, 100),
+    range!(0xff0, 0x40, 200),
+    range!(0x1000, 0, 300),
+];
+
+/// Addresses, and the owner of the slot of each.
+const OWNERS: [(u64, Option<u64>); 10] = [
+    (0, None),
+    (0xfef, None),
+    (0xff0, Some(1)),
+    (0x1003, Some(1)),
+    (0x1004, Some(0)),
+    (0x1007, Some(0)),
+    (0x1008, Some(1)),
+    (0x102f, Some(1)),
+    (0x1030, None),
+    (u64::MAX, None),
+];
 
 #[test]
 fn the_first_range_has_an_address(rt: HostRuntime) {
-    let (count, slots) = index_of(&rt, &overlapping());
-    assert_owners(
-        &rt,
-        first_slots(&slots, count),
-        &[
-            (0, None),
-            (0xfef, None),
-            (0xff0, Some(1)),
-            (0x1003, Some(1)),
-            (0x1004, Some(0)),
-            (0x1007, Some(0)),
-            (0x1008, Some(1)),
-            (0x102f, Some(1)),
-            (0x1030, None),
-            (u64::MAX, None),
-        ],
-    );
+    let (count, slots) = index_of(&rt, OVERLAPPING);
+    for (address, owner) in &OWNERS {
+        let found = owner_at(first_slots(&slots, count), *address);
+        assert_same_at(&rt, address, found, *owner);
+    }
 }
+
+/// Ranges, and the slots of their index.
+const INDEXES: &[(&[Range], &[IndexSlot])] = &[
+    // The first two of them.
+    (
+        &[range!(0x1004, 4, 100), range!(0xff0, 0x40, 200)],
+        &[
+            slot!(0xff0, 20, 200, 1),
+            slot!(0x1004, 4, 100, 0),
+            slot!(0x1008, 40, 224, 1),
+        ],
+    ),
+    // Addresses end.
+    (
+        &[range!(u64::MAX - 1, 8, 100)],
+        &[slot!(u64::MAX - 1, 2, 100, 0)],
+    ),
+    (&[], &[]),
+];
 
 #[test]
 fn a_slot_has_its_bytes(rt: HostRuntime) {
-    let (_, slots) = index_of(&rt, &overlapping()[..2]);
-    assert_same(&rt, slots[0], slot(0xff0, 20, 200, 1));
-    assert_same(&rt, slots[1], slot(0x1004, 4, 100, 0));
-    assert_same(&rt, slots[2], slot(0x1008, 40, 224, 1));
-}
-
-#[test]
-fn addresses_end(rt: HostRuntime) {
-    let (count, slots) = index_of(&rt, &[range(u64::MAX - 1, 8, 100)]);
-    assert_same(&rt, count, 1);
-    assert_same(&rt, slots[0], slot(u64::MAX - 1, 2, 100, 0));
-}
-
-#[test]
-fn no_ranges_have_no_slots(rt: HostRuntime) {
-    let (count, _) = index_of(&rt, &[]);
-    assert_same(&rt, count, 0);
+    for (ranges, expected) in INDEXES {
+        let (count, slots) = index_of(&rt, *ranges);
+        assert_same_at(&rt, ranges, first_slots(&slots, count), *expected);
+    }
 }
 
 #[test]
 fn an_offset_has_to_fit(rt: HostRuntime) {
-    assert!(rt; Listed::new(&[range(0, 2, u64::MAX - 1)]).is_none());
-    assert!(rt; Listed::new(&[range(0, 1, u64::MAX - 1)]).is_some());
+    let past = Listed::new(&[range!(0, 2, u64::MAX - 1)]).is_some();
+    let last = Listed::new(&[range!(0, 1, u64::MAX - 1)]).is_some();
+    assert_same(&rt, (past, last), (false, true));
 }
 
 /// Whether the slot that is found for an address holds it, if one is found.
@@ -128,7 +132,7 @@ fn is_right(slots: &[IndexSlot], address: u64) -> bool {
 
 #[test]
 fn slots_that_are_no_index_have_some_slot_or_none(rt: HostRuntime) {
-    let slots = [slot(8, 8, 0, 5), slot(0, 16, 0, 6), slot(4, 2, 0, 7)];
+    let slots = [slot!(8, 8, 0, 5), slot!(0, 16, 0, 6), slot!(4, 2, 0, 7)];
     for address in 0..20 {
         assert_same(&rt, is_right(&slots, address), true);
     }
@@ -146,27 +150,39 @@ fn read_by(file: &[u8], slots: &[IndexSlot], address: u64) -> ([u8; 8], [bool; 8
 /// The bytes of the file.
 const FILE: &[u8] = b"ABCDEFGHIJKLMNOP";
 
-#[test]
-fn memory_is_read_by_an_index(rt: HostRuntime) {
-    let ranges = [range(4, 2, 12), range(2, 5, 0), range(8, 1, 9)];
-    let (count, slots) = index_of(&rt, &ranges);
-    let (out, known) = read_by(FILE, first_slots(&slots, count), 1);
-    assert_same(&rt, out, *b"\0ABMNE\0J");
-    assert_same(
-        &rt,
-        known,
+/// Slots, an address, the eight bytes that are read there by them, and whether each is known.
+type SlotsRow = (&'static [IndexSlot], u64, [u8; 8], [bool; 8]);
+
+const READS: &[SlotsRow] = &[
+    // An index of three ranges.
+    (
+        &[
+            slot!(2, 2, 0, 1),
+            slot!(4, 2, 12, 0),
+            slot!(6, 1, 4, 1),
+            slot!(8, 1, 9, 2),
+        ],
+        1,
+        *b"\0ABMNE\0J",
         [false, true, true, true, true, true, false, true],
-    );
-}
+    ),
+    // Slots outside the file are not read.
+    (
+        &[slot!(0, 4, 14, 0), slot!(4, 4, 0, 1), slot!(2, 8, 3, 2)],
+        0,
+        *b"\0\0\0\0ABCD",
+        [false, false, false, false, true, true, true, true],
+    ),
+];
 
 #[test]
-fn slots_outside_the_file_are_not_read(rt: HostRuntime) {
-    let slots = [slot(0, 4, 14, 0), slot(4, 4, 0, 1), slot(2, 8, 3, 2)];
-    let (out, known) = read_by(FILE, &slots, 0);
-    assert_same(&rt, out, *b"\0\0\0\0ABCD");
-    assert_same(
-        &rt,
-        known,
-        [false, false, false, false, true, true, true, true],
-    );
+fn memory_is_read_by_an_index(rt: HostRuntime) {
+    let ranges = [range!(4, 2, 12), range!(2, 5, 0), range!(8, 1, 9)];
+    let (count, slots) = index_of(&rt, &ranges);
+    for (by, address, out, known) in READS {
+        let found = read_by(FILE, *by, *address);
+        assert_same_at(&rt, address, found, (*out, *known));
+    }
+    let (by, ..) = READS[0];
+    assert_same(&rt, first_slots(&slots, count), by);
 }

@@ -91,15 +91,15 @@ fn block_of_a_file_is_one_growth_which_may_be_refused(rt: HostRuntime) {
         bytes: 16_384,
         out: 0,
     };
-    for (growth, is_opened) in [(0, false), (1, true)] {
-        let found = opened_without(&rt, rt.alloc(), "block", growth);
-        assert_same_at(&rt, &growth, found, (is_opened, counts));
+    for (growth, is_opened) in &[(0, false), (1, true)] {
+        let found = opened_without(&rt, rt.alloc(), "block", *growth);
+        assert_same_at(&rt, growth, found, (*is_opened, counts));
     }
 }
 
 #[test]
 fn room_is_one_growth_which_may_be_refused(rt: HostRuntime) {
-    for call in [
+    for call in &[
         MemoryCall::Window,
         MemoryCall::Blocks,
         MemoryCall::Patchy,
@@ -107,13 +107,13 @@ fn room_is_one_growth_which_may_be_refused(rt: HostRuntime) {
         MemoryCall::UnitsOfBytes,
         MemoryCall::OwnUnits,
     ] {
-        assert_same_at(&rt, &call, growths_of(&rt, rt.alloc(), call), 1);
+        assert_same_at(&rt, call, growths_of(&rt, rt.alloc(), *call), 1);
     }
 }
 
 #[test]
 fn each_growth_of_a_text_may_be_refused(rt: HostRuntime) {
-    for call in [MemoryCall::UnitsOfText, MemoryCall::Text] {
-        assert_same_at(&rt, &call, growths_of(&rt, rt.alloc(), call) > 0, true);
+    for call in &[MemoryCall::UnitsOfText, MemoryCall::Text] {
+        assert_same_at(&rt, call, growths_of(&rt, rt.alloc(), *call) > 0, true);
     }
 }

@@ -27,52 +27,29 @@ const FIRST_DECIDES: [PlaceRow; 5] = [
 
 #[test]
 fn first_of_two_ranges_decides(rt: HostRuntime) {
-    let ranges = [
-        Range {
-            start: 0x1000,
-            length: 4,
-            offset: 80,
-        },
-        Range {
-            start: 0x1002,
-            length: 4,
-            offset: 84,
-        },
-    ];
-    assert_places(&rt, &ranges, &FIRST_DECIDES);
-}
-
-#[test]
-fn range_given_first_cuts_one_that_begins_before_it(rt: HostRuntime) {
-    let ranges = [
-        Range {
-            start: 0x1002,
-            length: 4,
-            offset: 84,
-        },
-        Range {
-            start: 0x1000,
-            length: 4,
-            offset: 80,
-        },
-    ];
+    let first = Range {
+        start: 0x1000,
+        length: 4,
+        offset: 80,
+    };
+    let second = Range {
+        start: 0x1002,
+        length: 4,
+        offset: 84,
+    };
+    assert_places(&rt, &[first, second], &FIRST_DECIDES);
+    // A range that is given first cuts one that begins before it.
     let rows = [(0x1000, Some((80, 2))), (0x1002, Some((84, 4)))];
-    assert_places(&rt, &ranges, &rows);
-}
-
-#[test]
-fn addresses_end_and_do_not_wrap(rt: HostRuntime) {
-    let ranges = [Range {
+    assert_places(&rt, &[second, first], &rows);
+    // Addresses end and do not wrap.
+    let last = Range {
         start: 0xFFFF_FFFF_FFFF_FFF8,
         length: 16,
         offset: 44,
-    }];
+    };
     let rows = [(0xFFFF_FFFF_FFFF_FFF8, Some((44, 8))), (0, None)];
-    assert_places(&rt, &ranges, &rows);
-}
-
-#[test]
-fn no_range_holds_nothing(rt: HostRuntime) {
+    assert_places(&rt, &[last], &rows);
+    // No range holds nothing.
     assert_places(&rt, &[], &[(0, None)]);
 }
 

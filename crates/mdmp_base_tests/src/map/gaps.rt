@@ -41,11 +41,6 @@ fn assert_gaps(
 /// The gaps of an empty map.
 const NO_RANGE: [GapRow; 3] = [(0, ALL), (0x1000, ALL - 0x1000), (u64::MAX, 1)];
 
-#[test]
-fn empty_map_is_free_up_to_the_last_address(rt: HostRuntime) {
-    assert_gaps(&rt, rt.alloc(), &[], true, &NO_RANGE);
-}
-
 /// Two sorted ranges.
 const SORTED: [MapRange; 2] = [(0x1000, 4, 80), (0x2000, 16, 100)];
 
@@ -64,12 +59,6 @@ const GAPS: [GapRow; 9] = [
     (0x2010, ALL - 0x2010),
     (u64::MAX, 1),
 ];
-
-#[test]
-fn gap_ends_where_a_range_begins(rt: HostRuntime) {
-    assert_gaps(&rt, rt.alloc(), &SORTED, true, &GAPS);
-    assert_gaps(&rt, rt.alloc(), &EXCHANGED, false, &GAPS);
-}
 
 /// A range at 8, and one that runs past the last address: if addresses did wrap, it would end at 8.
 const PAST_THE_LAST: [MapRange; 2] = [(8, 4, 80), (0xFFFF_FFFF_FFFF_FFF8, 16, 100)];
@@ -95,10 +84,20 @@ const LAST_PLACES: [PlaceRow; 5] = [
     (u64::MAX, Some((107, 1))),
 ];
 
+/// Ranges, whether they are sorted, the gaps beside them, and places by them.
+const RANGES: [(&[MapRange], bool, &[GapRow], &[PlaceRow]); 5] = [
+    (&[], true, &NO_RANGE, &[]),
+    (&SORTED, true, &GAPS, &[]),
+    (&EXCHANGED, false, &GAPS, &[]),
+    // No gap is behind a range that runs past the last address.
+    (&PAST_THE_LAST, true, &LAST_GAPS, &LAST_PLACES),
+    (&FROM_THE_LAST, false, &LAST_GAPS, &LAST_PLACES),
+];
+
 #[test]
-fn no_gap_is_behind_a_range_that_runs_past_the_last_address(rt: HostRuntime) {
-    assert_gaps(&rt, rt.alloc(), &PAST_THE_LAST, true, &LAST_GAPS);
-    assert_gaps(&rt, rt.alloc(), &FROM_THE_LAST, false, &LAST_GAPS);
-    assert_ranges_place(&rt, rt.alloc(), &PAST_THE_LAST, &LAST_PLACES);
-    assert_ranges_place(&rt, rt.alloc(), &FROM_THE_LAST, &LAST_PLACES);
+fn gap_ends_where_a_range_begins(rt: HostRuntime) {
+    for (ranges, is_sorted, gaps, places) in &RANGES {
+        assert_gaps(&rt, rt.alloc(), *ranges, *is_sorted, *gaps);
+        assert_ranges_place(&rt, rt.alloc(), *ranges, *places);
+    }
 }

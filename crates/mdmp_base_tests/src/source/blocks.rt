@@ -117,20 +117,84 @@ fn assert_blocks(
     assert_given_back(rt, blocks, given_back);
 }
 
-/// A block that fills, a write behind it that the inner output refuses, and one that it takes.
-const REFUSED_ONCE: [BlockStep; 6] = [
-    BlockStep::Out(OutStep::WriteAll(b"abcdefgh", Ok(()))),
-    BlockStep::Out(OutStep::Write(b"i", Err(OutFailed))),
-    BlockStep::Holds(b"abc", b"defgh"),
-    BlockStep::Out(OutStep::Write(b"i", Ok(1))),
-    BlockStep::Flush,
-    BlockStep::Holds(b"abcdefghi", b""),
+/// How many bytes a block has, how many its inner output takes a call, which of its calls fails, what is done, and what
+/// the inner output has taken then.
+type BlocksRow = (
+    usize,
+    usize,
+    Option<u64>,
+    &'static [BlockStep],
+    &'static [u8],
+);
+
+const BLOCKS: &[BlocksRow] = &[
+    // A block that fills, a write behind it that the inner output refuses, and one that it takes.
+    (
+        8,
+        3,
+        Some(1),
+        &[
+            BlockStep::Out(OutStep::WriteAll(b"abcdefgh", Ok(()))),
+            BlockStep::Out(OutStep::Write(b"i", Err(OutFailed))),
+            BlockStep::Holds(b"abc", b"defgh"),
+            BlockStep::Out(OutStep::Write(b"i", Ok(1))),
+            BlockStep::Flush,
+            BlockStep::Holds(b"abcdefghi", b""),
+        ],
+        b"abcdefghi",
+    ),
+    // The inner output comes back without what is pending.
+    (2, 100, None, &[BlockStep::Out(PIECE)], b"ab"),
+    // A block of two bytes is too small for a line.
+    (
+        2,
+        100,
+        None,
+        &[
+            BlockStep::Out(LINE),
+            BlockStep::Out(LINE),
+            BlockStep::Holds(b"abca", b"bc"),
+        ],
+        b"abca",
+    ),
+    // Lines stand one behind the other in a block, and there is no room for the last one any more.
+    (
+        LINE_ROOM + 8,
+        100,
+        None,
+        &[
+            BlockStep::Out(LINE),
+            BlockStep::Out(PIECE),
+            BlockStep::Out(LINE),
+            BlockStep::Holds(b"", b"abcabcabc"),
+            BlockStep::Out(LINE),
+            BlockStep::Holds(b"abcabcabc", b"abc"),
+        ],
+        b"abcabcabc",
+    ),
+    // A block refuses a line, since the inner output refuses what is pending, and takes it then.
+    (
+        LINE_ROOM,
+        3,
+        Some(1),
+        &[
+            BlockStep::Out(OutStep::Line(b"abcdefgh", Ok(()))),
+            BlockStep::Out(OutStep::Line(b"ij", Err(OutFailed))),
+            BlockStep::Holds(b"abc", b"defgh"),
+            BlockStep::Out(OutStep::Line(b"ij", Ok(()))),
+            BlockStep::Holds(b"abcdefgh", b"ij"),
+            BlockStep::Flush,
+        ],
+        b"abcdefghij",
+    ),
 ];
 
 #[test]
-fn block_out_keeps_what_was_refused(rt: HostRuntime) {
-    let blocks = patchy_blocks(&rt, rt.alloc(), 8, 3, Some(1));
-    assert_blocks(&rt, blocks, &REFUSED_ONCE, b"abcdefghi");
+fn refused_block_takes_nothing_of_a_line(rt: HostRuntime) {
+    for (room, cap, fail_at, steps, given_back) in BLOCKS {
+        let blocks = patchy_blocks(&rt, rt.alloc(), *room, *cap, *fail_at);
+        assert_blocks(&rt, blocks, *steps, *given_back);
+    }
 }
 
 /// What a block of two bytes makes of three.
@@ -143,15 +207,6 @@ fn block_of_a_buffer_is_its_room(rt: HostRuntime) {
     assert_blocks(&rt, blocks, &TWO_OF_THREE, b"ab");
 }
 
-/// A write of three bytes, and no more.
-const ONE_PIECE: [BlockStep; 1] = [BlockStep::Out(PIECE)];
-
-#[test]
-fn inner_output_comes_back_without_what_is_pending(rt: HostRuntime) {
-    let blocks = patchy_blocks(&rt, rt.alloc(), 2, 100, None);
-    assert_blocks(&rt, blocks, &ONE_PIECE, b"ab");
-}
-
 /// Nothing is written.
 const NOTHING: [BlockStep; 1] = [BlockStep::Holds(b"", b"")];
 
@@ -162,60 +217,11 @@ fn with_room_succeeds(rt: HostRuntime) {
     assert_blocks(&rt, blocks, &NOTHING, b"");
 }
 
-/// What a block of two bytes, which is too small for a line, makes of two.
-const TWO_OF_SIX: [BlockStep; 3] = [
-    BlockStep::Out(LINE),
-    BlockStep::Out(LINE),
-    BlockStep::Holds(b"abca", b"bc"),
-];
-
-#[test]
-fn small_block_takes_lines_in_parts(rt: HostRuntime) {
-    let blocks = patchy_blocks(&rt, rt.alloc(), 2, 100, None);
-    assert_blocks(&rt, blocks, &TWO_OF_SIX, b"abca");
-}
-
-/// Lines that stand one behind the other in a block, and one for which there is no room any more.
-const LINES: [BlockStep; 6] = [
-    BlockStep::Out(LINE),
-    BlockStep::Out(PIECE),
-    BlockStep::Out(LINE),
-    BlockStep::Holds(b"", b"abcabcabc"),
-    BlockStep::Out(LINE),
-    BlockStep::Holds(b"abcabcabc", b"abc"),
-];
-
-#[test]
-fn block_takes_lines_whole(rt: HostRuntime) {
-    let blocks = patchy_blocks(&rt, rt.alloc(), LINE_ROOM + 8, 100, None);
-    assert_blocks(&rt, blocks, &LINES, b"abcabcabc");
-}
-
-/// A line that a block refuses, since the inner output refuses what is pending, and that it takes then.
-const LINE_REFUSED_ONCE: [BlockStep; 6] = [
-    BlockStep::Out(OutStep::Line(b"abcdefgh", Ok(()))),
-    BlockStep::Out(OutStep::Line(b"ij", Err(OutFailed))),
-    BlockStep::Holds(b"abc", b"defgh"),
-    BlockStep::Out(OutStep::Line(b"ij", Ok(()))),
-    BlockStep::Holds(b"abcdefgh", b"ij"),
-    BlockStep::Flush,
-];
-
-#[test]
-fn refused_block_takes_nothing_of_a_line(rt: HostRuntime) {
-    let blocks = patchy_blocks(&rt, rt.alloc(), LINE_ROOM, 3, Some(1));
-    assert_blocks(&rt, blocks, &LINE_REFUSED_ONCE, b"abcdefghij");
-}
-
-/// Asserts that an output that is lent has its lines straight in its block.
-fn assert_lends_block(rt: &impl Abort, blocks: &mut PatchyBlocks) {
-    let mut lent = blocks;
-    assert_out(rt, &mut lent, &[LINE; 2]);
-    assert_pending(rt, lent, b"abcabc");
-}
-
 #[test]
 fn lent_block_takes_lines(rt: HostRuntime) {
+    // An output that is lent has its lines straight in its block.
     let mut blocks = patchy_blocks(&rt, rt.alloc(), LINE_ROOM + 8, 100, None);
-    assert_lends_block(&rt, &mut blocks);
+    let mut lent = &mut blocks;
+    assert_out(&rt, &mut lent, &[LINE; 2]);
+    assert_pending(&rt, lent, b"abcabc");
 }

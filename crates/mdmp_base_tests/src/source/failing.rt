@@ -1,7 +1,7 @@
 //! Stores and outputs each of whose calls fails in turn.
 use super::blocks::{assert_given_back, assert_pending, patchy_blocks};
 use super::{Fetched, First, assert_taken, four_at_one, part, patchy_out, sent, write_whole};
-use crate::same::assert_same;
+use crate::same::{assert_same, assert_same_at};
 use mdmp_source::{PatchyOut, PatchyStore, Source, SourceFault, put_line};
 use std::alloc::Global;
 use std::process::Abort;
@@ -35,8 +35,8 @@ const FETCHES: [(u64, [Fetched; 2]); 5] = [
 
 #[test]
 fn each_call_of_a_fetch_may_fail(rt: HostRuntime) {
-    for (call, expected) in FETCHES {
-        assert_same(&rt, fetched_twice(&rt, call), expected);
+    for (call, expected) in &FETCHES {
+        assert_same_at(&rt, call, fetched_twice(&rt, *call), *expected);
     }
 }
 
@@ -45,34 +45,26 @@ fn failing_out(rt: &impl Abort, alloc: Global, fail_at: usize) -> PatchyOut<Glob
     patchy_out(rt, alloc, 100, 1, Some(fail_at as u64))
 }
 
-/// Asserts that the bytes before the call that fails are sent to an output, and no others.
-fn assert_sent(rt: &impl Abort, alloc: Global, fail_at: usize) {
+/// Asserts that sending bytes, writing all of them, and writing them as a line end well where no call fails, and else stop
+/// at that call: the bytes before it are taken, and no others.
+fn assert_written(rt: &impl Abort, alloc: Global, fail_at: usize) {
+    let first = part(rt, TEXT, 0, fail_at);
     let mut out = failing_out(rt, alloc, fail_at);
     assert_same(rt, sent(&mut out, TEXT), fail_at);
-    assert_taken(rt, &out, part(rt, TEXT, 0, fail_at));
-}
-
-/// Asserts that writing all bytes succeeds where no call fails, and else stops at that call.
-fn assert_written(rt: &impl Abort, alloc: Global, fail_at: usize) {
+    assert_taken(rt, &out, first);
     let mut out = failing_out(rt, alloc, fail_at);
     assert_same(rt, write_whole(&mut out, TEXT).is_ok(), fail_at == 9);
-    assert_taken(rt, &out, part(rt, TEXT, 0, fail_at));
-}
-
-/// Asserts that writing a line succeeds where no call fails, and else stops at that call.
-fn assert_line_written(rt: &impl Abort, alloc: Global, fail_at: usize) {
+    assert_taken(rt, &out, first);
     let mut out = failing_out(rt, alloc, fail_at);
     let is_written = put_line(&mut out, &First { bytes: TEXT }).is_ok();
     assert_same(rt, is_written, fail_at == 9);
-    assert_taken(rt, &out, part(rt, TEXT, 0, fail_at));
+    assert_taken(rt, &out, first);
 }
 
 #[test]
 fn each_call_of_an_output_may_fail(rt: HostRuntime) {
     for call in 0..10 {
-        assert_sent(&rt, rt.alloc(), call);
         assert_written(&rt, rt.alloc(), call);
-        assert_line_written(&rt, rt.alloc(), call);
     }
 }
 
@@ -97,10 +89,12 @@ fn assert_in_blocks(
 #[test]
 fn each_call_of_an_output_of_blocks_may_fail(rt: HostRuntime) {
     // What the failing call leaves of its block is pending.
-    for (from, to, end, is_written) in [(0, 4, 4, false), (4, 8, 8, false), (8, 9, 9, true)] {
-        for call in from..to {
-            assert_in_blocks(&rt, rt.alloc(), call, end, (is_written, false));
-        }
+    for call in 0..10 {
+        let (end, is_written) = match call {
+            0..4 => (4, false),
+            4..8 => (8, false),
+            _ => (9, true),
+        };
+        assert_in_blocks(&rt, rt.alloc(), call, end, (is_written, call == 9));
     }
-    assert_in_blocks(&rt, rt.alloc(), 9, 9, (true, true));
 }

@@ -1,23 +1,11 @@
 //! Stores, and fetches from them.
 use super::{Fetched, file_store, four_at_one, remove};
-use crate::same::{assert_same, assert_same_at, assert_that};
+use crate::same::{assert_same, assert_same_at};
 use mdmp_source::{
     FileStore, MemoryStore, PatchyStore, Source, SourceFault, Store, StoreFailed, Tally,
 };
-use std::alloc::AllocGlobal;
 use std::fs;
 use std::process::Abort;
-use std::rt::Files;
-
-/// A source over this store.
-fn source_of<S: Store>(store: S) -> Source<S> {
-    Source::new(store)
-}
-
-/// A store of these bytes.
-fn memory(bytes: &[u8]) -> MemoryStore<'_> {
-    MemoryStore::new(bytes)
-}
 
 /// A source of these bytes, as a patchy store gives them.
 fn patchy<'a>(
@@ -43,23 +31,12 @@ fn assert_has_six<S: Store>(rt: &impl Abort, source: &mut Source<S>) {
     assert_fetches(rt, source, &[(None, *b"bcde")]);
 }
 
-/// Asserts that the source was fetched from so often, and was asked for so many bytes.
-fn assert_counts<S: Store>(rt: &impl Abort, source: &Source<S>, calls: u128, fetched: u128) {
-    assert_same(rt, source.calls(), calls);
-    assert_same(rt, source.fetched(), fetched);
-}
-
-/// How many bytes the store has that comes back from the source.
-fn size_of_store(source: Source<MemoryStore<'_>>) -> u64 {
-    source.into_store().size()
-}
-
 #[test]
 fn memory_store_gives_its_bytes(rt: HostRuntime) {
-    let mut source = source_of(memory(b"abcdef"));
+    let mut source = Source::new(MemoryStore::new(b"abcdef"));
     assert_has_six(&rt, &mut source);
-    assert_counts(&rt, &source, 1, 4);
-    assert_same(&rt, size_of_store(source), 6);
+    let counts = (source.calls(), source.fetched(), source.into_store().size());
+    assert_same(&rt, counts, (1, 4, 6));
 }
 
 /// A fetch that fails at its third byte, and one that gives all.
@@ -72,7 +49,7 @@ const FAILED_ONCE: [Fetched; 2] = [
 fn patchy_store_fails_once(rt: HostRuntime) {
     let mut source = patchy(&rt, b"abcdef", &[1], Some(2));
     assert_fetches(&rt, &mut source, &FAILED_ONCE);
-    assert_counts(&rt, &source, 2, 8);
+    assert_same(&rt, (source.calls(), source.fetched()), (2, 8));
 }
 
 /// A fetch that is given nothing at its fourth byte.
@@ -82,17 +59,6 @@ const SHORT: [Fetched; 1] = [(Some(SourceFault::ShortRead { at: 4 }), *b"bcd\0")
 fn patchy_store_answers_nothing(rt: HostRuntime) {
     let mut source = patchy(&rt, b"abcdef", &[3, 0], None);
     assert_fetches(&rt, &mut source, &SHORT);
-}
-
-/// Counts an answer to a call at this place, and tells the place that the tally has then.
-fn place_after(
-    tally: &mut Tally,
-    answer: Result<usize, StoreFailed>,
-    at: u64,
-    asked: usize,
-) -> u64 {
-    tally.count(&answer, at, asked);
-    tally.place
 }
 
 /// Answers to calls: where each begins and how much it asks for, and the place that the tally has then. A call
@@ -108,8 +74,9 @@ const COUNTED: [(Result<usize, StoreFailed>, u64, usize, u64); 5] = [
 #[test]
 fn tally_counts_answers(rt: HostRuntime) {
     let mut tally = Tally::new();
-    for (answer, at, len, place) in COUNTED {
-        assert_same_at(&rt, &at, place_after(&mut tally, answer, at, len), place);
+    for (answer, at, len, place) in &COUNTED {
+        tally.count(answer, *at, *len);
+        assert_same_at(&rt, at, tally.place, *place);
     }
     let counted = Tally {
         calls: 5,
@@ -120,34 +87,19 @@ fn tally_counts_answers(rt: HostRuntime) {
     assert_same(&rt, tally, counted);
 }
 
-/// What a call with room for one byte answers, and the byte.
-fn byte_at(store: &mut MemoryStore<'_>, at: u64) -> (Result<usize, StoreFailed>, [u8; 1]) {
-    let mut byte = [0];
-    let answer = store.read_at(at, &mut byte);
-    (answer, byte)
-}
-
 #[test]
 fn lent_store_is_had_back(rt: HostRuntime) {
-    let mut store = memory(b"abcdef");
-    assert_has_six(&rt, &mut source_of(&mut store));
-    assert_same(&rt, byte_at(&mut store, 5), (Ok(1), *b"f"));
-}
-
-/// Makes this file of six bytes, asserts that a source gives them, and removes it.
-fn assert_file_has_six(rt: &(impl Files + AllocGlobal + Abort), path: &str) {
-    fs::write(rt, path, "abcdef").expect(rt, "a file");
-    assert_has_six(rt, &mut source_of(file_store(rt, path)));
-    remove(rt, path);
-}
-
-/// Whether a store over this file is refused.
-fn is_refused(rt: &(impl Files + AllocGlobal), path: &str) -> bool {
-    FileStore::open(rt, path).is_err()
+    let mut store = MemoryStore::new(b"abcdef");
+    assert_has_six(&rt, &mut Source::new(&mut store));
+    let mut byte = [0];
+    let answer = store.read_at(5, &mut byte);
+    assert_same(&rt, (answer, byte), (Ok(1), *b"f"));
 }
 
 #[test]
 fn file_store_open_succeeds(rt: HostRuntime) {
-    assert_file_has_six(&rt, "six");
-    assert_that(&rt, is_refused(&rt, "six"));
+    fs::write(&rt, "six", "abcdef").expect(&rt, "a file");
+    assert_has_six(&rt, &mut Source::new(file_store(&rt, "six")));
+    remove(&rt, "six");
+    assert_same(&rt, FileStore::open(&rt, "six").is_err(), true);
 }

@@ -3,7 +3,6 @@
 use super::{file_store, remove};
 use crate::same::{assert_same, assert_same_at};
 use mdmp_source::{MemoryStore, Store, StoreFailed, TwoFaces};
-use std::alloc::AllocGlobal;
 use std::fs::File;
 use std::io::{Seek, SeekFrom, Write};
 use std::process::Abort;
@@ -29,33 +28,12 @@ fn assert_reads<S: Store>(rt: &impl Abort, store: &mut S, rows: &[ReadRow]) {
     }
 }
 
-/// Writes bytes at the offset `at`.
-fn write_at<F: Seek + Write>(rt: &impl Abort, file: &mut F, at: u64, bytes: &[u8]) {
-    file.seek(SeekFrom::Start(at)).expect(rt, "a seek");
-    file.write_all(bytes).expect(rt, "a write");
-}
-
 /// Makes a file of zeros up to the offset `at`, and the six bytes `abcdef` behind them. The zeros take no room
 /// on the disk.
 fn make_file(rt: &(impl Files + Abort), path: &str, at: u64) {
     let mut file = File::create(rt, path).expect(rt, "a file");
-    write_at(rt, &mut file, at, b"abcdef");
-}
-
-/// Makes a file of zeros up to the offset `at`, and the six bytes `abcdef` behind them, asserts that it has
-/// that size and is read as the rows say, and removes it.
-fn assert_file_reads(
-    rt: &(impl Files + AllocGlobal + Abort),
-    path: &str,
-    at: u64,
-    size: u64,
-    rows: &[ReadRow],
-) {
-    make_file(rt, path, at);
-    let mut store = file_store(rt, path);
-    assert_same(rt, store.size(), size);
-    assert_reads(rt, &mut store, rows);
-    remove(rt, path);
+    file.seek(SeekFrom::Start(at)).expect(rt, "a seek");
+    file.write_all(b"abcdef").expect(rt, "a write");
 }
 
 /// Reads of a file of six bytes. Some begin where the one before it ended, and some in what that read.
@@ -70,11 +48,6 @@ const SIX_BYTES: [ReadRow; 9] = [
     (FOUR_GIB, 0, [0; 4]),
     (2, 4, *b"cdef"),
 ];
-
-#[test]
-fn file_store_reads_a_file(rt: HostRuntime) {
-    assert_file_reads(&rt, "six_bytes", 0, 6, &SIX_BYTES);
-}
 
 #[test]
 fn memory_store_gives_all_that_is_there(rt: HostRuntime) {
@@ -94,11 +67,6 @@ const ACROSS_BLOCKS: [ReadRow; 10] = [
     (510, 4, *b"abcd"),
     (528, 0, [0; 4]),
 ];
-
-#[test]
-fn file_store_reads_across_blocks(rt: HostRuntime) {
-    assert_file_reads(&rt, "across_blocks", 510, 516, &ACROSS_BLOCKS);
-}
 
 /// How many bytes a block holds at most. Calls for fewer are answered from a block.
 const BLOCK: usize = 16_384;
@@ -120,43 +88,44 @@ enum RoomRow {
     Block(u64, usize, [u8; 4]),
 }
 
-/// Asserts that calls over a file of six bytes behind 16,382 zeros, one behind the other, answer as their rows say.
-fn assert_rooms(rt: &(impl Files + AllocGlobal + Abort), path: &str, rows: &[RoomRow]) {
-    make_file(rt, path, 16_382);
-    let mut store = file_store(rt, path);
-    for row in rows {
-        let (at, found, count, last) = match *row {
-            RoomRow::Four(at, count, last) => (at, four_at(&mut store, at), count, last),
-            RoomRow::Block(at, count, last) => (at, block_at(&mut store, at), count, last),
-        };
-        assert_same_at(rt, &at, found, Ok((count, last)));
-    }
-    remove(rt, path);
-}
-
-#[test]
-fn file_store_reads_a_block_past_the_one_held(rt: HostRuntime) {
-    let rows = [
+/// Calls over a file of six bytes behind 16,382 zeros, one behind the other. Those past a block that is held are answered
+/// anew, and those in it are answered from it.
+const ROOMS: [&[RoomRow]; 2] = [
+    &[
         RoomRow::Four(16_384, 4, *b"cdef"),
         RoomRow::Block(0, BLOCK, *b"\0\0ab"),
         RoomRow::Block(4, BLOCK, *b"cdef"),
         RoomRow::Four(16_384, 4, *b"cdef"),
         RoomRow::Four(1, 4, [0; 4]),
-    ];
-    assert_rooms(&rt, "past_the_block", &rows);
-}
-
-#[test]
-fn file_store_answers_a_block_from_the_one_held(rt: HostRuntime) {
-    let rows = [
+    ],
+    &[
         RoomRow::Four(2, 4, [0; 4]),
         RoomRow::Block(2, 512, [0; 4]),
         RoomRow::Block(6, 508, [0; 4]),
         RoomRow::Block(514, 15_874, [0; 4]),
         RoomRow::Four(16_384, 4, *b"cdef"),
         RoomRow::Block(16_386, 2, [0; 4]),
-    ];
-    assert_rooms(&rt, "of_the_block", &rows);
+    ],
+];
+
+/// Asserts that calls answer as their rows say.
+fn assert_rooms<S: Store>(rt: &impl Abort, store: &mut S, rows: &[RoomRow]) {
+    for row in rows {
+        let (at, found, count, last) = match *row {
+            RoomRow::Four(at, count, last) => (at, four_at(store, at), count, last),
+            RoomRow::Block(at, count, last) => (at, block_at(store, at), count, last),
+        };
+        assert_same_at(rt, &at, found, Ok((count, last)));
+    }
+}
+
+#[test]
+fn file_store_answers_a_block_from_the_one_held(rt: HostRuntime) {
+    make_file(&rt, "rooms", 16_382);
+    for rows in &ROOMS {
+        assert_rooms(&rt, &mut file_store(&rt, "rooms"), *rows);
+    }
+    remove(&rt, "rooms");
 }
 
 /// Reads of a file of six bytes behind 4 GiB of zeros.
@@ -168,30 +137,31 @@ const PAST_4_GIB: [ReadRow; 5] = [
     (FOUR_GIB + 6, 0, [0; 4]),
 ];
 
-#[test]
-fn file_store_reads_past_4_gib(rt: HostRuntime) {
-    assert_file_reads(&rt, "past_4_gib", FOUR_GIB, FOUR_GIB + 6, &PAST_4_GIB);
-}
+/// A file, how many zeros it begins with, and reads of it.
+const FILES: [(&str, u64, &[ReadRow]); 3] = [
+    ("six_bytes", 0, &SIX_BYTES),
+    ("across_blocks", 510, &ACROSS_BLOCKS),
+    ("past_4_gib", FOUR_GIB, &PAST_4_GIB),
+];
 
-/// Asserts that each read of this folder is refused, which the system opens for reading.
-fn assert_refuses(rt: &(impl Files + AllocGlobal + Abort), path: &str, places: &[u64]) {
-    let mut store = file_store(rt, path);
-    for at in places {
-        assert_same_at(rt, &at, four_at(&mut store, *at), Err(StoreFailed));
+#[test]
+fn file_store_reads_a_file(rt: HostRuntime) {
+    for (path, at, rows) in &FILES {
+        make_file(&rt, *path, *at);
+        let mut store = file_store(&rt, *path);
+        assert_same_at(&rt, path, store.size(), at.saturating_add(6));
+        assert_reads(&rt, &mut store, *rows);
+        remove(&rt, *path);
     }
 }
 
-/// Where reads that are refused begin.
-const REFUSED: [u64; 3] = [0, 0, 4];
-
 #[test]
 fn file_store_tells_that_a_read_failed(rt: HostRuntime) {
-    assert_refuses(&rt, ".", &REFUSED);
-}
-
-/// How many bytes the store has, and how often it was read.
-fn size_and_reads(store: &TwoFaces<'_>) -> (u64, u64) {
-    (store.size(), store.reads())
+    // The system opens a folder for reading, and refuses each read of it.
+    let mut store = file_store(&rt, ".");
+    for at in &[0, 0, 4] {
+        assert_same_at(&rt, at, four_at(&mut store, *at), Err(StoreFailed));
+    }
 }
 
 /// Reads of `abcdef` in two of the calls, and of `uvwxyz` behind them.
@@ -205,7 +175,7 @@ const TWO_FACES: [ReadRow; 4] = [
 #[test]
 fn two_faces_turns_at_its_read(rt: HostRuntime) {
     let mut store = TwoFaces::new(b"abcdef", b"uvwxyz", 2);
-    assert_same(&rt, size_and_reads(&store), (6, 0));
+    assert_same(&rt, (store.size(), store.reads()), (6, 0));
     assert_reads(&rt, &mut store, &TWO_FACES);
-    assert_same(&rt, size_and_reads(&store), (6, 4));
+    assert_same(&rt, (store.size(), store.reads()), (6, 4));
 }

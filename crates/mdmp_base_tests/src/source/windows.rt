@@ -1,5 +1,5 @@
 //! Windows that slide over a stretch of a file.
-use crate::same::{assert_same, assert_that};
+use crate::same::{assert_same, assert_same_at};
 use linked_list_allocator::LocalHeap;
 use mdmp_source::{MemoryStore, PatchyStore, Source, SourceFault, Store, Window};
 use std::alloc::{Allocator, Global};
@@ -8,12 +8,7 @@ use std::process::Abort;
 /// The file of these tests.
 const FILE: &[u8] = b"abcdef";
 
-/// A source of it.
-fn memory() -> Source<MemoryStore<'static>> {
-    Source::new(MemoryStore::new(FILE))
-}
-
-/// A source of it whose store gives one byte a call, and may fail once.
+/// A source of the file whose store gives one byte a call, and may fail once.
 fn byte_by_byte(fail_at: Option<u64>) -> Source<PatchyStore<'static>> {
     Source::new(PatchyStore::new(FILE, &[1], fail_at))
 }
@@ -64,21 +59,6 @@ fn consume<A: Allocator>(rt: &impl Abort, window: &mut Window<A>, count: usize) 
     window.consume(count);
 }
 
-/// How many bytes the next fill fetches.
-fn next_len<A: Allocator>(window: &Window<A>) -> usize {
-    window.next_len()
-}
-
-/// What the window holds, and from which place on.
-fn held<A: Allocator>(window: &Window<A>) -> (u64, &[u8]) {
-    (window.place(), window.bytes())
-}
-
-/// Where the stretch ends, and how much room the window has.
-fn bounds<A: Allocator>(window: &Window<A>) -> (u64, usize) {
-    (window.end(), window.room())
-}
-
 /// Takes a step, and asserts that it answers as it says.
 fn assert_step<A: Allocator, S: Store>(
     rt: &impl Abort,
@@ -88,7 +68,7 @@ fn assert_step<A: Allocator, S: Store>(
 ) {
     match step {
         WindowStep::Start(at, end) => start(rt, window, at, end),
-        WindowStep::NextLen(len) => assert_same(rt, next_len(window), len),
+        WindowStep::NextLen(len) => assert_same(rt, window.next_len(), len),
         WindowStep::Fill => assert_same(rt, fill(rt, window, source), Ok(())),
         WindowStep::FailsAt(at) => {
             assert_same(
@@ -98,8 +78,16 @@ fn assert_step<A: Allocator, S: Store>(
             )
         }
         WindowStep::Consume(count) => consume(rt, window, count),
-        WindowStep::Holds(place, bytes) => assert_same(rt, held(window), (place, bytes)),
-        WindowStep::Bounds(end, room) => assert_same(rt, bounds(window), (end, room)),
+        WindowStep::Holds(place, bytes) => assert_same(
+            rt,
+            (window.place(), window.bytes()),
+            (place, bytes),
+        ),
+        WindowStep::Bounds(end, room) => assert_same(
+            rt,
+            (window.end(), window.room()),
+            (end, room),
+        ),
     }
 }
 
@@ -115,26 +103,6 @@ fn assert_steps<A: Allocator, S: Store>(
     }
 }
 
-/// Asserts that so often was fetched from the source, and so many bytes.
-fn assert_fetched<S: Store>(rt: &impl Abort, source: &Source<S>, calls: u128, fetched: u128) {
-    assert_same(rt, (source.calls(), source.fetched()), (calls, fetched));
-}
-
-/// Asserts that a window of that room over the file takes these steps, each of which answers as it says, and
-/// that so often is fetched then, and so many bytes.
-fn assert_slides(
-    rt: &impl Abort,
-    alloc: Global,
-    room: usize,
-    steps: &[WindowStep],
-    calls: u128,
-    fetched: u128,
-) {
-    let mut source = memory();
-    assert_steps(rt, &mut window_of(rt, alloc, room), &mut source, steps);
-    assert_fetched(rt, &source, calls, fetched);
-}
-
 /// Steps over the whole file.
 const SLIDES: [WindowStep; 9] = [
     WindowStep::Start(0, 6),
@@ -147,11 +115,6 @@ const SLIDES: [WindowStep; 9] = [
     WindowStep::Fill,
     WindowStep::Holds(3, b"def"),
 ];
-
-#[test]
-fn with_room_succeeds_and_the_window_slides(rt: HostRuntime) {
-    assert_slides(&rt, rt.alloc(), 4, &SLIDES, 2, 6);
-}
 
 /// Steps over four stretches, one after another.
 const BEGINS_ANEW: [WindowStep; 21] = [
@@ -178,11 +141,6 @@ const BEGINS_ANEW: [WindowStep; 21] = [
     WindowStep::Bounds(6, 4),
 ];
 
-#[test]
-fn window_begins_anew(rt: HostRuntime) {
-    assert_slides(&rt, rt.alloc(), 4, &BEGINS_ANEW, 4, 10);
-}
-
 /// Two fills of an empty stretch, at the start of the file.
 const NO_STRETCH: [WindowStep; 4] = [
     WindowStep::Start(0, 0),
@@ -207,12 +165,26 @@ const EMPTY_STRETCH: [WindowStep; 4] = [
     WindowStep::Fill,
 ];
 
+/// The room of a window, its steps over the file, and how often is fetched then, and how many bytes.
+const SLIDING: [(usize, &[WindowStep], u128, u128); 6] = [
+    (4, &SLIDES, 2, 6),
+    (4, &BEGINS_ANEW, 4, 10),
+    // Without room or rest nothing is fetched.
+    (4, &NO_STRETCH, 0, 0),
+    (0, &WHOLE_FILE, 0, 0),
+    (6, &WHOLE_FILE, 1, 6),
+    (4, &EMPTY_STRETCH, 0, 0),
+];
+
 #[test]
-fn window_without_room_or_rest_fetches_nothing(rt: HostRuntime) {
-    assert_slides(&rt, rt.alloc(), 4, &NO_STRETCH, 0, 0);
-    assert_slides(&rt, rt.alloc(), 0, &WHOLE_FILE, 0, 0);
-    assert_slides(&rt, rt.alloc(), 6, &WHOLE_FILE, 1, 6);
-    assert_slides(&rt, rt.alloc(), 4, &EMPTY_STRETCH, 0, 0);
+fn with_room_succeeds_and_the_window_slides(rt: HostRuntime) {
+    for (room, steps, calls, fetched) in &SLIDING {
+        let mut source = Source::new(MemoryStore::new(FILE));
+        let mut window = window_of(&rt, rt.alloc(), *room);
+        assert_steps(&rt, &mut window, &mut source, *steps);
+        let found = (source.calls(), source.fetched());
+        assert_same_at(&rt, room, found, (*calls, *fetched));
+    }
 }
 
 /// Steps whose first fill fails at this byte, and is tried again.
@@ -281,15 +253,6 @@ const FILLED: [WindowStep; 3] = [
     WindowStep::Holds(0, FILE),
 ];
 
-/// Asserts that a window takes the room of a heap of 16 bytes, and no more.
-fn assert_takes_once(rt: &impl Abort, alloc: Global) {
-    let heap = LocalHeap::new(alloc, 16).expect(rt, "a heap");
-    assert_that(rt, !holds_window(&heap, 17));
-    let mut source = byte_by_byte(None);
-    assert_steps(rt, &mut window_of(rt, &heap, 16), &mut source, &FILLED);
-    assert_fetched(rt, &source, 1, 6);
-}
-
 #[test]
 fn window_of_one_mebibyte_is_filled(rt: HostRuntime) {
     assert_slides(&rt, rt.alloc(), 1 << 20, &FILLED, 1, 6);
@@ -297,5 +260,10 @@ fn window_of_one_mebibyte_is_filled(rt: HostRuntime) {
 
 #[test]
 fn window_takes_memory_once(rt: HostRuntime) {
-    assert_takes_once(&rt, rt.alloc());
+    // A window takes the room of a heap of 16 bytes, and no more.
+    let heap = LocalHeap::new(rt.alloc(), 16).expect(&rt, "a heap");
+    assert_same(&rt, holds_window(&heap, 17), false);
+    let mut source = byte_by_byte(None);
+    assert_steps(&rt, &mut window_of(&rt, &heap, 16), &mut source, &FILLED);
+    assert_same(&rt, (source.calls(), source.fetched()), (1, 6));
 }

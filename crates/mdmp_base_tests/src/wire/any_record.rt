@@ -1,5 +1,5 @@
 //! What a record of any kind points at.
-use crate::same::assert_same;
+use crate::same::assert_same_at;
 use mdmp_source::Location;
 use mdmp_wire::{
     AnyRecord, Descriptor, Descriptor64, ModuleRecord, Slot, SystemRecord, ThreadNameRecord,
@@ -77,57 +77,80 @@ const NO_THREAD: ThreadRecord = ThreadRecord {
     thread_context: NOWHERE,
 };
 
-/// Where the record's name stands.
-fn name_of(record: AnyRecord) -> Option<u64> {
-    record.name_rva()
-}
+/// The place of a stack, or of a CodeView record.
+const FIRST: Location = Location { size: 1, rva: 2 };
 
-/// The slots of the record.
-fn slots_of(record: AnyRecord) -> [Slot; 3] {
-    record.slots()
-}
+/// The place of registers, or of a miscellaneous record.
+const SECOND: Location = Location { size: 3, rva: 4 };
 
-#[test]
-fn record_of_a_kind_with_names_tells_where_its_name_stands(rt: HostRuntime) {
-    let mut module = NO_MODULE;
-    module.module_name_rva = 7;
-    assert_same(&rt, name_of(AnyRecord::Module(module)), Some(7));
-    let mut system = NO_SYSTEM;
-    system.csd_version_rva = 8;
-    assert_same(&rt, name_of(AnyRecord::System(system)), Some(8));
-    let thread_name = ThreadNameRecord {
-        thread_id: 9,
-        rva_of_thread_name: u64::MAX,
-    };
-    let name = name_of(AnyRecord::ThreadName(thread_name));
-    assert_same(&rt, name, Some(u64::MAX));
-    assert_same(&rt, name_of(AnyRecord::Memory(NO_RANGE)), None);
-}
+/// A thread with its stack and its registers.
+const THREAD: ThreadRecord = ThreadRecord {
+    stack: Descriptor {
+        start_of_memory_range: 0,
+        memory: FIRST,
+    },
+    thread_context: SECOND,
+    ..NO_THREAD
+};
+
+/// A module with its name and its records.
+const MODULE: ModuleRecord = ModuleRecord {
+    module_name_rva: 7,
+    cv_record: FIRST,
+    misc_record: SECOND,
+    ..NO_MODULE
+};
+
+/// A system with its name.
+const SYSTEM: SystemRecord = SystemRecord {
+    csd_version_rva: 8,
+    ..NO_SYSTEM
+};
+
+/// A name of a thread.
+const THREAD_NAME: ThreadNameRecord = ThreadNameRecord {
+    thread_id: 9,
+    rva_of_thread_name: u64::MAX,
+};
+
+/// A record, where its name stands, and its slots, in the order of its fields.
+const RECORDS: &[(AnyRecord, Option<u64>, [Slot; 3])] = &[
+    (
+        AnyRecord::Thread(THREAD),
+        None,
+        [Slot::Part(FIRST), Slot::Part(SECOND), Slot::Empty],
+    ),
+    (
+        AnyRecord::Module(MODULE),
+        Some(7),
+        [Slot::Name(7), Slot::Part(FIRST), Slot::Part(SECOND)],
+    ),
+    (
+        AnyRecord::System(SYSTEM),
+        Some(8),
+        [Slot::Name(8), Slot::Empty, Slot::Empty],
+    ),
+    (
+        AnyRecord::ThreadName(THREAD_NAME),
+        Some(u64::MAX),
+        [Slot::Name(u64::MAX), Slot::Empty, Slot::Empty],
+    ),
+    (
+        AnyRecord::Memory(NO_RANGE),
+        None,
+        [Slot::Part(NOWHERE), Slot::Empty, Slot::Empty],
+    ),
+    (
+        AnyRecord::Memory64(NO_RANGE_64),
+        None,
+        [Slot::Empty, Slot::Empty, Slot::Empty],
+    ),
+];
 
 #[test]
 fn slots_of_a_record_are_in_the_order_of_its_fields(rt: HostRuntime) {
-    let stack = Location { size: 1, rva: 2 };
-    let registers = Location { size: 3, rva: 4 };
-    let mut thread = NO_THREAD;
-    thread.stack.memory = stack;
-    thread.thread_context = registers;
-    assert_same(
-        &rt,
-        slots_of(AnyRecord::Thread(thread)),
-        [Slot::Part(stack), Slot::Part(registers), Slot::Empty],
-    );
-    let mut module = NO_MODULE;
-    module.module_name_rva = 7;
-    module.cv_record = stack;
-    module.misc_record = registers;
-    assert_same(
-        &rt,
-        slots_of(AnyRecord::Module(module)),
-        [Slot::Name(7), Slot::Part(stack), Slot::Part(registers)],
-    );
-    assert_same(
-        &rt,
-        slots_of(AnyRecord::Memory64(NO_RANGE_64)),
-        [Slot::Empty, Slot::Empty, Slot::Empty],
-    );
+    for (record, name, slots) in RECORDS {
+        let found = (record.name_rva(), record.slots());
+        assert_same_at(&rt, record, found, (*name, *slots));
+    }
 }

@@ -1,36 +1,35 @@
 //! The test of a file's first bytes.
-use crate::same::assert_same;
-use mdmp_wire::{Header, HeaderFault, Record};
+use crate::same::assert_same_at;
+use mdmp_wire::{Header, HeaderFault};
 
-/// The head of a file with this signature and version, and zeros behind them.
-fn head(signature: &[u8; 4], version: u32) -> [u8; 32] {
-    let mut bytes = [0; 32];
-    bytes[..4].copy_from_slice(signature);
-    bytes[4..8].copy_from_slice(&version.to_le_bytes());
-    bytes
-}
-
-/// What the test of these bytes answers.
-fn check(bytes: [u8; 32]) -> Result<Header, HeaderFault> {
-    Header::check(&bytes)
-}
+/// The head of a file, and what the test of it answers. The signature is tested before the version, whose high half is
+/// the producer's.
+const HEADS: &[(&[u8; 32], Result<Header, HeaderFault>)] = &[
+    (
+        b"PMDM\x94\xa7\0\0\0\0\0\0\0\0\0\0\0\0\0\0\0\0\0\0\0\0\0\0\0\0\0\0",
+        Err(HeaderFault::BadSignature),
+    ),
+    (
+        b"MDMP\x94\xa7\0\0\0\0\0\0\0\0\0\0\0\0\0\0\0\0\0\0\0\0\0\0\0\0\0\0",
+        Err(HeaderFault::BadVersion { low: 0xa794 }),
+    ),
+    (
+        b"MDMP\x93\xa7\xaa\x12\0\0\0\0\0\0\0\0\0\0\0\0\0\0\0\0\0\0\0\0\0\0\0\0",
+        Ok(Header {
+            signature: 0x504d444d,
+            version: 0x12aa_a793,
+            number_of_streams: 0,
+            stream_directory_rva: 0,
+            checksum: 0,
+            time_date_stamp: 0,
+            flags: 0,
+        }),
+    ),
+];
 
 #[test]
 fn signature_is_tested_before_the_version(rt: HostRuntime) {
-    assert_same(
-        &rt,
-        check(head(b"PMDM", 0xa794)),
-        Err(HeaderFault::BadSignature),
-    );
-    assert_same(
-        &rt,
-        check(head(b"MDMP", 0xa794)),
-        Err(HeaderFault::BadVersion { low: 0xa794 }),
-    );
-}
-
-#[test]
-fn high_half_of_the_version_is_the_producers(rt: HostRuntime) {
-    let bytes = head(b"MDMP", 0x12aa_a793);
-    assert_same(&rt, check(bytes), Ok(Header::read(&bytes)));
+    for (head, answer) in HEADS {
+        assert_same_at(&rt, head, Header::check(*head), *answer);
+    }
 }

@@ -6,136 +6,118 @@ use mdmp_wire::{
     SystemRecord, UnloadedList,
 };
 
-#[test]
-fn header_has_its_fields_at_their_offsets(rt: HostRuntime) {
-    let expected = Header {
-        signature: 0x03020100,
-        version: 0x07060504,
-        number_of_streams: 0x0b0a0908,
-        stream_directory_rva: 0x0f0e0d0c,
-        checksum: 0x13121110,
-        time_date_stamp: 0x17161514,
-        flags: 0x1f1e1d1c1b1a1918,
-    };
-    assert_fields(&rt, 32, &[], expected);
-}
+const HEADER: Header = Header {
+    signature: 0x03020100,
+    version: 0x07060504,
+    number_of_streams: 0x0b0a0908,
+    stream_directory_rva: 0x0f0e0d0c,
+    checksum: 0x13121110,
+    time_date_stamp: 0x17161514,
+    flags: 0x1f1e1d1c1b1a1918,
+};
+
+const ENTRY: Entry = Entry {
+    stream_type: 0x03020100,
+    location: Location {
+        size: 0x07060504,
+        rva: 0x0b0a0908,
+    },
+};
+
+const LOCATION: Location = Location {
+    size: 0x03020100,
+    rva: 0x07060504,
+};
+
+const DESCRIPTOR: Descriptor = Descriptor {
+    start_of_memory_range: 0x0706050403020100,
+    memory: Location {
+        size: 0x0b0a0908,
+        rva: 0x0f0e0d0c,
+    },
+};
+
+const DESCRIPTOR64: Descriptor64 = Descriptor64 {
+    start_of_memory_range: 0x0706050403020100,
+    data_size: 0x0f0e0d0c0b0a0908,
+};
+
+const SYSTEM: SystemRecord = SystemRecord {
+    processor_architecture: 0x0100,
+    processor_level: 0x0302,
+    processor_revision: 0x0504,
+    number_of_processors: 0x06,
+    product_type: 0x07,
+    major_version: 0x0b0a0908,
+    minor_version: 0x0f0e0d0c,
+    build_number: 0x13121110,
+    platform_id: 0x17161514,
+    csd_version_rva: 0x1b1a1918,
+    suite_mask: 0x1d1c,
+    reserved2: 0x1f1e,
+    cpu: [
+        0x20, 0x21, 0x22, 0x23, 0x24, 0x25, 0x26, 0x27, 0x28, 0x29, 0x2a, 0x2b, 0x2c, 0x2d, 0x2e,
+        0x2f, 0x30, 0x31, 0x32, 0x33, 0x34, 0x35, 0x36, 0x37,
+    ],
+};
+
+const EXCEPTION: ExceptionRecord = ExceptionRecord {
+    thread_id: 0x03020100,
+    exception_code: 0x0b0a0908,
+    exception_flags: 0x0f0e0d0c,
+    exception_record: 0x1716151413121110,
+    exception_address: 0x1f1e1d1c1b1a1918,
+    number_parameters: 0x23222120,
+    exception_information: [
+        0x2f2e2d2c2b2a2928,
+        0x3736353433323130,
+        0x3f3e3d3c3b3a3938,
+        0x4746454443424140,
+        0x4f4e4d4c4b4a4948,
+        0x5756555453525150,
+        0x5f5e5d5c5b5a5958,
+        0x6766656463626160,
+        0x6f6e6d6c6b6a6968,
+        0x7776757473727170,
+        0x7f7e7d7c7b7a7978,
+        0x8786858483828180,
+        0x8f8e8d8c8b8a8988,
+        0x9796959493929190,
+        0x9f9e9d9c9b9a9998,
+    ],
+    thread_context: Location {
+        size: 0xa3a2a1a0,
+        rva: 0xa7a6a5a4,
+    },
+};
+
+const UNLOADED_LIST: UnloadedList = UnloadedList {
+    size_of_header: 0x03020100,
+    size_of_entry: 0x07060504,
+    number_of_entries: 0x0b0a0908,
+};
+
+const MEMORY_INFO_LIST: MemoryInfoList = MemoryInfoList {
+    size_of_header: 0x03020100,
+    size_of_entry: 0x07060504,
+    number_of_entries: 0x0f0e0d0c0b0a0908,
+};
+
+const MEMORY64_LIST: Memory64List = Memory64List {
+    number_of_memory_ranges: 0x0706050403020100,
+    base_rva: 0x0f0e0d0c0b0a0908,
+};
 
 #[test]
-fn entry_has_its_fields_at_their_offsets(rt: HostRuntime) {
-    let expected = Entry {
-        stream_type: 0x03020100,
-        location: Location {
-            size: 0x07060504,
-            rva: 0x0b0a0908,
-        },
-    };
-    assert_fields(&rt, 12, &[], expected);
-}
-
-#[test]
-fn location_has_its_fields_at_their_offsets(rt: HostRuntime) {
-    let expected = Location {
-        size: 0x03020100,
-        rva: 0x07060504,
-    };
-    assert_fields(&rt, 8, &[], expected);
-}
-
-#[test]
-fn descriptor_has_its_fields_at_their_offsets(rt: HostRuntime) {
-    let expected = Descriptor {
-        start_of_memory_range: 0x0706050403020100,
-        memory: Location {
-            size: 0x0b0a0908,
-            rva: 0x0f0e0d0c,
-        },
-    };
-    assert_fields(&rt, 16, &[], expected);
-}
-
-#[test]
-fn descriptor64_has_its_fields_at_their_offsets(rt: HostRuntime) {
-    let expected = Descriptor64 {
-        start_of_memory_range: 0x0706050403020100,
-        data_size: 0x0f0e0d0c0b0a0908,
-    };
-    assert_fields(&rt, 16, &[], expected);
-}
-
-#[test]
-fn system_has_its_fields_at_their_offsets(rt: HostRuntime) {
-    let expected = SystemRecord {
-        processor_architecture: 0x0100,
-        processor_level: 0x0302,
-        processor_revision: 0x0504,
-        number_of_processors: 0x06,
-        product_type: 0x07,
-        major_version: 0x0b0a0908,
-        minor_version: 0x0f0e0d0c,
-        build_number: 0x13121110,
-        platform_id: 0x17161514,
-        csd_version_rva: 0x1b1a1918,
-        suite_mask: 0x1d1c,
-        reserved2: 0x1f1e,
-        cpu: [
-            0x20, 0x21, 0x22, 0x23, 0x24, 0x25, 0x26, 0x27, 0x28, 0x29, 0x2a, 0x2b, 0x2c, 0x2d,
-            0x2e, 0x2f, 0x30, 0x31, 0x32, 0x33, 0x34, 0x35, 0x36, 0x37,
-        ],
-    };
-    assert_fields(&rt, 56, &[], expected);
-}
-
-#[test]
-fn exception_has_its_fields_at_their_offsets(rt: HostRuntime) {
-    let expected = ExceptionRecord {
-        thread_id: 0x03020100,
-        exception_code: 0x0b0a0908,
-        exception_flags: 0x0f0e0d0c,
-        exception_record: 0x1716151413121110,
-        exception_address: 0x1f1e1d1c1b1a1918,
-        number_parameters: 0x23222120,
-        exception_information: [
-            0x2f2e2d2c2b2a2928,
-            0x3736353433323130,
-            0x3f3e3d3c3b3a3938,
-            0x4746454443424140,
-            0x4f4e4d4c4b4a4948,
-            0x5756555453525150,
-            0x5f5e5d5c5b5a5958,
-            0x6766656463626160,
-            0x6f6e6d6c6b6a6968,
-            0x7776757473727170,
-            0x7f7e7d7c7b7a7978,
-            0x8786858483828180,
-            0x8f8e8d8c8b8a8988,
-            0x9796959493929190,
-            0x9f9e9d9c9b9a9998,
-        ],
-        thread_context: Location {
-            size: 0xa3a2a1a0,
-            rva: 0xa7a6a5a4,
-        },
-    };
-    assert_fields(&rt, 168, &[4, 36], expected);
-}
-
-#[test]
-fn heads_of_lists_have_their_fields_at_their_offsets(rt: HostRuntime) {
-    let unloaded = UnloadedList {
-        size_of_header: 0x03020100,
-        size_of_entry: 0x07060504,
-        number_of_entries: 0x0b0a0908,
-    };
-    assert_fields(&rt, 12, &[], unloaded);
-    let regions = MemoryInfoList {
-        size_of_header: 0x03020100,
-        size_of_entry: 0x07060504,
-        number_of_entries: 0x0f0e0d0c0b0a0908,
-    };
-    assert_fields(&rt, 16, &[], regions);
-    let ranges = Memory64List {
-        number_of_memory_ranges: 0x0706050403020100,
-        base_rva: 0x0f0e0d0c0b0a0908,
-    };
-    assert_fields(&rt, 16, &[], ranges);
+fn structures_have_their_fields_at_their_offsets(rt: HostRuntime) {
+    assert_fields(&rt, 32, &[], HEADER);
+    assert_fields(&rt, 12, &[], ENTRY);
+    assert_fields(&rt, 8, &[], LOCATION);
+    assert_fields(&rt, 16, &[], DESCRIPTOR);
+    assert_fields(&rt, 16, &[], DESCRIPTOR64);
+    assert_fields(&rt, 56, &[], SYSTEM);
+    assert_fields(&rt, 168, &[4, 36], EXCEPTION);
+    assert_fields(&rt, 12, &[], UNLOADED_LIST);
+    assert_fields(&rt, 16, &[], MEMORY_INFO_LIST);
+    assert_fields(&rt, 16, &[], MEMORY64_LIST);
 }
