@@ -46,12 +46,26 @@ pub enum CallWay {
     BarredItems,
 }
 
+/// What a store is.
+#[derive(Clone, Copy)]
+pub enum StoreWay<'a> {
+    /// A file in memory.
+    Whole,
+    /// A file whose reads give as many bytes as these numbers say, in turn, and whose read of this number fails.
+    Patchy(&'a [usize], Option<u64>),
+    /// A file whose content is not known.
+    Unknown,
+}
+
 /// A run of a command.
 #[derive(Clone, Copy)]
 pub struct CommandRun<'a> {
     pub task: Task<'a>,
     pub way: CallWay,
+    pub reads: StoreWay<'a>,
     pub limits: Limits,
+    /// Which growth of its memory is refused.
+    pub growth: Option<u64>,
     /// The room of its output.
     pub room: Room,
     /// Which call of its output fails.
@@ -75,12 +89,19 @@ fn uncounted(answer: Result<(), ToolFault>) -> Result<u64, ToolFault> {
     }
 }
 
-fn end_of<S: Store + Drop>(answer: Result<u64, ToolFault>, source: Source<S>) -> End {
+fn end_of<S: Store + Drop>(answered: RunAnswered<u64, S>) -> End {
+    let RunAnswered { answer, source } = answered;
     End {
         answer,
         calls: source.calls(),
         fetched: source.fetched(),
     }
+}
+
+fn end_of_uncounted<S: Store + Drop>(answered: RunAnswered<(), S>) -> End {
+    let RunAnswered { answer, source } = answered;
+    let answer = uncounted(answer);
+    end_of(RunAnswered { answer, source })
 }
 
 /// The addresses, where a command may be asked for them.
@@ -99,46 +120,9 @@ fn types_of(rt: &impl Abort, types: &[u32]) -> TypeSet {
     TypeSet::new(types).expect(rt, "types")
 }
 
-fn check_store<S: Store + Drop, A: Allocator + Copy>(
-    heap: A,
-    store: S,
-    limits: Limits,
-    out: &mut PatchyOut<Global>,
-) -> Result<u64, ToolFault> {
-    run_check(heap, store, limits, LineForm::Text, out)
-}
-
-fn list_store<S: Store + Drop, A: Allocator + Copy>(
-    heap: A,
-    store: S,
-    limits: Limits,
-    pdb: bool,
-    out: &mut PatchyOut<Global>,
-) -> Result<u64, ToolFault> {
-    uncounted(run_list(heap, store, limits, LineForm::Text, pdb, out))
-}
-
-fn hex_store<S: Store + Drop, A: Allocator + Copy>(
-    rt: &impl Abort,
-    heap: A,
-    store: S,
-    limits: Limits,
-    span: AddressSpan,
-    out: &mut PatchyOut<Global>,
-) -> Result<u64, ToolFault> {
-    let AddressSpan { address, length } = limited(rt, span);
-    uncounted(run_hex(heap, store, limits, address, length, out))
-}
-
-fn copy_store<S: Store + Drop, A: Allocator + Copy>(
-    rt: &impl Abort,
-    heap: A,
-    store: S,
-    limits: Limits,
-    types: &[u32],
-    out: &mut PatchyOut<Global>,
-) -> Result<u64, ToolFault> {
-    run_copy(heap, store, limits, types_of(rt, types), out)
+/// Whether a list has a line for each CodeView record.
+fn has_symbols(task: Task<'_>) -> bool {
+    matches!(task, Task::Symbols)
 }
 
 /// What a command over a store answers.
@@ -150,69 +134,21 @@ fn answer_over_store<S: Store + Drop, A: Allocator + Copy>(
     out: &mut PatchyOut<Global>,
 ) -> Result<u64, ToolFault> {
     let limits = run.limits;
+    let text = LineForm::Text;
     match run.task {
-        Task::Check => check_store(heap, store, limits, out),
-        Task::List => list_store(heap, store, limits, false, out),
-        Task::Symbols => list_store(heap, store, limits, true, out),
-        Task::Hex(span) => hex_store(rt, heap, store, limits, span, out),
-        Task::Copy(types) => copy_store(rt, heap, store, limits, types, out),
+        Task::Check => run_check(heap, store, limits, text, out),
+        Task::List | Task::Symbols => {
+            uncounted(run_list(heap, store, limits, text, has_symbols(run.task), out))
+        }
+        Task::Hex(span) => {
+            let AddressSpan { address, length } = limited(rt, span);
+            uncounted(run_hex(heap, store, limits, address, length, out))
+        }
+        Task::Copy(types) => run_copy(heap, store, limits, types_of(rt, types), out),
     }
 }
 
-fn check_by_source<S: Store + Drop, A: Allocator + Copy>(
-    heap: A,
-    source: Source<S>,
-    limits: Limits,
-    out: &mut PatchyOut<Global>,
-) -> End {
-    let RunAnswered { answer, source } = check_source(heap, source, limits, LineForm::Text, out);
-    end_of(answer, source)
-}
-
-fn list_by_source<S: Store + Drop, A: Allocator + Copy>(
-    heap: A,
-    source: Source<S>,
-    limits: Limits,
-    pdb: bool,
-    out: &mut PatchyOut<Global>,
-) -> End {
-    let RunAnswered { answer, source } = list_source(
-        heap,
-        source,
-        limits,
-        LineForm::Text,
-        pdb,
-        out,
-    );
-    end_of(uncounted(answer), source)
-}
-
-fn hex_by_source<S: Store + Drop, A: Allocator + Copy>(
-    rt: &impl Abort,
-    heap: A,
-    source: Source<S>,
-    limits: Limits,
-    span: AddressSpan,
-    out: &mut PatchyOut<Global>,
-) -> End {
-    let AddressSpan { address, length } = limited(rt, span);
-    let RunAnswered { answer, source } = hex_source(heap, source, limits, address, length, out);
-    end_of(uncounted(answer), source)
-}
-
-fn copy_by_source<S: Store + Drop, A: Allocator + Copy>(
-    rt: &impl Abort,
-    heap: A,
-    source: Source<S>,
-    limits: Limits,
-    types: &[u32],
-    out: &mut PatchyOut<Global>,
-) -> End {
-    let types = types_of(rt, types);
-    let RunAnswered { answer, source } = copy_source(heap, source, limits, types, out);
-    end_of(answer, source)
-}
-
+/// How a command over a source ends.
 fn end_by_source<S: Store + Drop, A: Allocator + Copy>(
     rt: &impl Abort,
     heap: A,
@@ -221,70 +157,26 @@ fn end_by_source<S: Store + Drop, A: Allocator + Copy>(
     out: &mut PatchyOut<Global>,
 ) -> End {
     let limits = run.limits;
+    let text = LineForm::Text;
     match run.task {
-        Task::Check => check_by_source(heap, source, limits, out),
-        Task::List => list_by_source(heap, source, limits, false, out),
-        Task::Symbols => list_by_source(heap, source, limits, true, out),
-        Task::Hex(span) => hex_by_source(rt, heap, source, limits, span, out),
-        Task::Copy(types) => copy_by_source(rt, heap, source, limits, types, out),
+        Task::Check => end_of(check_source(heap, source, limits, text, out)),
+        Task::List | Task::Symbols => end_of_uncounted(list_source(
+            heap,
+            source,
+            limits,
+            text,
+            has_symbols(run.task),
+            out,
+        )),
+        Task::Hex(span) => {
+            let AddressSpan { address, length } = limited(rt, span);
+            end_of_uncounted(hex_source(heap, source, limits, address, length, out))
+        }
+        Task::Copy(types) => { end_of(copy_source(heap, source, limits, types_of(rt, types), out)) }
     }
 }
 
-fn check_by_blocks<S: Store + Drop, A: Allocator + Copy, O: Out>(
-    heap: A,
-    source: Source<S>,
-    limits: Limits,
-    blocks: &mut LineOut<'_, O>,
-) -> End
-    requires { blocks.old.pending ≡ [] }
-{
-    let RunAnswered { answer, source } = check_in_blocks(
-        heap,
-        source,
-        limits,
-        LineForm::Text,
-        blocks,
-    );
-    end_of(answer, source)
-}
-
-fn list_by_blocks<S: Store + Drop, A: Allocator + Copy, O: Out>(
-    heap: A,
-    source: Source<S>,
-    limits: Limits,
-    pdb: bool,
-    blocks: &mut LineOut<'_, O>,
-) -> End
-    requires { blocks.old.pending ≡ [] }
-{
-    let RunAnswered { answer, source } = list_in_blocks(
-        heap,
-        source,
-        limits,
-        LineForm::Text,
-        pdb,
-        blocks,
-    );
-    end_of(uncounted(answer), source)
-}
-
-fn hex_by_blocks<S: Store + Drop, A: Allocator + Copy, O: Out>(
-    rt: &impl Abort,
-    heap: A,
-    source: Source<S>,
-    limits: Limits,
-    span: AddressSpan,
-    blocks: &mut LineOut<'_, O>,
-) -> End
-    requires { blocks.old.pending ≡ [] }
-{
-    let AddressSpan { address, length } = limited(rt, span);
-    let RunAnswered { answer, source } = hex_in_blocks(
-        heap, source, limits, address, length, blocks,
-    );
-    end_of(uncounted(answer), source)
-}
-
+/// How a command through blocks ends.
 fn end_by_blocks<S: Store + Drop, A: Allocator + Copy, O: Out>(
     rt: &impl Abort,
     heap: A,
@@ -295,11 +187,21 @@ fn end_by_blocks<S: Store + Drop, A: Allocator + Copy, O: Out>(
     requires { blocks.old.pending ≡ [] }
 {
     let limits = run.limits;
+    let text = LineForm::Text;
     match run.task {
-        Task::Check => check_by_blocks(heap, source, limits, blocks),
-        Task::List => list_by_blocks(heap, source, limits, false, blocks),
-        Task::Symbols => list_by_blocks(heap, source, limits, true, blocks),
-        Task::Hex(span) => hex_by_blocks(rt, heap, source, limits, span, blocks),
+        Task::Check => end_of(check_in_blocks(heap, source, limits, text, blocks)),
+        Task::List | Task::Symbols => end_of_uncounted(list_in_blocks(
+            heap,
+            source,
+            limits,
+            text,
+            has_symbols(run.task),
+            blocks,
+        )),
+        Task::Hex(span) => {
+            let AddressSpan { address, length } = limited(rt, span);
+            end_of_uncounted(hex_in_blocks(heap, source, limits, address, length, blocks))
+        }
         Task::Copy(_) => rt.panic("no copy in blocks"),
     }
 }

@@ -1,7 +1,6 @@
-//! What is said of faults.
-use crate::each_fault::assert_shown;
-use crate::runs::{BAD_NAME, bytes_in, out_of, start_of, text_of};
-use crate::same::{assert_same, assert_same_at};
+//! What is said of faults: the status and the line of each, and that each has a row here.
+use crate::runs::{BAD_NAME, bytes_in, out_of, text_of};
+use crate::same::assert_same_at;
 use mdmp_source::SourceFault;
 use mdmp_test_support::{FAULTY_TOLD, Room};
 use mdmp_tool::{
@@ -25,66 +24,35 @@ pub fn told(
     (is_told, bytes_in(rt, alloc, &out))
 }
 
-/// Asserts what is said of a fault to an output of this room, of which this call fails, and whether that is
-/// all.
-fn assert_said(
-    rt: &impl Abort,
-    alloc: Global,
-    fault: &ToolFault,
-    room: Room,
-    fail_at: Option<u64>,
-    is_all: bool,
-    text: &str,
-) {
-    let (is_told, bytes) = told(rt, alloc, fault, room, fail_at);
-    assert_same(rt, text_of(rt, &bytes), text);
-    assert_same_at(rt, &text, is_told, is_all);
-}
-
-/// Asserts the line of a fault.
-pub fn assert_line(rt: &impl Abort, alloc: Global, fault: &ToolFault, line: &str) {
-    assert_said(
-        rt,
-        alloc,
-        fault,
-        Room { all: 1000, call: 1 },
-        None,
-        true,
-        line,
-    );
-}
-
-/// Asserts the line of a fault, and that an output of nine bytes has the first ones of it.
-fn assert_line_and_start(rt: &impl Abort, alloc: Global, fault: &ToolFault, line: &str) {
-    assert_line(rt, alloc, fault, line);
-    let start = start_of(rt, line, 9);
-    assert_said(
-        rt,
-        alloc,
-        fault,
-        Room { all: 9, call: 1000 },
-        None,
-        false,
-        start,
-    );
-}
-
-/// Asserts the status of a fault, what is said of it behind the program's name, and that it is shown so.
-fn assert_told(rt: &impl Abort, alloc: Global, fault: &ToolFault, code: u8, text: &str) {
-    assert_same(rt, status(fault), code);
-    assert_shown(rt, alloc, fault);
-    let line = format!(in alloc; "mdmp: {text}\n").expect(rt, "memory for a line");
-    assert_line_and_start(rt, alloc, fault, line.as_str());
+/// The line of a fault, by one byte a call.
+pub fn line_of(rt: &impl Abort, alloc: Global, fault: &ToolFault) -> Vec<u8> {
+    let (is_told, bytes) = told(rt, alloc, fault, Room { all: 1000, call: 1 }, None);
+    assert_same_at(rt, fault, is_told, true);
+    bytes
 }
 
 /// A fault, its status, and what is said of it.
-pub type FaultRow<'a> = (ToolFault, u8, &'a str);
+type FaultRow<'a> = (ToolFault, u8, &'a str);
 
-/// Asserts it of each row.
-pub fn assert_each_told(rt: &impl Abort, alloc: Global, rows: &[FaultRow<'_>]) {
+/// Asserts the status of each fault, what is said of it behind the program's name, that it is shown so, and that an
+/// output of nine bytes has the first ones of its line.
+fn assert_told(rt: &impl Abort, alloc: Global, rows: &[FaultRow<'_>]) {
     for (fault, code, text) in rows {
-        assert_told(rt, alloc, fault, *code, *text);
+        let line = format!(in alloc; "mdmp: {text}\n").expect(rt, "memory for a line");
+        let shown = format!(in alloc; "mdmp: {fault}\n").expect(rt, "memory for a line");
+        let found = line_of(rt, alloc, fault);
+        assert_same_at(rt, text, status(fault), *code);
+        assert_same_at(rt, text, text_of(rt, &found), line.as_str());
+        assert_same_at(rt, text, shown.as_str(), line.as_str());
+        let (is_told, start) = told(rt, alloc, fault, Room { all: 9, call: 1000 }, None);
+        let is_start = line.as_str().as_bytes().starts_with(&start) && start.len() == 9;
+        assert_same_at(rt, text, (is_told, is_start), (false, true));
     }
+}
+
+#[test]
+fn faults_have_a_status_and_a_line(rt: HostRuntime) {
+    assert_told(&rt, rt.alloc(), &ROWS);
 }
 
 #[test]
@@ -94,7 +62,13 @@ fn line_of_a_fault_is_one_write(rt: HostRuntime) {
         all: 1000,
         call: 1000,
     };
-    assert_said(&rt, rt.alloc(), &BAD_NAME, room, Some(1), true, FAULTY_TOLD);
+    let (is_told, bytes) = told(&rt, rt.alloc(), &BAD_NAME, room, Some(1));
+    assert_same_at(
+        &rt,
+        &"one write",
+        (is_told, text_of(&rt, &bytes)),
+        (true, FAULTY_TOLD),
+    );
 }
 
 /// A stream that lies outside the file.
@@ -129,7 +103,28 @@ const UNREAD: ListFault = ListFault {
     size: 5,
 };
 
-pub const ROWS: [FaultRow<'static>; 16] = [
+/// A store that ended.
+const ENDED: SourceFault = SourceFault::ShortRead { at: 7 };
+
+/// A refusal by the budget, before the directory is read.
+const EARLY: OpenFault = OpenFault::Budget {
+    offset: 32,
+    size: 12,
+};
+
+/// A refusal by the limit of memory.
+const HELD: OpenFault = OpenFault::MemoryLimit { held: 180 };
+
+/// The budget ends a list at its last entry.
+const UNMADE: ListFault = ListFault {
+    entry: 4294967295,
+    index: None,
+    kind: FaultKind::Budget,
+    offset: 236,
+    size: 5,
+};
+
+const ROWS: [FaultRow<'static>; 54] = [
     (
         ToolFault::Opening(OpenFault::TooShort { size: 0 }),
         1,
@@ -202,51 +197,152 @@ pub const ROWS: [FaultRow<'static>; 16] = [
         3,
         "store failed at 18446744073709551615",
     ),
-];
-
-#[test]
-fn faults_have_a_status_and_a_line(rt: HostRuntime) {
-    assert_each_told(&rt, rt.alloc(), &ROWS);
-}
-
-/// Asserts the words of a kind of fault.
-fn assert_words(rt: &impl Abort, alloc: Global, kind: FaultKind, words: &str) {
-    let fault = ToolFault::List(ListFault {
-        entry: 3,
-        index: None,
-        kind,
-        offset: 52,
-        size: 18446744073709551615,
-    });
-    let text = format!(in alloc; "entry 3: {words}: offset 52 size 18446744073709551615").expect(
-        rt,
-        "memory for a line",
-    );
-    assert_told(rt, alloc, &fault, 1, text.as_str());
-}
-
-fn assert_each_has_words(rt: &impl Abort, alloc: Global, rows: &[(FaultKind, &str)]) {
-    for (kind, words) in rows {
-        assert_words(rt, alloc, *kind, *words);
-    }
-}
-
-#[test]
-fn each_kind_of_fault_has_its_words(rt: HostRuntime) {
-    let rows = [
-        (FaultKind::StreamOutside, "stream outside the file"),
-        (FaultKind::ShortStream, "stream too short"),
-        (FaultKind::BadHeaderSize, "bad header size"),
-        (FaultKind::BadEntrySize, "bad entry size"),
-        (FaultKind::BadCount, "bad count"),
-        (FaultKind::NameLengthOutside, "name length outside the file"),
-        (FaultKind::NameOdd, "odd name length"),
-        (FaultKind::NameUnitsOutside, "name outside the file"),
-    ];
-    assert_each_has_words(&rt, rt.alloc(), &rows);
-}
-
-pub const COPY_ROWS: [FaultRow<'static>; 6] = [
+    // Kinds of faults of an entry.
+    (
+        ToolFault::List(ListFault {
+            entry: 3,
+            index: None,
+            kind: FaultKind::StreamOutside,
+            offset: 52,
+            size: 18446744073709551615,
+        }),
+        1,
+        "entry 3: stream outside the file: offset 52 size 18446744073709551615",
+    ),
+    (
+        ToolFault::List(ListFault {
+            entry: 3,
+            index: None,
+            kind: FaultKind::ShortStream,
+            offset: 52,
+            size: 18446744073709551615,
+        }),
+        1,
+        "entry 3: stream too short: offset 52 size 18446744073709551615",
+    ),
+    (
+        ToolFault::List(ListFault {
+            entry: 3,
+            index: None,
+            kind: FaultKind::BadHeaderSize,
+            offset: 52,
+            size: 18446744073709551615,
+        }),
+        1,
+        "entry 3: bad header size: offset 52 size 18446744073709551615",
+    ),
+    (
+        ToolFault::List(ListFault {
+            entry: 3,
+            index: None,
+            kind: FaultKind::BadEntrySize,
+            offset: 52,
+            size: 18446744073709551615,
+        }),
+        1,
+        "entry 3: bad entry size: offset 52 size 18446744073709551615",
+    ),
+    (
+        ToolFault::List(ListFault {
+            entry: 3,
+            index: None,
+            kind: FaultKind::BadCount,
+            offset: 52,
+            size: 18446744073709551615,
+        }),
+        1,
+        "entry 3: bad count: offset 52 size 18446744073709551615",
+    ),
+    (
+        ToolFault::List(ListFault {
+            entry: 3,
+            index: None,
+            kind: FaultKind::NameLengthOutside,
+            offset: 52,
+            size: 18446744073709551615,
+        }),
+        1,
+        "entry 3: name length outside the file: offset 52 size 18446744073709551615",
+    ),
+    (
+        ToolFault::List(ListFault {
+            entry: 3,
+            index: None,
+            kind: FaultKind::NameOdd,
+            offset: 52,
+            size: 18446744073709551615,
+        }),
+        1,
+        "entry 3: odd name length: offset 52 size 18446744073709551615",
+    ),
+    (
+        ToolFault::List(ListFault {
+            entry: 3,
+            index: None,
+            kind: FaultKind::NameUnitsOutside,
+            offset: 52,
+            size: 18446744073709551615,
+        }),
+        1,
+        "entry 3: name outside the file: offset 52 size 18446744073709551615",
+    ),
+    // Parts.
+    (
+        ToolFault::Reading(ReadFault::PartOutside {
+            entry: 4294967295,
+            index: 18446744073709551615,
+            part: PartName::Stack,
+            offset: 4951760157141521099596496896,
+            size: 18446744073709551615,
+        }),
+        1,
+        "entry 4294967295 item 18446744073709551615: stack outside the file: offset 4951760157141521099596496896 size 18446744073709551615",
+    ),
+    (
+        ToolFault::Reading(ReadFault::PartOutside {
+            entry: 4294967295,
+            index: 18446744073709551615,
+            part: PartName::Context,
+            offset: 4951760157141521099596496896,
+            size: 18446744073709551615,
+        }),
+        1,
+        "entry 4294967295 item 18446744073709551615: context outside the file: offset 4951760157141521099596496896 size 18446744073709551615",
+    ),
+    (
+        ToolFault::Reading(ReadFault::PartOutside {
+            entry: 4294967295,
+            index: 18446744073709551615,
+            part: PartName::CodeView,
+            offset: 4951760157141521099596496896,
+            size: 18446744073709551615,
+        }),
+        1,
+        "entry 4294967295 item 18446744073709551615: codeview outside the file: offset 4951760157141521099596496896 size 18446744073709551615",
+    ),
+    (
+        ToolFault::Reading(ReadFault::PartOutside {
+            entry: 4294967295,
+            index: 18446744073709551615,
+            part: PartName::Misc,
+            offset: 4951760157141521099596496896,
+            size: 18446744073709551615,
+        }),
+        1,
+        "entry 4294967295 item 18446744073709551615: misc outside the file: offset 4951760157141521099596496896 size 18446744073709551615",
+    ),
+    (
+        ToolFault::Reading(ReadFault::PartOutside {
+            entry: 4294967295,
+            index: 18446744073709551615,
+            part: PartName::Memory,
+            offset: 4951760157141521099596496896,
+            size: 18446744073709551615,
+        }),
+        1,
+        "entry 4294967295 item 18446744073709551615: memory outside the file: offset 4951760157141521099596496896 size 18446744073709551615",
+    ),
+    // Copies.
     (
         ToolFault::Reading(ReadFault::PartOutside {
             entry: 0,
@@ -289,51 +385,7 @@ pub const COPY_ROWS: [FaultRow<'static>; 6] = [
         "the copy is too large",
     ),
     (ToolFault::NotCopied(12), 2, "type 12 is not copied"),
-];
-
-#[test]
-fn faults_of_a_copy_have_a_status_and_a_line(rt: HostRuntime) {
-    assert_each_told(&rt, rt.alloc(), &COPY_ROWS);
-}
-
-/// Asserts the word of a part.
-fn assert_word(rt: &impl Abort, alloc: Global, part: PartName, word: &str) {
-    let fault = ToolFault::Reading(ReadFault::PartOutside {
-        entry: 4294967295,
-        index: 18446744073709551615,
-        part,
-        offset: 1 << 92,
-        size: 18446744073709551615,
-    });
-    let text = format!(in alloc;
-        "entry 4294967295 item 18446744073709551615: {word} outside the file: offset 4951760157141521099596496896 size 18446744073709551615"
-    ).expect(rt, "memory for a line");
-    assert_told(rt, alloc, &fault, 1, text.as_str());
-}
-
-fn assert_each_has_word(rt: &impl Abort, alloc: Global, rows: &[(PartName, &str)]) {
-    for (part, word) in rows {
-        assert_word(rt, alloc, *part, *word);
-    }
-}
-
-#[test]
-fn each_part_has_its_word(rt: HostRuntime) {
-    let rows = [
-        (PartName::Stack, "stack"),
-        (PartName::Context, "context"),
-        (PartName::CodeView, "codeview"),
-        (PartName::Misc, "misc"),
-        (PartName::Memory, "memory"),
-    ];
-    assert_each_has_word(&rt, rt.alloc(), &rows);
-}
-
-/// A store that ended.
-const ENDED: SourceFault = SourceFault::ShortRead { at: 7 };
-
-/// What is told of faults that `Reading` has inside.
-pub const INSIDE_ROWS: [FaultRow<'static>; 8] = [
+    // Faults inside a reading are told as what they are.
     (
         ToolFault::Reading(ReadFault::PartsTooLarge { entry: 0, index: 0 }),
         1,
@@ -382,9 +434,124 @@ pub const INSIDE_ROWS: [FaultRow<'static>; 8] = [
         "store ended at 7",
     ),
     (ToolFault::Reading(ReadFault::Memory), 3, "out of memory"),
+    // Limits that are reached.
+    (
+        ToolFault::Budget {
+            offset: 18446744073709551615,
+            size: 18446744073709551614,
+        },
+        3,
+        "fetch budget reached: offset 18446744073709551615 size 18446744073709551614",
+    ),
+    (
+        ToolFault::Opening(EARLY),
+        3,
+        "fetch budget reached: offset 32 size 12",
+    ),
+    (
+        ToolFault::List(UNMADE),
+        3,
+        "fetch budget reached: offset 236 size 5",
+    ),
+    (
+        ToolFault::Reading(ReadFault::Opening(EARLY)),
+        3,
+        "fetch budget reached: offset 32 size 12",
+    ),
+    (
+        ToolFault::Reading(ReadFault::List(UNMADE)),
+        3,
+        "fetch budget reached: offset 236 size 5",
+    ),
+    (
+        ToolFault::MemoryLimit {
+            held: 340282366920938463463374607431768211455,
+        },
+        3,
+        "memory limit reached: 340282366920938463463374607431768211455",
+    ),
+    (ToolFault::Opening(HELD), 3, "memory limit reached: 180"),
+    (
+        ToolFault::Reading(ReadFault::Opening(HELD)),
+        3,
+        "memory limit reached: 180",
+    ),
+    (
+        ToolFault::AsideLimit {
+            offset: 18446744073709551615,
+            size: 30,
+        },
+        3,
+        "aside limit reached: offset 18446744073709551615 size 30",
+    ),
+    (
+        ToolFault::CopyBudget { needed: 778 },
+        3,
+        "copy needs 778 bytes",
+    ),
+    (
+        ToolFault::CopyBudget {
+            needed: 340282366920938463463374607431768211455,
+        },
+        3,
+        "copy needs 340282366920938463463374607431768211455 bytes",
+    ),
 ];
 
+/// The number of a refusal. It has no wildcard, so that whoever adds one comes here.
+fn number_of_opening(fault: &OpenFault) -> u32 {
+    match fault {
+        OpenFault::TooShort { .. } => 0,
+        OpenFault::BadSignature => 1,
+        OpenFault::BadVersion { .. } => 2,
+        OpenFault::DirectoryOutside { .. } => 3,
+        OpenFault::Source(_) => 4,
+        OpenFault::Budget { .. } => 5,
+        OpenFault::Memory => 6,
+        OpenFault::MemoryLimit { .. } => 7,
+        OpenFault::TooManyRanges { .. } => 8,
+    }
+}
+
+/// The number of a fault. It has no wildcard either.
+fn number_of(fault: &ToolFault) -> u32 {
+    match fault {
+        ToolFault::Opening(fault) => number_of_opening(fault),
+        ToolFault::List(_) => 9,
+        ToolFault::Reading(fault) => match fault {
+            ReadFault::Opening(_) => 10,
+            ReadFault::List(_) => 11,
+            ReadFault::PartOutside { .. } => 12,
+            ReadFault::NameTooLong { .. } => 13,
+            ReadFault::PartsTooLarge { .. } => 14,
+            ReadFault::Memory => 15,
+            ReadFault::Source(_) => 16,
+        },
+        ToolFault::Layout(_) => 17,
+        ToolFault::Source(_) => 18,
+        ToolFault::Out => 19,
+        ToolFault::Budget { .. } => 20,
+        ToolFault::Memory => 21,
+        ToolFault::MemoryLimit { .. } => 22,
+        ToolFault::AsideLimit { .. } => 23,
+        ToolFault::CopyBudget { .. } => 24,
+        ToolFault::NotCopied(_) => 25,
+    }
+}
+
+/// Whether there is a row of the fault with this number.
+fn has_row(number: u32) -> bool {
+    for (fault, _, _) in &ROWS {
+        if number_of(fault) == number {
+            return true;
+        }
+    }
+    false
+}
+
 #[test]
-fn fault_inside_a_reading_is_told_as_what_it_is(rt: HostRuntime) {
-    assert_each_told(&rt, rt.alloc(), &INSIDE_ROWS);
+fn each_fault_has_a_row(rt: HostRuntime) {
+    for number in 0..26 {
+        assert_same_at(&rt, &number, has_row(number), true);
+    }
 }

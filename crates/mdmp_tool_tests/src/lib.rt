@@ -1,21 +1,15 @@
 //! Tests of the commands over stores and outputs, by the public calls of `mdmp_tool` alone.
 //!
-//! `commands` makes the calls whose contracts are long, in functions without one or with a short one; `runs` compares what comes
-//! of them, which is plain values; and a test is a few calls of such functions, on constants.
+//! `commands` makes the calls whose contracts are long, in functions without one or with a short one; `runs` runs them,
+//! and gives plain values; and a test goes over the rows of a table.
 #![tactic(auto)]
 
 #[cfg(test)]
-mod blocks;
-#[cfg(test)]
-mod check;
+mod changes;
 #[cfg(test)]
 mod commands;
 #[cfg(test)]
-mod copy;
-#[cfg(test)]
-mod copy_limits;
-#[cfg(test)]
-mod each_fault;
+mod copies;
 #[cfg(test)]
 mod failing_outputs;
 #[cfg(test)]
@@ -25,32 +19,16 @@ mod faults;
 #[cfg(test)]
 mod files;
 #[cfg(test)]
-mod hex;
+mod growths;
 #[cfg(test)]
-mod hex_lines;
+mod lists;
 #[cfg(test)]
-mod hex_stores;
-#[cfg(test)]
-mod item_lines;
-#[cfg(test)]
-mod limited;
-#[cfg(test)]
-mod list;
-#[cfg(test)]
-mod names;
-#[cfg(test)]
-mod pdb;
-#[cfg(test)]
-mod ranges;
-#[cfg(test)]
-mod records;
-#[cfg(test)]
-mod refusals;
+mod prints;
 #[cfg(test)]
 mod runs;
 #[cfg(test)]
 mod same;
 #[cfg(test)]
-mod stores;
+mod texts;
 #[cfg(test)]
 mod watched;

@@ -1,0 +1,28 @@
+//! What is printed of the files that more than one test reads.
+
+/// A list of the file of `module_file`, with the line of its CodeView record.
+pub const SYMBOL_LINES: &str =
+    "dump version 0x0000 streams 1 directory 32 checksum 0 time 0 flags 0x0000000000000000
+stream 0 type 4 size 112 rva 44
+module 0 base 0x0000000000000000 size 0 checksum 0 time 0 version 0.0.0.0 cv inside 30@156 misc empty name none
+pdb 00112233-4455-6677-8899-aabbccddeeff age 1 name \"a.pdb\"\n";
+
+/// The same, where the name of the record is cut.
+pub const CUT_LINES: &str =
+    "dump version 0x0000 streams 1 directory 32 checksum 0 time 0 flags 0x0000000000000000
+stream 0 type 4 size 112 rva 44
+module 0 base 0x0000000000000000 size 0 checksum 0 time 0 version 0.0.0.0 cv inside 30@156 misc empty name none
+pdb 00112233-4455-6677-8899-aabbccddeeff age 1 name \"a.\" cut\n";
+
+/// A list of the file of `SIX`.
+pub const SIX_TEXT: &str =
+    "dump version 0x0000 streams 6 directory 32 checksum 0 time 0 flags 0x0000000000000000
+stream 0 type 7 size 56 rva 104
+system architecture 9 level 6 revision 3 processors 4 product 1 version 6.1.7601 platform 2 suite 256 csd \"Service Pack 1\"
+stream 1 type 3 size 52 rva 196
+thread 0 id 7 suspend 0 class 32 priority 0 teb 0x0000000000005000 stack 0x0000000000007000 inside 4@248 context inside 6@252
+stream 2 type 4 size 4 rva 260
+stream 3 type 6 size 168 rva 264
+exception thread 7 code 0xc0000005 flags 0 record 0x0000000000000000 address 0x0000000000401000 parameters 2 0x0000000000000001 0x0000000000000010 context inside 4@432
+stream 4 type 5 size 4 rva 436
+stream 5 type 12 size 4 rva 440\n";
