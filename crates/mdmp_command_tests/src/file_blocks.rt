@@ -1,6 +1,6 @@
 //! Small reads of a file of the system, and how many calls of the system they take.
 use crate::failing_system::{FailingSystem, FileCalls};
-use crate::same::{assert_same, assert_same_at};
+use crate::same::assert_same_at;
 use crate::spread_files::write_spread;
 use mdmp_source::{FileStore, Source, Store};
 use std::alloc::AllocGlobal;
@@ -242,5 +242,5 @@ fn calls_of_names(rt: &(impl Files + AllocGlobal + Abort)) -> u64 {
 fn names_that_stand_together_take_few_calls(rt: HostRuntime) {
     write_spread(&rt, "names", &[(NAMES * NAME - 1, b"\0")]);
     // It is opened, asked for its size, and sought; five blocks that grow and 22 of 16 KiB hold the names.
-    assert_same(&rt, calls_of_names(&rt), 30);
+    assert_same_at(&rt, &"names", calls_of_names(&rt), 30);
 }

@@ -1,13 +1,13 @@
 //! Command lines over files of the system, of which each call fails in turn.
+use crate::commands::{CommandEnd, GOOD, ended, made_by, out_of};
 use crate::failing_system::{FailingSystem, FileCalls};
-use crate::files::{is_there, remove_file, write_file};
-use crate::runs::{CommandEnd, ended, new_out, status_of};
-use crate::same::{assert_same, assert_same_at, assert_that};
+use crate::files::write_files;
+use crate::same::assert_same_at;
 use crate::spread_files::{SPREAD_MEMORY, SPREAD_NAME, SPREAD_SYSTEM, SPREAD_TEXT, write_spread};
 use mdmp_source::{FileStore, Store};
-use mdmp_test_support::{BY_SEVEN, MEMORY64, SYSTEM, SYSTEM_TEXT, WIDE_TEXT};
-use std::alloc::{Alloc, AllocGlobal, Global};
-use std::fs;
+use mdmp_test_support::{SYSTEM, SYSTEM_TEXT, WIDE_TEXT};
+use mdmp_tool::run_words;
+use std::alloc::{AllocGlobal, Global};
 use std::process::Abort;
 use std::rt::Files;
 
@@ -24,84 +24,68 @@ fn run_failing<R: Files + AllocGlobal + Abort>(
         calls: &calls,
         fail_at,
     };
-    let mut out = new_out(rt, alloc, BY_SEVEN);
-    let mut err = new_out(rt, alloc, BY_SEVEN);
-    let status = status_of(&system, alloc, words, &mut out, &mut err);
+    let mut out = out_of(rt, alloc, GOOD.out);
+    let mut err = out_of(rt, alloc, GOOD.err);
+    let status = run_words(&system, alloc, words, &mut out, &mut err);
     ended(rt, alloc, status, &out, &err)
 }
 
-/// What is told of the calls that fail, one behind the other: the number behind the last of them, and the
-/// first words.
-type ToldCalls<'a> = &'a [(u64, &'a str)];
+/// The number behind the last of some calls, and what is told where one of them fails.
+type FailingCalls<'a> = (u64, &'a str);
 
-/// The first words of what is told of this call, or nothing, if there is no such call.
-fn told_of<'a>(told: ToldCalls<'a>, call: u64) -> Option<&'a str> {
-    for &(last, line) in told {
-        if call < last {
-            return Some(line);
-        }
-    }
-    None
-}
+/// A command line, what it prints, the file that it makes, if it makes one, and what is told of its calls.
+type CallsRow<'a> = (
+    &'a [&'a str],
+    &'a str,
+    Option<&'a [u8]>,
+    &'a [FailingCalls<'a>],
+);
 
-/// Asserts that a command line failed behind a first part of the text, and told so by these first words.
-fn assert_failed(rt: &impl Abort, words: &[&str], ended: &CommandEnd, line: &str, text: &str) {
-    let is_start = text.starts_with(ended.text.as_str());
-    let is_told = ended.told.starts_with(line);
-    let found = (ended.status, is_start, is_told);
-    assert_same_at(rt, &(words, ended.told.as_str()), found, (3, true, true))
-}
-
-/// Asserts that a call of the system that fails is told, by these first words, behind a first part of the
-/// text, and that the command line ends well where none fails.
-fn assert_told_at<R: Files + AllocGlobal + Abort>(
+/// Asserts how a command line ends where this call fails: with this status and this told, behind a first part of what
+/// is printed or made. What is copied is opened before the copy is made.
+fn assert_at<R: Files + AllocGlobal + Abort>(
     rt: &R,
     alloc: Global,
-    words: &[&str],
+    (words, text, made, _): CallsRow<'_>,
     call: u64,
-    told: Option<&str>,
-    text: &str,
+    (status, told): (u8, &str),
 ) {
-    let ended = run_failing(rt, alloc, words, call);
-    match told {
-        Some(line) => assert_failed(rt, words, &ended, line, text),
-        None => assert_same_at(rt, &words, (ended.status, ended.text.as_str()), (0, text)),
-    }
+    let end = run_failing(rt, alloc, words, call);
+    assert_same_at(
+        rt,
+        &(words, call),
+        (end.status, end.told.as_str()),
+        (status, told),
+    );
+    let copy = made_by(rt);
+    let is_made = made.is_some() && !told.starts_with("mdmp: cannot ");
+    assert_same_at(rt, &(words, call), copy.is_some(), is_made);
+    let copy = copy.unwrap_or(Vec::new(alloc));
+    let is_start = text.starts_with(end.text.as_str())
+        && made.unwrap_or(b"").starts_with(copy.as_slice());
+    let size = end.text.len().saturating_add(copy.len());
+    let whole = text.len().saturating_add(made.unwrap_or(b"").len());
+    let found = (is_start, status == 3 || size == whole);
+    assert_same_at(rt, &(words, call), found, (true, true));
 }
 
-/// Asserts that each call of the system that fails is told, by these first words up to these calls, behind a
-/// first part of the text, and that the command line ends well where none fails.
-fn assert_told<R: Files + AllocGlobal + Abort>(
-    rt: &R,
-    alloc: Global,
-    words: &[&str],
-    told: ToldCalls<'_>,
-    text: &str,
-) {
-    for call in 0..40 {
-        let line = told_of(told, call);
-        assert_told_at(rt, alloc, words, call, line, text);
-        if line.is_none() {
-            return;
+/// Asserts that each call of the system that fails is told, and that the command line ends well where none does.
+fn assert_calls<R: Files + AllocGlobal + Abort>(rt: &R, alloc: Global, rows: &[CallsRow<'_>]) {
+    for row in rows {
+        let mut first = 0;
+        for &(end, told) in row.3 {
+            for call in first..end {
+                assert_at(rt, alloc, *row, call, (3, told));
+            }
+            first = end;
         }
+        assert_at(rt, alloc, *row, first, (0, ""));
     }
-    panic!(rt; "too many calls")
 }
 
-/// A small file is opened, asked for its size, and read into a block.
-const SMALL_SYSTEM: [(u64, &str); 2] = [
-    (2, "mdmp: cannot open system.dmp\n"),
-    (4, "mdmp: store failed at 0\n"),
-];
-
-const SMALL_MEMORY: [(u64, &str); 2] = [
-    (2, "mdmp: cannot open wide.dmp\n"),
-    (4, "mdmp: store failed at 0\n"),
-];
-
-/// Where no block holds two parts, the header is sought and read, the directory, the system, and the length of
-/// its name, whose text stands in one block with that.
-const SPREAD_LISTED: [(u64, &str); 5] = [
+/// Where no block holds two parts, the header is sought and read, the directory, the system, and the length of its
+/// name, whose text stands in one block with that.
+const SPREAD_LISTED: [FailingCalls<'static>; 5] = [
     (2, "mdmp: cannot open spread.dmp\n"),
     (4, "mdmp: store failed at 0\n"),
     (6, "mdmp: store failed at 20000\n"),
@@ -109,135 +93,116 @@ const SPREAD_LISTED: [(u64, &str); 5] = [
     (10, "mdmp: store failed at 60000\n"),
 ];
 
-/// The text of a name alone is read where a block ends behind its length: the file stands there.
-const NAME_LISTED: [(u64, &str); 5] = [
-    (2, "mdmp: cannot open name.dmp\n"),
+/// A small file is opened, asked for its size, and read into a block.
+const SMALL: [FailingCalls<'static>; 2] = [
+    (2, "mdmp: cannot open system.dmp\n"),
     (4, "mdmp: store failed at 0\n"),
-    (6, "mdmp: store failed at 20000\n"),
-    (8, "mdmp: store failed at 40000\n"),
-    (9, "mdmp: store failed at 40512\n"),
 ];
 
-/// Behind the heads of the lists they are sought again, and then the memory.
-const SPREAD_PRINTED: [(u64, &str); 8] = [
-    (2, "mdmp: cannot open memory.dmp\n"),
-    (4, "mdmp: store failed at 0\n"),
-    (6, "mdmp: store failed at 20000\n"),
-    (8, "mdmp: store failed at 40000\n"),
-    (10, "mdmp: store failed at 60000\n"),
-    (12, "mdmp: store failed at 40000\n"),
-    (14, "mdmp: store failed at 60000\n"),
-    (16, "mdmp: store failed at 100000\n"),
-];
-
-/// Command lines, what is told of the calls of each, and what each prints.
-const LINES: [(&[&str], ToldCalls<'static>, &str); 9] = [
-    (&["list", "system.dmp"], &SMALL_SYSTEM, SYSTEM_TEXT),
-    (&["list", "system.dmp", "--pdb"], &SMALL_SYSTEM, SYSTEM_TEXT),
-    (&["check", "system.dmp"], &SMALL_SYSTEM, "entry 0: ok\n"),
+const PRINTS: [CallsRow<'static>; 9] = [
+    (&["list", "system.dmp"], SYSTEM_TEXT, None, &SMALL),
+    (&["list", "system.dmp", "--pdb"], SYSTEM_TEXT, None, &SMALL),
+    (&["check", "system.dmp"], "entry 0: ok\n", None, &SMALL),
     (
         &["hex", "wide.dmp", "0x1000", "4"],
-        &SMALL_MEMORY,
         WIDE_TEXT,
+        None,
+        &[
+            (2, "mdmp: cannot open wide.dmp\n"),
+            (4, "mdmp: store failed at 0\n"),
+        ],
     ),
-    (&["list", "spread.dmp"], &SPREAD_LISTED, SPREAD_TEXT),
+    (&["list", "spread.dmp"], SPREAD_TEXT, None, &SPREAD_LISTED),
     (
         &["list", "spread.dmp", "--pdb"],
-        &SPREAD_LISTED,
         SPREAD_TEXT,
+        None,
+        &SPREAD_LISTED,
     ),
-    (&["check", "spread.dmp"], &SPREAD_LISTED, "entry 0: ok\n"),
-    (&["list", "name.dmp"], &NAME_LISTED, SPREAD_TEXT),
+    (
+        &["check", "spread.dmp"],
+        "entry 0: ok\n",
+        None,
+        &SPREAD_LISTED,
+    ),
+    // The text of a name alone is read where a block ends behind its length: the file stands there.
+    (
+        &["list", "name.dmp"],
+        SPREAD_TEXT,
+        None,
+        &[
+            (2, "mdmp: cannot open name.dmp\n"),
+            (4, "mdmp: store failed at 0\n"),
+            (6, "mdmp: store failed at 20000\n"),
+            (8, "mdmp: store failed at 40000\n"),
+            (9, "mdmp: store failed at 40512\n"),
+        ],
+    ),
+    // Behind the heads of the lists they are sought again, and then the memory.
     (
         &["hex", "memory.dmp", "0x1000", "4"],
-        &SPREAD_PRINTED,
         WIDE_TEXT,
+        None,
+        &[
+            (2, "mdmp: cannot open memory.dmp\n"),
+            (4, "mdmp: store failed at 0\n"),
+            (6, "mdmp: store failed at 20000\n"),
+            (8, "mdmp: store failed at 40000\n"),
+            (10, "mdmp: store failed at 60000\n"),
+            (12, "mdmp: store failed at 40000\n"),
+            (14, "mdmp: store failed at 60000\n"),
+            (16, "mdmp: store failed at 100000\n"),
+        ],
     ),
 ];
 
 #[test]
 fn each_call_behind_a_print_may_fail(rt: HostRuntime) {
-    write_file(&rt, "system.dmp", &SYSTEM);
-    write_file(&rt, "wide.dmp", &MEMORY64);
+    write_files(&rt, rt.alloc());
     write_spread(&rt, "spread.dmp", &SPREAD_SYSTEM);
     write_spread(&rt, "name.dmp", &SPREAD_NAME);
     write_spread(&rt, "memory.dmp", &SPREAD_MEMORY);
-    for &(words, told, text) in &LINES {
-        assert_told(&rt, rt.alloc(), words, told, text);
-    }
+    assert_calls(&rt, rt.alloc(), &PRINTS);
 }
 
-/// Asserts that the copy that stands there has the first bytes of the system, and tells how many, or
-/// nothing, if there is none.
-fn size_copied<R: Files + Alloc + Abort>(rt: &R) -> Option<usize> {
-    if !is_there(rt, "calls.dmp") {
-        return None;
-    }
-    let copy = fs::read(rt, "calls.dmp").expect(rt, "a file");
-    assert_that(rt, SYSTEM.starts_with(copy.as_slice()));
-    Some(copy.len())
-}
-
-/// The lines that tell of a file, a store or an output.
-const FAILURES: [&str; 5] = [
-    "mdmp: cannot open system.dmp\n",
-    "mdmp: cannot open spread.dmp\n",
-    "mdmp: cannot create calls.dmp\n",
-    "mdmp: store failed at ",
-    "mdmp: output failed\n",
+/// What is copied is opened and asked for its size, and the copy made.
+const COPIES: [CallsRow<'static>; 2] = [
+    (
+        &["copy", "system.dmp", "copy.dmp", "7"],
+        "",
+        Some(&SYSTEM),
+        &[
+            (2, "mdmp: cannot open system.dmp\n"),
+            (3, "mdmp: cannot create copy.dmp\n"),
+            (5, "mdmp: store failed at 0\n"),
+            (6, "mdmp: output failed\n"),
+        ],
+    ),
+    (
+        &["copy", "spread.dmp", "copy.dmp", "7"],
+        "",
+        Some(&SYSTEM),
+        &[
+            (2, "mdmp: cannot open spread.dmp\n"),
+            (3, "mdmp: cannot create copy.dmp\n"),
+            (5, "mdmp: store failed at 0\n"),
+            (7, "mdmp: store failed at 20000\n"),
+            (9, "mdmp: store failed at 40000\n"),
+            (11, "mdmp: store failed at 60000\n"),
+            (13, "mdmp: store failed at 40000\n"),
+            (15, "mdmp: store failed at 60000\n"),
+            (17, "mdmp: store failed at 40000\n"),
+            (19, "mdmp: store failed at 60000\n"),
+            (20, "mdmp: output failed\n"),
+        ],
+    ),
 ];
-
-/// Whether this is a line that tells of a file, a store or an output.
-fn is_failure(line: &str) -> bool {
-    for start in &FAILURES {
-        if line.starts_with(*start) {
-            return true;
-        }
-    }
-    false
-}
-
-/// Asserts that a copy of which this call fails tells so and leaves a first part, or ends well. Tells
-/// whether there was such a call.
-fn is_copy_failed<R: Files + AllocGlobal + Abort>(
-    rt: &R,
-    alloc: Global,
-    name: &str,
-    call: u64,
-) -> bool {
-    remove_file(rt, "calls.dmp");
-    let words = ["copy", name, "calls.dmp", "7"];
-    let ended = run_failing(rt, alloc, &words, call);
-    let size = size_copied(rt);
-    if ended.status == 0 {
-        assert_same(rt, size, Some(SYSTEM.len()));
-        return false;
-    }
-    let is_told = is_failure(ended.told.as_str());
-    let found = (ended.status, is_told);
-    assert_same_at(rt, &(call, ended.told.as_str()), found, (3, true));
-    // The file that is read is opened, and asked for its size, before the copy is made.
-    assert_same_at(rt, &call, size.is_none(), call < 3);
-    true
-}
-
-/// How many calls of a copy of this file may fail, one after the other.
-fn calls_of_copy<R: Files + AllocGlobal + Abort>(rt: &R, alloc: Global, name: &str) -> u64 {
-    for call in 0..60 {
-        if !is_copy_failed(rt, alloc, name, call) {
-            return call;
-        }
-    }
-    panic!(rt; "too many calls")
-}
 
 #[test]
 fn each_call_behind_a_copy_may_fail(rt: HostRuntime) {
-    write_file(&rt, "system.dmp", &SYSTEM);
+    write_files(&rt, rt.alloc());
     write_spread(&rt, "spread.dmp", &SPREAD_SYSTEM);
-    for name in ["system.dmp", "spread.dmp"] {
-        assert_that(&rt, calls_of_copy(&rt, rt.alloc(), name) > 3);
-    }
+    assert_calls(&rt, rt.alloc(), &COPIES);
 }
 
 /// How many bytes the file of this name has, where the call of this number fails.
@@ -254,18 +219,12 @@ fn size_without<R: Files + AllocGlobal>(rt: &R, name: &str, fail_at: u64) -> Opt
     }
 }
 
-/// Asserts how many bytes the system's file has, where the first call fails, the second, and so on.
-fn assert_sizes(rt: &(impl Files + AllocGlobal + Abort), sizes: &[Option<u64>]) {
-    let mut call: u64 = 0;
-    for size in sizes {
-        assert_same_at(rt, &call, size_without(rt, "system.dmp", call), *size);
-        call = call.saturating_add(1);
-    }
-}
-
 #[test]
 fn file_store_open_tells_each_call_that_fails(rt: HostRuntime) {
-    write_file(&rt, "system.dmp", &SYSTEM);
+    write_files(&rt, rt.alloc());
     // It is opened, and asked for its size.
-    assert_sizes(&rt, &[None, None, Some(136)]);
+    for (call, size) in [(0, None), (1, None), (2, Some(136))] {
+        let found = size_without(&rt, "system.dmp", call);
+        assert_same_at(&rt, &call, found, size);
+    }
 }

@@ -12,7 +12,7 @@ use mdmp_test_support::{
     CODEVIEW_RECORD, CRASH, FAULTY, FAULTY_TEXT, FAULTY_TOLD, FAULTY_VERDICTS, ListedRange,
     MEMORY64, Room, SIX, SYSTEM, SYSTEM_TEXT, WIDE_TEXT,
 };
-use mdmp_tool::ToolFault;
+use mdmp_tool::{LINE_ROOM, ToolFault};
 use std::alloc::Global;
 use std::process::Abort;
 
@@ -144,7 +144,7 @@ fn assert_last_block_refused(rt: &impl Abort, alloc: Global) {
         all: 100,
         call: 100,
     };
-    let run = run_within(Task::List, CallWay::Blocks(1000), USUAL);
+    let run = run_within(Task::List, CallWay::Blocks(2 * LINE_ROOM), USUAL);
     let bytes = bytes_of(rt, alloc, &File::Numbers(3, &FAULTY));
     let outcome = run_bytes(rt, alloc, &bytes, &CommandRun { room, ..run });
     let start = first_of(rt, FAULTY_TEXT.as_bytes(), 100);

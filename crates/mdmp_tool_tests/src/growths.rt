@@ -12,7 +12,7 @@ use mdmp_test_support::{
     CODEVIEW_RECORD, CRASH, FAULTY, FAULTY_TEXT, FAULTY_VERDICTS, MEMORY64, MODULE_FILE_TEXT, Room,
     SIX, SYSTEM, SYSTEM_TEXT, WIDE_TEXT,
 };
-use mdmp_tool::{OpenFault, ToolFault};
+use mdmp_tool::{LINE_ROOM, OpenFault, ToolFault};
 use std::alloc::Global;
 use std::process::Abort;
 
@@ -84,12 +84,12 @@ fn assert_rows(rt: &impl Abort, alloc: Global, rows: &[GrownRow<'_>]) {
 const LIST_WAYS: [CallWay; 4] = [
     CallWay::Store,
     CallWay::Source,
-    CallWay::Blocks(7),
+    CallWay::Blocks(LINE_ROOM + 7),
     CallWay::Items,
 ];
 
 /// The ways of a command that has no items.
-const PRINT_WAYS: [CallWay; 3] = [CallWay::Store, CallWay::Source, CallWay::Blocks(7)];
+const PRINT_WAYS: [CallWay; 3] = [CallWay::Store, CallWay::Source, CallWay::Blocks(LINE_ROOM + 7)];
 
 const GOOD: File<'static> = File::Bytes(&SYSTEM);
 

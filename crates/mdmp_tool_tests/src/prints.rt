@@ -7,7 +7,7 @@ use mdmp_test_support::{
     ABCD_RANGE, FAULTY, FAULTY_TEXT, FAULTY_VERDICTS, ListedRange, MEMORY64, NO_RANGE, SYSTEM,
     SYSTEM_TEXT, WIDE_TEXT, WXYZ_RANGE,
 };
-use mdmp_tool::{FaultKind, ListFault, OpenFault, ToolFault};
+use mdmp_tool::{FaultKind, LINE_ROOM, ListFault, OpenFault, ToolFault};
 use std::alloc::Global;
 use std::process::Abort;
 
@@ -86,7 +86,7 @@ const CHECKS_AND_LISTS: [PrintRow<'static>; 19] = [
     (
         BAD_TWICE,
         Task::Check,
-        CallWay::Blocks(1),
+        CallWay::Blocks(LINE_ROOM),
         USUAL,
         Ok(2),
         FAULTY_VERDICTS,
@@ -95,7 +95,7 @@ const CHECKS_AND_LISTS: [PrintRow<'static>; 19] = [
     (
         BAD_TWICE,
         Task::Check,
-        CallWay::Blocks(7),
+        CallWay::Blocks(LINE_ROOM + 7),
         USUAL,
         Ok(2),
         FAULTY_VERDICTS,
@@ -104,7 +104,7 @@ const CHECKS_AND_LISTS: [PrintRow<'static>; 19] = [
     (
         BAD_TWICE,
         Task::Check,
-        CallWay::Blocks(100),
+        CallWay::Blocks(LINE_ROOM + 100),
         USUAL,
         Ok(2),
         FAULTY_VERDICTS,
@@ -113,7 +113,7 @@ const CHECKS_AND_LISTS: [PrintRow<'static>; 19] = [
     (
         BAD_TWICE,
         Task::Check,
-        CallWay::Blocks(1000),
+        CallWay::Blocks(4096),
         USUAL,
         Ok(2),
         FAULTY_VERDICTS,
@@ -122,7 +122,7 @@ const CHECKS_AND_LISTS: [PrintRow<'static>; 19] = [
     (
         GOOD,
         Task::List,
-        CallWay::Blocks(1),
+        CallWay::Blocks(LINE_ROOM),
         USUAL,
         Ok(0),
         SYSTEM_TEXT,
@@ -131,7 +131,7 @@ const CHECKS_AND_LISTS: [PrintRow<'static>; 19] = [
     (
         GOOD,
         Task::List,
-        CallWay::Blocks(7),
+        CallWay::Blocks(LINE_ROOM + 7),
         USUAL,
         Ok(0),
         SYSTEM_TEXT,
@@ -140,7 +140,7 @@ const CHECKS_AND_LISTS: [PrintRow<'static>; 19] = [
     (
         GOOD,
         Task::List,
-        CallWay::Blocks(100),
+        CallWay::Blocks(LINE_ROOM + 100),
         USUAL,
         Ok(0),
         SYSTEM_TEXT,
@@ -149,7 +149,7 @@ const CHECKS_AND_LISTS: [PrintRow<'static>; 19] = [
     (
         GOOD,
         Task::List,
-        CallWay::Blocks(1000),
+        CallWay::Blocks(4096),
         USUAL,
         Ok(0),
         SYSTEM_TEXT,
@@ -158,7 +158,7 @@ const CHECKS_AND_LISTS: [PrintRow<'static>; 19] = [
     (
         BAD_TWICE,
         Task::List,
-        CallWay::Blocks(1),
+        CallWay::Blocks(LINE_ROOM),
         USUAL,
         Err(BAD_NAME),
         FAULTY_TEXT,
@@ -167,7 +167,7 @@ const CHECKS_AND_LISTS: [PrintRow<'static>; 19] = [
     (
         BAD_TWICE,
         Task::List,
-        CallWay::Blocks(7),
+        CallWay::Blocks(LINE_ROOM + 7),
         USUAL,
         Err(BAD_NAME),
         FAULTY_TEXT,
@@ -176,7 +176,7 @@ const CHECKS_AND_LISTS: [PrintRow<'static>; 19] = [
     (
         BAD_TWICE,
         Task::List,
-        CallWay::Blocks(100),
+        CallWay::Blocks(LINE_ROOM + 100),
         USUAL,
         Err(BAD_NAME),
         FAULTY_TEXT,
@@ -185,7 +185,7 @@ const CHECKS_AND_LISTS: [PrintRow<'static>; 19] = [
     (
         BAD_TWICE,
         Task::List,
-        CallWay::Blocks(1000),
+        CallWay::Blocks(4096),
         USUAL,
         Err(BAD_NAME),
         FAULTY_TEXT,
@@ -533,7 +533,7 @@ const MEMORY: [PrintRow<'static>; 23] = [
             address: 0x1000,
             length: 4,
         }),
-        CallWay::Blocks(1),
+        CallWay::Blocks(LINE_ROOM),
         USUAL,
         Ok(0),
         WIDE_TEXT,
@@ -545,7 +545,7 @@ const MEMORY: [PrintRow<'static>; 23] = [
             address: 0x1000,
             length: 4,
         }),
-        CallWay::Blocks(7),
+        CallWay::Blocks(LINE_ROOM + 7),
         USUAL,
         Ok(0),
         WIDE_TEXT,
@@ -557,7 +557,7 @@ const MEMORY: [PrintRow<'static>; 23] = [
             address: 0x1000,
             length: 4,
         }),
-        CallWay::Blocks(100),
+        CallWay::Blocks(LINE_ROOM + 100),
         USUAL,
         Ok(0),
         WIDE_TEXT,

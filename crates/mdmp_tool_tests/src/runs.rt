@@ -4,7 +4,7 @@ use crate::files::{File, bytes_of};
 use crate::same::assert_same_at;
 use mdmp_source::{MemoryStore, PatchyOut, PatchyStore, Store, TwoFaces};
 use mdmp_test_support::{HeapCounts, MeteredHeap, Refusal, Room};
-use mdmp_tool::{FaultKind, Limits, ListFault, ToolFault};
+use mdmp_tool::{FaultKind, LINE_ROOM, Limits, ListFault, ToolFault};
 use std::alloc::Global;
 use std::fmt::Debug;
 use std::process::Abort;
@@ -22,12 +22,12 @@ pub const OF_CRASH: Task<'static> = Task::Copy(&[3, 6]);
 pub const EACH_WAY: [CallWay; 4] = [
     CallWay::Store,
     CallWay::Source,
-    CallWay::Blocks(64),
+    CallWay::Blocks(LINE_ROOM),
     CallWay::Items,
 ];
 
 /// The ways of a command that has no items.
-pub const WITHOUT_ITEMS: [CallWay; 3] = [CallWay::Store, CallWay::Source, CallWay::Blocks(64)];
+pub const WITHOUT_ITEMS: [CallWay; 3] = [CallWay::Store, CallWay::Source, CallWay::Blocks(LINE_ROOM)];
 
 /// The ways of a copy.
 pub const COPY_WAYS: [CallWay; 2] = [CallWay::Store, CallWay::Source];

@@ -1,0 +1,255 @@
+//! How commands end: their exit status, what they print and tell, the file that they make, and what they ask of
+//! a disk in memory.
+use crate::commands::{
+    CommandCall, DiskRequests, Ending, GOOD, Outlet, Shown, Trial, assert_end, run, written,
+};
+use crate::files::SmallFile;
+use crate::same::assert_same_at;
+use mdmp_test_support::{
+    FAULTY_TEXT, FAULTY_TOLD, FAULTY_VERDICTS, Room, SYSTEM, SYSTEM_TEXT, WIDE_TEXT,
+};
+use std::alloc::{AllocGlobal, Global};
+use std::io::ErrorKind;
+use std::process::Abort;
+use std::rt::Files;
+
+/// A command, how it ends, which bytes its file has, if it makes one, and what it asks of the disk.
+type EndingRow<'a> = (CommandCall<'a>, Ending<'a>, Option<&'a [u8]>, DiskRequests);
+
+/// The requests of a command that has no disk, or asks nothing of it.
+const NO_REQUEST: DiskRequests = (0, 0, 0);
+
+/// The memory lists of the file with faults, of which it has none, are good.
+const UNKNOWN: Ending<'static> = (0, "0x0000000000000010: ?? ??\n", "");
+
+/// The words of a copy.
+const COPY: CommandCall<'static> = CommandCall::Line(&["copy", "system.dmp", "copy.dmp", "7"]);
+
+const ROWS: [EndingRow<'static>; 21] = [
+    (
+        CommandCall::Print(Shown::Verdicts, SmallFile::System),
+        (0, "entry 0: ok\n", ""),
+        None,
+        NO_REQUEST,
+    ),
+    (
+        CommandCall::Print(Shown::Items, SmallFile::System),
+        (0, SYSTEM_TEXT, ""),
+        None,
+        NO_REQUEST,
+    ),
+    (
+        CommandCall::Print(Shown::Verdicts, SmallFile::Faulty),
+        (1, FAULTY_VERDICTS, "mdmp: 2 bad entries\n"),
+        None,
+        NO_REQUEST,
+    ),
+    (
+        CommandCall::Print(Shown::ItemsAndSymbols, SmallFile::Faulty),
+        (1, FAULTY_TEXT, FAULTY_TOLD),
+        None,
+        NO_REQUEST,
+    ),
+    (
+        CommandCall::Print(Shown::Memory, SmallFile::Faulty),
+        UNKNOWN,
+        None,
+        NO_REQUEST,
+    ),
+    (
+        CommandCall::Copy(&[7], SmallFile::System),
+        (0, "", ""),
+        Some(&SYSTEM),
+        NO_REQUEST,
+    ),
+    (
+        CommandCall::Copy(&[3, 12], SmallFile::Six),
+        (2, "", "mdmp: type 12 is not copied\n"),
+        Some(b""),
+        NO_REQUEST,
+    ),
+    (
+        CommandCall::Line(&["list", "system.dmp"]),
+        (0, SYSTEM_TEXT, ""),
+        None,
+        (1, 0, 0),
+    ),
+    (
+        CommandCall::Line(&["check", "system.dmp"]),
+        (0, "entry 0: ok\n", ""),
+        None,
+        (1, 0, 0),
+    ),
+    (
+        CommandCall::Line(&["hex", "system.dmp", "0x10", "1"]),
+        (0, "0x0000000000000010: ??\n", ""),
+        None,
+        (1, 0, 0),
+    ),
+    (
+        CommandCall::Line(&["hex", "wide.dmp", "0x1000", "4"]),
+        (0, WIDE_TEXT, ""),
+        None,
+        (1, 0, 0),
+    ),
+    (
+        CommandCall::Line(&["list", "empty.dmp"]),
+        (1, "", "mdmp: file of 0 bytes is too short\n"),
+        None,
+        (1, 0, 0),
+    ),
+    (
+        CommandCall::Line(&["list", "other.dmp"]),
+        (3, "", "mdmp: cannot open other.dmp\n"),
+        None,
+        (0, 0, 1),
+    ),
+    // What is copied is not there, and the copy would be.
+    (
+        CommandCall::Line(&["copy", "other.dmp", "system.dmp", "7"]),
+        (3, "", "mdmp: cannot open other.dmp\n"),
+        None,
+        (0, 0, 1),
+    ),
+    // A file is there already.
+    (
+        CommandCall::Line(&["copy", "system.dmp", "empty.dmp", "7"]),
+        (3, "", "mdmp: cannot create empty.dmp\n"),
+        None,
+        (1, 0, 1),
+    ),
+    // It is the same.
+    (
+        CommandCall::Line(&["copy", "system.dmp", "system.dmp", "7"]),
+        (3, "", "mdmp: cannot create system.dmp\n"),
+        None,
+        (1, 0, 1),
+    ),
+    // A type is refused.
+    (
+        CommandCall::Line(&["copy", "system.dmp", "copy.dmp", "12"]),
+        (2, "", "mdmp: type 12 is not copied\n"),
+        None,
+        NO_REQUEST,
+    ),
+    (COPY, (0, "", ""), Some(&SYSTEM), (1, 1, 0)),
+    (
+        CommandCall::Line(&["copy", "empty.dmp", "copy.dmp", "7"]),
+        (1, "", "mdmp: file of 0 bytes is too short\n"),
+        Some(b""),
+        (1, 1, 0),
+    ),
+    (
+        CommandCall::Program(&["list", "system.dmp", "--window", "168"]),
+        (0, SYSTEM_TEXT, ""),
+        None,
+        (1, 0, 0),
+    ),
+    (
+        CommandCall::Program(&["list", "system.dmp", "--window", "167"]),
+        (2, "", "mdmp: bad command line\n"),
+        None,
+        NO_REQUEST,
+    ),
+];
+
+/// Arguments that cannot be had: one is no text, or memory runs out.
+const UNREAD: [EndingRow<'static>; 2] = [
+    (
+        CommandCall::NoArguments(ErrorKind::InvalidData),
+        (2, "", "mdmp: bad command line\n"),
+        None,
+        NO_REQUEST,
+    ),
+    (
+        CommandCall::NoArguments(ErrorKind::OutOfMemory),
+        (3, "", "mdmp: out of memory\n"),
+        None,
+        NO_REQUEST,
+    ),
+];
+
+/// An output that takes nothing.
+const TAKES_NOTHING: Outlet = Outlet {
+    room: Room { all: 0, call: 7 },
+    fail_at: None,
+};
+
+/// Asserts how a command ends whose output for what is told is this one.
+fn assert_ends<R: Files + AllocGlobal + Abort>(
+    rt: &R,
+    alloc: Global,
+    (call, wanted, made, requests): EndingRow<'_>,
+    trial: &Trial,
+) {
+    let ran = run(rt, alloc, call, trial);
+    assert_end(rt, &wanted, &ran.end, wanted);
+    assert_same_at(rt, &wanted, ran.made.is_some(), made.is_some());
+    let bytes = made.unwrap_or(wanted.1.as_bytes());
+    assert_same_at(rt, &wanted, written(&ran), bytes);
+    assert_same_at(rt, &wanted, ran.requests, requests);
+}
+
+/// Asserts how commands end, and that an output that takes nothing of what is told changes nothing.
+fn assert_each_ends<R: Files + AllocGlobal + Abort>(rt: &R, alloc: Global, rows: &[EndingRow<'_>]) {
+    let untold = Trial {
+        err: TAKES_NOTHING,
+        ..GOOD
+    };
+    for &(call, (status, text, told), made, requests) in rows {
+        let wanted = (status, text, told);
+        assert_ends(rt, alloc, (call, wanted, made, requests), &GOOD);
+        let wanted = (status, text, "");
+        assert_ends(rt, alloc, (call, wanted, made, requests), &untold);
+    }
+}
+
+#[test]
+fn commands_succeed_or_tell_why(rt: HostRuntime) {
+    assert_each_ends(&rt, rt.alloc(), &ROWS);
+}
+
+#[test]
+fn no_text_and_want_of_memory_for_the_arguments_are_told(rt: HostRuntime) {
+    assert_each_ends(&rt, rt.alloc(), &UNREAD);
+}
+
+/// Words that are refused, whoever judges them.
+const REFUSED: [CommandCall<'static>; 8] = [
+    CommandCall::Line(&[]),
+    CommandCall::Line(&["list"]),
+    CommandCall::Line(&["list", "system.dmp", "--window", "167"]),
+    CommandCall::Line(&["hex", "system.dmp", "0x", "1"]),
+    CommandCall::Line(&["hex", "system.dmp", "0xffffffffffffffff", "2"]),
+    CommandCall::Line(&["copy", "system.dmp", "copy.dmp"]),
+    // A program without arguments has no words.
+    CommandCall::Arguments(&[]),
+    CommandCall::Arguments(&["list"]),
+];
+
+/// Asserts that words are refused, and ask nothing of the disk.
+fn assert_refused<R: Files + AllocGlobal + Abort>(
+    rt: &R,
+    alloc: Global,
+    calls: &[CommandCall<'_>],
+) {
+    for call in calls {
+        let ran = run(rt, alloc, *call, &GOOD);
+        let is_told = !ran.end.told.is_empty();
+        let found = (ran.end.status, written(&ran).is_empty(), is_told);
+        assert_same_at(rt, &ran.end.told.as_str(), found, (2, true, true));
+        assert_same_at(rt, &ran.end.told.as_str(), ran.requests, NO_REQUEST);
+    }
+}
+
+#[test]
+fn words_that_are_refused_touch_no_file(rt: HostRuntime) {
+    assert_refused(&rt, rt.alloc(), &REFUSED);
+}
+
+#[test]
+fn copy_stands_and_is_not_made_again(rt: HostRuntime) {
+    let wanted = (3, "", "mdmp: cannot create copy.dmp\n");
+    let row: EndingRow<'_> = (COPY, wanted, Some(&SYSTEM), (2, 1, 1));
+    assert_ends(&rt, rt.alloc(), row, &Trial { times: 2, ..GOOD });
+}
