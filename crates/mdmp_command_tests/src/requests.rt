@@ -241,8 +241,8 @@ const TYPES: [AskedRow<'static>; 17] = [
     ),
 ];
 
-/// Limits, at their ends and past them, of each command.
-const LIMITED: [AskedRow<'static>; 68] = [
+/// Windows and names of each command.
+const LIMITED: [AskedRow<'static>; 15] = [
     (
         &["check", "--window", "168", "--name", "0", "a"],
         "check [a]",
@@ -353,6 +353,10 @@ const LIMITED: [AskedRow<'static>; 68] = [
         "copy [a] [b] 3",
         " within 168 0 Some(18446744073709551615) None None",
     ),
+];
+
+/// Options of a list, at their ends and past them.
+const OPTIONS: [AskedRow<'static>; 20] = [
     (&["list", "a", "--window", "167"], "bad", NONE),
     (
         &["list", "a", "--window", "168"],
@@ -393,6 +397,10 @@ const LIMITED: [AskedRow<'static>; 68] = [
     ),
     (&["list", "a", "--budget", "-5"], "refused", NONE),
     (&["list", "a", "--limit", "5"], "refused", NONE),
+];
+
+/// Each limit is that of its option.
+const NAMED: [AskedRow<'static>; 20] = [
     (&["list", "a"], "list [a]", USUAL),
     (
         &["list", "a", "--budget", "0"],
@@ -475,31 +483,10 @@ const LIMITED: [AskedRow<'static>; 68] = [
         "copy [a] [b] 3",
         " within 65536 4096 Some(1) Some(2) None",
     ),
-    (&["list", "a", "--memory", "x"], "bad", NONE),
-    (&["list", "a", "--memory", ""], "bad", NONE),
-    (
-        &["list", "a", "--memory", "18446744073709551616"],
-        "bad",
-        NONE,
-    ),
-    (&["list", "a", "--memory", "+1"], "bad", NONE),
-    (&["list", "a", "--memory", " 1"], "bad", NONE),
-    (&["list", "a", "--memory", "0x10"], "bad", NONE),
-    (&["list", "a", "--memory", "1_0"], "bad", NONE),
-    (&["list", "a", "--aside", "x"], "bad", NONE),
-    (&["list", "a", "--aside", ""], "bad", NONE),
-    (
-        &["list", "a", "--aside", "18446744073709551616"],
-        "bad",
-        NONE,
-    ),
-    (&["list", "a", "--aside", "0x10"], "bad", NONE),
-    (&["list", "a", "--budget", "x"], "bad", NONE),
-    (&["list", "a", "--budget", ""], "bad", NONE),
 ];
 
 /// `--untrusted`, over which an option wins.
-const UNTRUSTED: [AskedRow<'static>; 25] = [
+const UNTRUSTED: [AskedRow<'static>; 11] = [
     (&["check", "a", "--untrusted"], "check [a]", STRANGERS),
     (&["list", "--untrusted", "a"], "list [a]", STRANGERS),
     (
@@ -556,8 +543,19 @@ const UNTRUSTED: [AskedRow<'static>; 25] = [
         " within 65536 4096 Some(1) Some(67108864) Some(67108864)",
     ),
     (&["list", "--", "--untrusted"], "list [--untrusted]", USUAL),
+];
+
+/// Words that are no numbers below 2^64.
+const BAD: [AskedRow<'static>; 27] = [
+    (&["list", "a", "--memory", "x"], "bad", NONE),
     (&["list", "a", "--untrusted", "--memory", "x"], "bad", NONE),
+    (&["list", "a", "--memory", ""], "bad", NONE),
     (&["list", "a", "--untrusted", "--memory", ""], "bad", NONE),
+    (
+        &["list", "a", "--memory", "18446744073709551616"],
+        "bad",
+        NONE,
+    ),
     (
         &[
             "list",
@@ -569,20 +567,31 @@ const UNTRUSTED: [AskedRow<'static>; 25] = [
         "bad",
         NONE,
     ),
+    (&["list", "a", "--memory", "+1"], "bad", NONE),
     (&["list", "a", "--untrusted", "--memory", "+1"], "bad", NONE),
+    (&["list", "a", "--memory", " 1"], "bad", NONE),
     (&["list", "a", "--untrusted", "--memory", " 1"], "bad", NONE),
+    (&["list", "a", "--memory", "0x10"], "bad", NONE),
     (
         &["list", "a", "--untrusted", "--memory", "0x10"],
         "bad",
         NONE,
     ),
+    (&["list", "a", "--memory", "1_0"], "bad", NONE),
     (
         &["list", "a", "--untrusted", "--memory", "1_0"],
         "bad",
         NONE,
     ),
+    (&["list", "a", "--aside", "x"], "bad", NONE),
     (&["list", "a", "--untrusted", "--aside", "x"], "bad", NONE),
+    (&["list", "a", "--aside", ""], "bad", NONE),
     (&["list", "a", "--untrusted", "--aside", ""], "bad", NONE),
+    (
+        &["list", "a", "--aside", "18446744073709551616"],
+        "bad",
+        NONE,
+    ),
     (
         &[
             "list",
@@ -594,12 +603,15 @@ const UNTRUSTED: [AskedRow<'static>; 25] = [
         "bad",
         NONE,
     ),
+    (&["list", "a", "--aside", "0x10"], "bad", NONE),
     (
         &["list", "a", "--untrusted", "--aside", "0x10"],
         "bad",
         NONE,
     ),
+    (&["list", "a", "--budget", "x"], "bad", NONE),
     (&["list", "a", "--untrusted", "--budget", "x"], "bad", NONE),
+    (&["list", "a", "--budget", ""], "bad", NONE),
     (&["list", "a", "--untrusted", "--budget", ""], "bad", NONE),
     (
         &[
@@ -698,8 +710,27 @@ fn request_of_succeeds(rt: HostRuntime) {
 }
 
 #[test]
-fn limits_are_those_of_the_options(rt: HostRuntime) {
+fn each_command_has_its_own_limits(rt: HostRuntime) {
     assert_asked(&rt, rt.alloc(), &LIMITED);
+}
+
+#[test]
+fn limits_are_tested_at_their_ends(rt: HostRuntime) {
+    assert_asked(&rt, rt.alloc(), &OPTIONS);
+}
+
+#[test]
+fn each_limit_is_that_of_its_option(rt: HostRuntime) {
+    assert_asked(&rt, rt.alloc(), &NAMED);
+}
+
+#[test]
+fn word_that_is_no_number_is_bad(rt: HostRuntime) {
+    assert_asked(&rt, rt.alloc(), &BAD);
+}
+
+#[test]
+fn option_wins_over_untrusted(rt: HostRuntime) {
     assert_asked(&rt, rt.alloc(), &UNTRUSTED);
 }
 
