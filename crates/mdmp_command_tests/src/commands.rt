@@ -7,10 +7,11 @@ ghost use Rattle.mdmp_words.specs.Requests.{IsPrintable};
 use crate::files::{SmallFile, bytes_of, remove_file};
 use crate::same::assert_same_at;
 use mdmp_disk::{Disk, GivenFile, MemoryDisk};
-use mdmp_source::{BlockOut, PatchyOut, PatchyStore, Source};
+use mdmp_source::{PatchyOut, PatchyStore, Source};
 use mdmp_test_support::{FOR_LONG_TEXT, HeapCounts, MEMORY64, MeteredHeap, Refusal, Room, SYSTEM};
 use mdmp_tool::{
-    Limits, LineForm, Print, Span, TypeSet, copy_told, print_told, run_args, run_on_disk, run_words,
+    LINE_ROOM, Limits, LineForm, LineOut, Print, Span, TypeSet, copy_told, print_told, run_args,
+    run_on_disk, run_words,
 };
 use std::alloc::{AllocGlobal, Global};
 use std::fmt::Debug;
@@ -169,7 +170,7 @@ fn print_of(shown: Shown) -> Print
     }
 }
 
-/// The status of a command that prints, in blocks of sixteen bytes.
+/// The status of a command that prints, in the smallest blocks.
 fn print_status(
     rt: &impl Abort,
     alloc: Global,
@@ -180,9 +181,8 @@ fn print_status(
     out: &mut PatchyOut<Global>,
     err: &mut PatchyOut<Global>,
 ) -> u8 {
-    let mut blocks = BlockOut::with_room(alloc, 16, out)
-        .ok()
-        .expect(rt, "memory for a block");
+    let mut buffer = vec![in alloc; 0; LINE_ROOM].expect(rt, "memory for a block");
+    let mut blocks = LineOut::over(&mut buffer, out);
     let source = Source::new(store);
     print_told(heap, print_of(shown), source, limits, &mut blocks, err).status
 }

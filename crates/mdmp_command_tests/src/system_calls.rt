@@ -34,7 +34,7 @@ fn run_failing<R: Files + AllocGlobal + Abort>(
 type FailingCalls<'a> = (u64, &'a str);
 
 /// A command line, what it prints, the file that it makes, if it makes one, and what is told of its calls.
-type CallsRow<'a> = (
+type SystemCallsRow<'a> = (
     &'a [&'a str],
     &'a str,
     Option<&'a [u8]>,
@@ -46,7 +46,7 @@ type CallsRow<'a> = (
 fn assert_at<R: Files + AllocGlobal + Abort>(
     rt: &R,
     alloc: Global,
-    (words, text, made, _): CallsRow<'_>,
+    (words, text, made, _): SystemCallsRow<'_>,
     call: u64,
     (status, told): (u8, &str),
 ) {
@@ -70,7 +70,11 @@ fn assert_at<R: Files + AllocGlobal + Abort>(
 }
 
 /// Asserts that each call of the system that fails is told, and that the command line ends well where none does.
-fn assert_calls<R: Files + AllocGlobal + Abort>(rt: &R, alloc: Global, rows: &[CallsRow<'_>]) {
+fn assert_calls<R: Files + AllocGlobal + Abort>(
+    rt: &R,
+    alloc: Global,
+    rows: &[SystemCallsRow<'_>],
+) {
     for row in rows {
         let mut first = 0;
         for &(end, told) in row.3 {
@@ -99,7 +103,7 @@ const SMALL: [FailingCalls<'static>; 2] = [
     (4, "mdmp: store failed at 0\n"),
 ];
 
-const PRINTS: [CallsRow<'static>; 9] = [
+const PRINTS: [SystemCallsRow<'static>; 9] = [
     (&["list", "system.dmp"], SYSTEM_TEXT, None, &SMALL),
     (&["list", "system.dmp", "--pdb"], SYSTEM_TEXT, None, &SMALL),
     (&["check", "system.dmp"], "entry 0: ok\n", None, &SMALL),
@@ -166,7 +170,7 @@ fn each_call_behind_a_print_may_fail(rt: HostRuntime) {
 }
 
 /// What is copied is opened and asked for its size, and the copy made.
-const COPIES: [CallsRow<'static>; 2] = [
+const COPIES: [SystemCallsRow<'static>; 2] = [
     (
         &["copy", "system.dmp", "copy.dmp", "7"],
         "",

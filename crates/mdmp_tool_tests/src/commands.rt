@@ -7,7 +7,11 @@ ghost use Rattle.std.specs.Prelude.{◌+◌, ◌^◌, ◌≤◌, ◌≡◌, [], 
 use mdmp_lister::{Choice, Lister, TypeSet};
 use mdmp_source::{Out, PatchyOut, Source, Store, write_all};
 use mdmp_test_support::Room;
-use mdmp_tool::{LINE_ROOM, Limits, LineForm, LineOut, OpenFault, RunAnswered, ToolFault, check_in_blocks, check_source, copy_source, hex_in_blocks, hex_source, list_in_blocks, list_next, list_source, print_dump, run_check, run_copy, run_hex, run_list};
+use mdmp_tool::{
+    LINE_ROOM, Limits, LineForm, LineOut, OpenFault, RunAnswered, ToolFault, check_in_blocks,
+    check_source, copy_source, hex_in_blocks, hex_source, list_in_blocks, list_next, list_source,
+    print_dump, run_check, run_copy, run_hex, run_list,
+};
 use std::alloc::{Allocator, Global};
 use std::process::Abort;
 

@@ -89,7 +89,11 @@ const LIST_WAYS: [CallWay; 4] = [
 ];
 
 /// The ways of a command that has no items.
-const PRINT_WAYS: [CallWay; 3] = [CallWay::Store, CallWay::Source, CallWay::Blocks(LINE_ROOM + 7)];
+const PRINT_WAYS: [CallWay; 3] = [
+    CallWay::Store,
+    CallWay::Source,
+    CallWay::Blocks(LINE_ROOM + 7),
+];
 
 const GOOD: File<'static> = File::Bytes(&SYSTEM);
 

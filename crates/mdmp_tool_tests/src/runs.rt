@@ -27,7 +27,11 @@ pub const EACH_WAY: [CallWay; 4] = [
 ];
 
 /// The ways of a command that has no items.
-pub const WITHOUT_ITEMS: [CallWay; 3] = [CallWay::Store, CallWay::Source, CallWay::Blocks(LINE_ROOM)];
+pub const WITHOUT_ITEMS: [CallWay; 3] = [
+    CallWay::Store,
+    CallWay::Source,
+    CallWay::Blocks(LINE_ROOM),
+];
 
 /// The ways of a copy.
 pub const COPY_WAYS: [CallWay; 2] = [CallWay::Store, CallWay::Source];
