@@ -50,7 +50,7 @@ type CopyRow<'a> = (
     Option<u128>,
 );
 
-const ROWS: [CopyRow<'static>; 23] = [
+const ROWS: [CopyRow<'static>; 11] = [
     (
         SIX_FILE,
         &[3, 6],
@@ -156,6 +156,10 @@ const ROWS: [CopyRow<'static>; 23] = [
         File::Bytes(&SYSTEM),
         None,
     ),
+];
+
+/// Copies at their limits.
+const LIMITED: [CopyRow<'static>; 12] = [
     // A copy past the greatest place. Its budget is tested first.
     (
         File::Crowded,
@@ -313,6 +317,11 @@ fn assert_rows(rt: &impl Abort, alloc: Global, rows: &[CopyRow<'_>]) {
 #[test]
 fn run_copy_succeeds(rt: HostRuntime) {
     assert_rows(&rt, rt.alloc(), &ROWS);
+}
+
+#[test]
+fn copy_keeps_to_its_limits(rt: HostRuntime) {
+    assert_rows(&rt, rt.alloc(), &LIMITED);
 }
 
 /// Asserts of each of these types whether streams of it are copied.

@@ -149,8 +149,8 @@ fn each_call_of_a_store_may_fail(rt: HostRuntime) {
 fn assert_copy_swept(rt: &impl Abort, alloc: Global, rows: &[(u64, usize)]) {
     let six = bytes_of(rt, alloc, &File::Numbers(6, &SIX));
     let crash = bytes_of(rt, alloc, &File::Numbers(2, &CRASH));
-    for way in COPY_WAYS {
-        let run = run_within(OF_CRASH, way, (168, 0, None, None, None));
+    for way in &COPY_WAYS {
+        let run = run_within(OF_CRASH, *way, (168, 0, None, None, None));
         for fail_at in 0..NEEDED {
             let outcome = run_bytes(rt, alloc, &six, &failing(&run, fail_at));
             let is_start = crash.starts_with(outcome.bytes.as_slice());
@@ -158,7 +158,7 @@ fn assert_copy_swept(rt: &impl Abort, alloc: Global, rows: &[(u64, usize)]) {
             assert_same_at(rt, &(way, fail_at), found, (true, true));
         }
         let outcome = run_bytes(rt, alloc, &six, &failing(&run, NEEDED));
-        assert_wrote(rt, &way, &outcome, Ok(292), &crash);
+        assert_wrote(rt, way, &outcome, Ok(292), &crash);
         for (fail_at, written) in rows {
             let outcome = run_bytes(rt, alloc, &six, &failing(&run, *fail_at));
             let found = (is_failed(outcome.end.answer), outcome.bytes.len());

@@ -56,6 +56,21 @@ fn faults_have_a_status_and_a_line(rt: HostRuntime) {
 }
 
 #[test]
+fn each_kind_and_each_part_has_its_words(rt: HostRuntime) {
+    assert_told(&rt, rt.alloc(), &KINDS);
+}
+
+#[test]
+fn faults_of_a_copy_have_a_status_and_a_line(rt: HostRuntime) {
+    assert_told(&rt, rt.alloc(), &COPIES);
+}
+
+#[test]
+fn limits_have_a_status_and_a_line(rt: HostRuntime) {
+    assert_told(&rt, rt.alloc(), &LIMITS);
+}
+
+#[test]
 fn line_of_a_fault_is_one_write(rt: HostRuntime) {
     // To an output whose second write fails.
     let room = Room {
@@ -124,7 +139,7 @@ const UNMADE: ListFault = ListFault {
     size: 5,
 };
 
-const ROWS: [FaultRow<'static>; 54] = [
+const ROWS: [FaultRow<'static>; 16] = [
     (
         ToolFault::Opening(OpenFault::TooShort { size: 0 }),
         1,
@@ -197,7 +212,10 @@ const ROWS: [FaultRow<'static>; 54] = [
         3,
         "store failed at 18446744073709551615",
     ),
-    // Kinds of faults of an entry.
+];
+
+/// Kinds of faults of an entry, and parts.
+const KINDS: [FaultRow<'static>; 13] = [
     (
         ToolFault::List(ListFault {
             entry: 3,
@@ -342,6 +360,10 @@ const ROWS: [FaultRow<'static>; 54] = [
         1,
         "entry 4294967295 item 18446744073709551615: memory outside the file: offset 4951760157141521099596496896 size 18446744073709551615",
     ),
+];
+
+/// Faults of copies, and those inside a reading, which are told as what they are.
+const COPIES: [FaultRow<'static>; 14] = [
     // Copies.
     (
         ToolFault::Reading(ReadFault::PartOutside {
@@ -434,7 +456,10 @@ const ROWS: [FaultRow<'static>; 54] = [
         "store ended at 7",
     ),
     (ToolFault::Reading(ReadFault::Memory), 3, "out of memory"),
-    // Limits that are reached.
+];
+
+/// Limits that are reached.
+const LIMITS: [FaultRow<'static>; 11] = [
     (
         ToolFault::Budget {
             offset: 18446744073709551615,
@@ -539,14 +564,19 @@ fn number_of(fault: &ToolFault) -> u32 {
     }
 }
 
-/// Whether there is a row of the fault with this number.
-fn has_row(number: u32) -> bool {
-    for (fault, _, _) in &ROWS {
+/// Whether one of these rows is of the fault with this number.
+fn have(rows: &[FaultRow<'_>], number: u32) -> bool {
+    for (fault, _, _) in rows {
         if number_of(fault) == number {
             return true;
         }
     }
     false
+}
+
+/// Whether there is such a row.
+fn has_row(number: u32) -> bool {
+    have(&ROWS, number) || have(&COPIES, number) || have(&LIMITS, number)
 }
 
 #[test]

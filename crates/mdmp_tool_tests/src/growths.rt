@@ -29,8 +29,15 @@ type GrownRow<'a> = (
     Option<u64>,
 );
 
-/// Asserts what a run answers and writes over each store: in memory, by a byte a call, and one whose content is not
-/// known; by how many growths, of how many bytes, where that is told, and that all blocks are given back.
+/// A store in memory, one that gives a byte a call, and one whose content is not known.
+const EACH_STORE: [StoreWay<'static>; 3] = [
+    StoreWay::Whole,
+    StoreWay::Patchy(&[1], None),
+    StoreWay::Unknown,
+];
+
+/// Asserts what a run answers and writes over each store; by how many growths, of how many bytes, where that is told,
+/// and that all blocks are given back.
 fn assert_grown(
     rt: &impl Abort,
     alloc: Global,
@@ -40,11 +47,8 @@ fn assert_grown(
     (growths, asked): (u64, Option<u64>),
 ) {
     let at = (run.way, run.growth);
-    for reads in [
-        StoreWay::Whole,
-        StoreWay::Patchy(&[1], None),
-        StoreWay::Unknown,
-    ] {
+    for reads in &EACH_STORE {
+        let reads = *reads;
         let outcome = run_bytes(rt, alloc, bytes, &CommandRun { reads, ..*run });
         assert_wrote(rt, &at, &outcome, answer, written);
         let heap = outcome.heap;
@@ -134,7 +138,7 @@ const OPENED: u64 = 32 + 72 + 52 + 168;
 
 /// Commands without limits: a directory, a window and a name; and where memory is printed, a map of the ranges, the
 /// bytes, and which of them are known; where streams are copied, a directory, a window, two lists and a buffer.
-const UNLIMITED: [GrownRow<'static>; 15] = [
+const UNLIMITED: [GrownRow<'static>; 8] = [
     (
         SIX_FILE,
         Task::List,
@@ -216,7 +220,10 @@ const UNLIMITED: [GrownRow<'static>; 15] = [
         3,
         None,
     ),
-    // How many bytes these are.
+];
+
+/// The bytes of these growths are counted.
+const COUNTED: [GrownRow<'static>; 7] = [
     (
         BAD_TWICE,
         Task::Check,
@@ -361,7 +368,7 @@ const REFUSED: [GrownRow<'static>; 6] = [
 ];
 
 /// Commands that print, at each limit and one byte under it.
-const LIMITED: [GrownRow<'static>; 24] = [
+const LIMITED: [GrownRow<'static>; 12] = [
     // The header, an entry, the head of the list, and the list. What is read at the addresses is not counted.
     (
         WIDE,
@@ -510,6 +517,10 @@ const LIMITED: [GrownRow<'static>; 24] = [
         3,
         None,
     ),
+];
+
+/// The same of the limit of memory.
+const MEMORY_LIMITS: [GrownRow<'static>; 12] = [
     // A window of 168 bytes, an entry of 12, and a name of 4096.
     (
         MODULE,
@@ -811,13 +822,23 @@ fn each_growth_may_be_refused(rt: HostRuntime) {
 }
 
 #[test]
+fn growths_are_of_what_the_limits_say(rt: HostRuntime) {
+    assert_rows(&rt, rt.alloc(), &COUNTED);
+}
+
+#[test]
 fn refused_file_takes_no_memory(rt: HostRuntime) {
     assert_rows(&rt, rt.alloc(), &REFUSED);
 }
 
 #[test]
-fn print_keeps_to_its_limits(rt: HostRuntime) {
+fn print_keeps_to_its_limits_of_reading(rt: HostRuntime) {
     assert_rows(&rt, rt.alloc(), &LIMITED);
+}
+
+#[test]
+fn print_keeps_to_its_limit_of_memory(rt: HostRuntime) {
+    assert_rows(&rt, rt.alloc(), &MEMORY_LIMITS);
 }
 
 #[test]

@@ -180,7 +180,8 @@ const ESCAPED: &[u8; 30] =
 /// A file, the longest name, and its list.
 type ListRow<'a> = (File<'a>, u32, &'a str);
 
-const LISTED: [ListRow<'static>; 21] = [
+/// Headers, and names.
+const LISTED: [ListRow<'static>; 12] = [
     (
         File::Bytes(EMPTY),
         0,
@@ -247,6 +248,10 @@ threadname 0 id 7 name \"abcd\"\n",
 stream 0 type 24 size 16 rva 44
 threadname 0 id 7 name none\n",
     ),
+];
+
+/// Records.
+const RECORDS: [ListRow<'static>; 9] = [
     // Ranges of a memory list, of a 64-bit list one behind the other, and past any file.
     (
         File::Memory(2, ABCD_RANGE, WXYZ_RANGE),
@@ -335,10 +340,15 @@ fn run_list_succeeds(rt: HostRuntime) {
     assert_listed(&rt, rt.alloc(), &LISTED);
 }
 
+#[test]
+fn records_are_listed(rt: HostRuntime) {
+    assert_listed(&rt, rt.alloc(), &RECORDS);
+}
+
 /// A file, what is listed, the longest name, and with what its list ends.
 type EndRow<'a> = (File<'a>, Task<'a>, u32, &'a str);
 
-const ENDS: [EndRow<'static>; 20] = [
+const ENDS: [EndRow<'static>; 11] = [
     // A stack without bytes in the file, and a context that is one byte behind the list.
     (
         File::FirstOfNumbers(&ABSENT_STACK, 97),
@@ -414,6 +424,10 @@ const ENDS: [EndRow<'static>; 20] = [
         0,
         "\nstream 29 type 0 size 29 rva 32\n",
     ),
+];
+
+/// Records of CodeView.
+const SYMBOLS: [EndRow<'static>; 9] = [
     // A record outside the file, or of no bytes, has no line.
     (
         File::Module(31, CODEVIEW_RECORD),
@@ -486,6 +500,11 @@ fn assert_ends(rt: &impl Abort, alloc: Global, rows: &[EndRow<'_>]) {
 #[test]
 fn items_have_a_line(rt: HostRuntime) {
     assert_ends(&rt, rt.alloc(), &ENDS);
+}
+
+#[test]
+fn records_of_each_kind_have_a_line(rt: HostRuntime) {
+    assert_ends(&rt, rt.alloc(), &SYMBOLS);
 }
 
 /// A name of 300 units: twelve times the letters from a to y.

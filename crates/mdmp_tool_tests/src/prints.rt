@@ -35,7 +35,7 @@ const SHORT: RunAnswer = Err(ToolFault::Opening(OpenFault::TooShort { size: 31 }
 /// Limits of the least window, and names up to 48 bytes.
 const LEAST: Within = (168, 48, None, None, None);
 
-const CHECKS_AND_LISTS: [PrintRow<'static>; 19] = [
+const CHECKS: [PrintRow<'static>; 9] = [
     (
         GOOD,
         Task::Check,
@@ -119,6 +119,9 @@ const CHECKS_AND_LISTS: [PrintRow<'static>; 19] = [
         FAULTY_VERDICTS,
         Some(236),
     ),
+];
+
+const LISTS: [PrintRow<'static>; 10] = [
     (
         GOOD,
         Task::List,
@@ -282,7 +285,8 @@ const BAD_COUNT: RunAnswer = Err(ToolFault::List(ListFault {
     size: 3,
 }));
 
-const MEMORY: [PrintRow<'static>; 23] = [
+/// Memory lists of all kinds.
+const MEMORY: [PrintRow<'static>; 7] = [
     (
         WIDE,
         Task::Hex(AddressSpan {
@@ -368,6 +372,9 @@ const MEMORY: [PrintRow<'static>; 23] = [
         "0x0000000000000010: ?? ?? ?? ?? ?? ?? ?? ?? ?? ?? ?? ?? ?? ?? ?? ??\n0x0000000000000020: ??\n",
         None,
     ),
+];
+
+const MEMORY_LINES: [PrintRow<'static>; 8] = [
     // Lines begin at the address.
     (
         File::TwoRanges([LOW, HIGH], b"ABCDwxyz"),
@@ -465,6 +472,9 @@ const MEMORY: [PrintRow<'static>; 23] = [
         "0xffffffffffffffe8: 07 07 07 07 07 07 07 07 07 07 07 07 07 07 07 07\n0xfffffffffffffff8: 07 07 07 07 07 07 07 07\n",
         None,
     ),
+];
+
+const MEMORY_WAYS: [PrintRow<'static>; 8] = [
     // A file at fault prints nothing, also of no bytes.
     (
         File::Memory(3, ABCD_RANGE, WXYZ_RANGE),
@@ -576,13 +586,24 @@ fn assert_rows(rt: &impl Abort, alloc: Global, rows: &[PrintRow<'_>]) {
 }
 
 #[test]
-fn checks_and_lists_succeed_in_each_way(rt: HostRuntime) {
-    assert_rows(&rt, rt.alloc(), &CHECKS_AND_LISTS);
+fn checks_succeed_in_each_way(rt: HostRuntime) {
+    assert_rows(&rt, rt.alloc(), &CHECKS);
+}
+
+#[test]
+fn lists_succeed_in_each_way(rt: HostRuntime) {
+    assert_rows(&rt, rt.alloc(), &LISTS);
 }
 
 #[test]
 fn hex_succeeds_in_each_way(rt: HostRuntime) {
     assert_rows(&rt, rt.alloc(), &MEMORY);
+    assert_rows(&rt, rt.alloc(), &MEMORY_WAYS);
+}
+
+#[test]
+fn lines_of_memory_begin_at_the_address(rt: HostRuntime) {
+    assert_rows(&rt, rt.alloc(), &MEMORY_LINES);
 }
 
 /// Asserts by how many calls of a source how many bytes are fetched.
