@@ -114,7 +114,7 @@ const THREAD_NAME: ThreadNameRecord = ThreadNameRecord {
 };
 
 /// A record, where its name stands, and its slots, in the order of its fields.
-const RECORDS: &[(AnyRecord, Option<u64>, [Slot; 3])] = &[
+const RECORDS: [(AnyRecord, Option<u64>, [Slot; 3]); 6] = [
     (
         AnyRecord::Thread(THREAD),
         None,
@@ -149,7 +149,8 @@ const RECORDS: &[(AnyRecord, Option<u64>, [Slot; 3])] = &[
 
 #[test]
 fn slots_of_a_record_are_in_the_order_of_its_fields(rt: HostRuntime) {
-    for (record, name, slots) in RECORDS {
+    let records = RECORDS;
+    for (record, name, slots) in &records {
         let found = (record.name_rva(), record.slots());
         assert_same_at(&rt, record, found, (*name, *slots));
     }
