@@ -166,7 +166,7 @@ const EMPTY_STRETCH: [WindowStep; 4] = [
 ];
 
 /// The room of a window, its steps over the file, and how often is fetched then, and how many bytes.
-const SLIDING: [(usize, &[WindowStep], u128, u128); 6] = [
+const SLIDING: [(usize, &[WindowStep], u128, u128); 7] = [
     (4, &SLIDES, 2, 6),
     (4, &BEGINS_ANEW, 4, 10),
     // Without room or rest nothing is fetched.
@@ -174,6 +174,8 @@ const SLIDING: [(usize, &[WindowStep], u128, u128); 6] = [
     (0, &WHOLE_FILE, 0, 0),
     (6, &WHOLE_FILE, 1, 6),
     (4, &EMPTY_STRETCH, 0, 0),
+    // A large window has its memory too.
+    (1 << 20, &FILLED, 1, 6),
 ];
 
 #[test]
@@ -252,11 +254,6 @@ const FILLED: [WindowStep; 3] = [
     WindowStep::Fill,
     WindowStep::Holds(0, FILE),
 ];
-
-#[test]
-fn window_of_one_mebibyte_is_filled(rt: HostRuntime) {
-    assert_slides(&rt, rt.alloc(), 1 << 20, &FILLED, 1, 6);
-}
 
 #[test]
 fn window_takes_memory_once(rt: HostRuntime) {
