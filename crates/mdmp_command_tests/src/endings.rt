@@ -175,7 +175,7 @@ const TAKES_NOTHING: Outlet = Outlet {
     fail_at: None,
 };
 
-/// Asserts how a command ends whose output for what is told is this one.
+/// Asserts how a command ends in a trial, what it made, and what it asked of its disk.
 fn assert_ends<R: Files + AllocGlobal + Abort>(
     rt: &R,
     alloc: Global,
