@@ -57,16 +57,20 @@ pub const USUAL: Within = (65536, 4096, None, None, None);
 /// An output that takes each text of these tests, by seven bytes a call.
 const BY_SEVEN: Room = Room { all: 4000, call: 7 };
 
-/// A run within limits.
+/// A run within limits. A window and a name that no limits have are those of the program.
 pub fn run_within<'a>(task: Task<'a>, way: CallWay, within: Within) -> CommandRun<'a> {
     let (window, name, budget, memory, aside) = within;
+    let room = match Limits::new(window, name) {
+        Some(limits) => limits,
+        None => Limits::default(),
+    };
     CommandRun {
         task,
         way,
         reads: StoreWay::Whole,
         limits: Limits {
-            window,
-            name,
+            window: room.window,
+            name: room.name,
             budget,
             memory,
             aside,
