@@ -1,132 +1,92 @@
 //! Calls beside a listing, of a lister and of a walker, over stores that give one byte a call, each of whose
 //! calls fails in turn.
-use crate::files::{ListedFile, file_of};
-use crate::opening::{listed_ranges, patchy, store_fault};
+use crate::files::file_of;
+use crate::given::{stream, thread};
+use crate::opening::{fault, listed_ranges, patchy, store_fault};
 use crate::same::assert_same_at;
-use crate::script::{FailingPlay, LEAST, NAMED, assert_fails, play};
-use mdmp_lister::ListFault;
+use crate::script::{
+    Call, LEAST, NAMED, assert_plays_patchy, count_fails, counts, ends, fails, gives, has_part,
+    part_fails, read_fails, reads, runs, seeks,
+};
+use crate::walking::{PartRead, assert_walk, assert_walks_patchy, close, open_over, part_of};
+use mdmp_lister::{Choice, FaultKind, ListFault};
+use mdmp_source::SourceFault;
 use mdmp_test_support::{OVERLAPPING, THRICE};
+use std::alloc::Global;
+use std::process::Abort;
 
-/// Two ranges that overlap: 48 calls open the file, and 36 list it.
-const RANGES: ListedFile = ListedFile::Numbers(1, &OVERLAPPING);
-
-/// Three entries that name one list of one thread: 68 calls open the file.
-const ENTRIES: ListedFile = ListedFile::Numbers(3, &THRICE);
-
-/// The first of some calls that fail, how many they are, the entry that they are of, where the byte of the first one
-/// stands, and what a lister answers.
-macro_rules! ranges_fail {
-    ($first:expr, $count:expr, $place:expr, [$($script:tt)*]) => {
-        FailingPlay {
-            play: play!("a lister of two ranges", RANGES, LEAST, caps &[1], [$($script)*]),
-            first: $first,
-            count: $count,
-            entry: 0,
-            place: $place,
-        }
-    };
-}
-
-/// The same of what a walker answers.
-macro_rules! entries_fail {
-    ($first:expr, $count:expr, $entry:expr, $place:expr, [$($script:tt)*]) => {
-        FailingPlay {
-            play: play!(
-                walker "a walker of three entries",
-                ENTRIES,
-                NAMED,
-                types &[],
-                caps &[1],
-                [$($script)*]
-            ),
-            first: $first,
-            count: $count,
-            entry: $entry,
-            place: $place,
-        }
-    };
+/// Asserts that a lister of two ranges that overlap gives the answers of a script, over a store that gives
+/// one byte a call and fails at this one.
+fn assert_ranges(rt: &impl Abort, alloc: Global, fail_at: u64, script: &[Call]) {
+    let file = file_of(rt, alloc, 1, &OVERLAPPING);
+    assert_plays_patchy(rt, alloc, LEAST, &file, &[1], Some(fail_at), script);
 }
 
 /// Which of the eight bytes from 0xfff on are known.
-const KNOWN: &[bool] = &[false, true, true, true, true, true, true, false];
+const KNOWN: [bool; 8] = [false, true, true, true, true, true, true, false];
 
-const READS: [FailingPlay; 3] = [
-    // Four bytes of the first range,
-    ranges_fail!(
-        84,
-        4,
-        80,
-        [
-            runs(u64::MAX, None, 3),
-            read_fails_here(0xfff, 8),
-            reads(0xfff, b"\0ABCDyz\0", KNOWN),
-            ends(),
-        ]
-    ),
-    // and two of the second.
-    ranges_fail!(
-        88,
-        2,
-        86,
-        [
-            runs(u64::MAX, None, 3),
-            read_fails_here(0xfff, 8),
-            reads(0xfff, b"\0ABCDyz\0", KNOWN),
-            ends(),
-        ]
-    ),
-    // The call behind them is not made.
-    ranges_fail!(
-        90,
-        1,
-        0,
-        [
-            runs(u64::MAX, None, 3),
-            reads(0xfff, b"\0ABCDyz\0", KNOWN),
-            ends(),
-        ]
-    ),
-];
+/// Asserts that a call which fails ends a read of memory with the fault of this byte, and no other.
+fn assert_read_fails(rt: &impl Abort, alloc: Global, fail_at: u64, at: u64) {
+    let script = [
+        runs(u64::MAX, None, 3),
+        read_fails(0xfff, 8, SourceFault::Failed { at }),
+        reads(0xfff, *b"\0ABCDyz\0", KNOWN),
+        ends(),
+    ];
+    assert_ranges(rt, alloc, fail_at, &script);
+}
 
 #[test]
 fn each_call_of_a_read_of_memory_may_fail(rt: HostRuntime) {
-    let plays = READS;
-    assert_fails(&rt, rt.alloc(), &plays);
+    // 48 calls open the file, and 36 list it: then come four bytes of the first range, and two of the second.
+    for (call, at) in [(84, 80), (85, 81), (86, 82), (87, 83), (88, 86), (89, 87)] {
+        assert_read_fails(&rt, rt.alloc(), call, at);
+    }
+    let script = [
+        runs(u64::MAX, None, 3),
+        reads(0xfff, *b"\0ABCDyz\0", KNOWN),
+        ends(),
+    ];
+    assert_ranges(&rt, rt.alloc(), 90, &script);
 }
 
-const PARTS: [FailingPlay; 2] = [
-    ranges_fail!(
-        48,
-        8,
-        80,
-        [
-            part_fails_here(80, 8),
-            has_part(80, b"ABCDwxyz"),
-            runs(u64::MAX, None, 3),
-        ]
-    ),
-    // The call behind them is of the list.
-    ranges_fail!(
-        56,
-        1,
-        44,
-        [
-            has_part(80, b"ABCDwxyz"),
-            gives(stream(0, 5, 36, 44)),
-            fails_here(),
-        ]
-    ),
-];
+/// Asserts that this call of a read of eight bytes ends it with its own fault, and no other.
+fn assert_part_fails(rt: &impl Abort, alloc: Global, call: u64) {
+    let at = call.saturating_add(80);
+    let script = [
+        part_fails(80, 8, SourceFault::Failed { at }),
+        has_part(80, *b"ABCDwxyz"),
+        runs(u64::MAX, None, 3),
+    ];
+    assert_ranges(rt, alloc, call.saturating_add(48), &script);
+}
 
 #[test]
 fn each_call_of_a_part_of_a_lister_may_fail(rt: HostRuntime) {
-    let plays = PARTS;
-    assert_fails(&rt, rt.alloc(), &plays);
+    for call in 0..8 {
+        assert_part_fails(&rt, rt.alloc(), call);
+    }
+    // The call behind them is of the list.
+    let failed = FaultKind::Source(SourceFault::Failed { at: 44 });
+    let script = [
+        has_part(80, *b"ABCDwxyz"),
+        gives(stream(0, 5, 36, 44)),
+        fails(fault(None, failed, 44, 0)),
+    ];
+    assert_ranges(&rt, rt.alloc(), 56, &script);
 }
 
-/// What ended a listing of two ranges over a store that gives one byte a call and fails at this one, and how many were
-/// mapped; none where they are not opened.
-fn expected_ranges(fail_at: u64) -> Option<(Result<(), ListFault>, usize)> {
+/// What ended a listing of two ranges, and how many were mapped; none where they are not opened.
+type RangesListed = Option<(Result<(), ListFault>, usize)>;
+
+/// That of a listing over a store that gives one byte a call and fails at this one.
+fn ranges_listed(rt: &impl Abort, alloc: Global, fail_at: u64) -> RangesListed {
+    let file = file_of(rt, alloc, 1, &OVERLAPPING);
+    listed_ranges(alloc, patchy(rt, &file, &[1], Some(fail_at)), LEAST)
+}
+
+/// 48 calls open the file, and 36 list it.
+fn expected_ranges(fail_at: u64) -> RangesListed {
     if fail_at < 48 {
         None
     } else if fail_at < 84 {
@@ -138,130 +98,113 @@ fn expected_ranges(fail_at: u64) -> Option<(Result<(), ListFault>, usize)> {
 
 #[test]
 fn each_call_of_a_listing_of_ranges_may_fail(rt: HostRuntime) {
-    let file = file_of(&rt, rt.alloc(), RANGES);
     for call in 0..85 {
-        let store = patchy(&rt, &file, &[1], Some(call));
-        let listed = listed_ranges(rt.alloc(), store, LEAST);
+        let listed = ranges_listed(&rt, rt.alloc(), call);
         assert_same_at(&rt, &call, listed, expected_ranges(call));
     }
 }
 
-/// The list is fetched to be counted, and what was counted is not fetched again.
-const COUNTS: [FailingPlay; 2] = [
-    entries_fail!(
-        68,
-        52,
-        2,
-        68,
-        [
-            seeks(2),
-            gives(stream(2, 3, 52, 68)),
-            count_fails_here(),
-            fails_here(),
-            seeks(0),
-            fails_here(),
-        ]
-    ),
-    entries_fail!(
-        120,
-        1,
-        0,
-        0,
-        [
-            seeks(2),
-            gives(stream(2, 3, 52, 68)),
-            counts(1),
-            counts(1),
-            gives(thread(2, 0, 7)),
-            ends(),
-        ]
-    ),
-];
+/// Asserts that a walker of three entries that name one list of one thread gives the answers of a script, over
+/// a store that gives one byte a call and fails at this one.
+fn assert_thrice(rt: &impl Abort, alloc: Global, fail_at: u64, script: &[Call]) {
+    let file = file_of(rt, alloc, 3, &THRICE);
+    assert_walks_patchy(rt, alloc, NAMED, &file, &[1], Some(fail_at), script);
+}
+
+/// Asserts that the call by which this byte of the list is fetched ends a count of its records.
+fn assert_count_fails(rt: &impl Abort, alloc: Global, at: u64) {
+    let failed = store_fault(2, at);
+    let script = [
+        seeks(2),
+        gives(stream(2, 3, 52, 68)),
+        count_fails(failed),
+        fails(failed),
+        seeks(0),
+        fails(failed),
+    ];
+    assert_thrice(rt, alloc, at, &script);
+}
 
 #[test]
 fn each_call_of_a_count_of_records_may_fail(rt: HostRuntime) {
-    let plays = COUNTS;
-    assert_fails(&rt, rt.alloc(), &plays);
+    // 68 calls open the file. The list is fetched to be counted, and what was counted is not fetched again.
+    for at in 68..120 {
+        assert_count_fails(&rt, rt.alloc(), at);
+    }
+    let script = [
+        seeks(2),
+        gives(stream(2, 3, 52, 68)),
+        counts(1),
+        counts(1),
+        gives(thread(2, 7)),
+        ends(),
+    ];
+    assert_thrice(&rt, rt.alloc(), 120, &script);
 }
 
-/// The third entry, and then the first one: the list is fetched for each.
-const SOUGHT: [FailingPlay; 3] = [
-    entries_fail!(
-        68,
-        52,
-        2,
-        68,
-        [seeks(2), gives(stream(2, 3, 52, 68)), fails_here()]
-    ),
-    entries_fail!(
-        120,
-        52,
-        0,
-        68,
-        [
-            seeks(2),
-            gives(stream(2, 3, 52, 68)),
-            gives(thread(2, 0, 7)),
-            seeks(0),
-            gives(stream(0, 3, 52, 68)),
-            fails_here(),
-        ]
-    ),
-    entries_fail!(
-        172,
-        1,
-        0,
-        0,
-        [
-            seeks(2),
-            gives(stream(2, 3, 52, 68)),
-            gives(thread(2, 0, 7)),
-            seeks(0),
-            gives(stream(0, 3, 52, 68)),
-            gives(thread(0, 0, 7)),
-        ]
-    ),
-];
+/// Asserts that the call by which this byte of the list is fetched ends the third entry, to which a walker goes.
+fn assert_third_fails(rt: &impl Abort, alloc: Global, at: u64) {
+    let script = [
+        seeks(2),
+        gives(stream(2, 3, 52, 68)),
+        fails(store_fault(2, at)),
+    ];
+    assert_thrice(rt, alloc, at, &script);
+}
+
+/// Asserts that the call by which this byte of the list is fetched once more ends the first entry, to which a
+/// walker goes from the third.
+fn assert_first_fails(rt: &impl Abort, alloc: Global, at: u64) {
+    let script = [
+        seeks(2),
+        gives(stream(2, 3, 52, 68)),
+        gives(thread(2, 7)),
+        seeks(0),
+        gives(stream(0, 3, 52, 68)),
+        fails(store_fault(0, at)),
+    ];
+    assert_thrice(rt, alloc, at.saturating_add(52), &script);
+}
 
 #[test]
 fn each_call_behind_a_sought_entry_may_fail(rt: HostRuntime) {
-    let plays = SOUGHT;
-    assert_fails(&rt, rt.alloc(), &plays);
+    // The third entry, and then the first one: the list is fetched for each.
+    for at in 68..120 {
+        assert_third_fails(&rt, rt.alloc(), at);
+        assert_first_fails(&rt, rt.alloc(), at);
+    }
+    let script = [
+        seeks(2),
+        gives(stream(2, 3, 52, 68)),
+        gives(thread(2, 7)),
+        seeks(0),
+        gives(stream(0, 3, 52, 68)),
+        gives(thread(0, 7)),
+    ];
+    assert_thrice(&rt, rt.alloc(), 172, &script);
 }
 
-/// The four bytes at 72 are asked for twice, and all of the first entry is given then.
-const WALKED: [FailingPlay; 2] = [
-    entries_fail!(
-        68,
-        4,
-        0,
-        72,
-        [
-            part_fails_here(72, 4),
-            has_part(72, &[7, 0, 0, 0]),
-            gives(stream(0, 3, 52, 68)),
-            counts(1),
-            gives(thread(0, 0, 7)),
-        ]
-    ),
-    // The call behind them is of the second part.
-    entries_fail!(
-        72,
-        1,
-        0,
-        72,
-        [
-            has_part(72, &[7, 0, 0, 0]),
-            part_fails_here(72, 4),
-            gives(stream(0, 3, 52, 68)),
-            counts(1),
-            gives(thread(0, 0, 7)),
-        ]
-    ),
-];
+/// Asserts what a walker answers that is asked twice for the four bytes at 72, over a store that fails at this
+/// call, and that it gives all of the first entry then.
+fn assert_parts(rt: &impl Abort, alloc: Global, fail_at: u64, first: PartRead, second: PartRead) {
+    let file = file_of(rt, alloc, 3, &THRICE);
+    let store = patchy(rt, &file, &[1], Some(fail_at));
+    let mut walker = open_over(rt, alloc, store, NAMED, Choice::All);
+    assert_same_at(rt, &fail_at, part_of(&mut walker, 72), first);
+    assert_same_at(rt, &fail_at, part_of(&mut walker, 72), second);
+    let script = [gives(stream(0, 3, 52, 68)), counts(1), gives(thread(0, 7))];
+    assert_walk(rt, alloc, &mut walker, &script);
+    close(walker);
+}
 
 #[test]
 fn each_call_of_a_part_of_a_walker_may_fail(rt: HostRuntime) {
-    let plays = WALKED;
-    assert_fails(&rt, rt.alloc(), &plays);
+    let whole = Some(Ok([7, 0, 0, 0]));
+    for call in 0..4 {
+        let failed = Some(Err(SourceFault::Failed { at: 72 + call }));
+        assert_parts(&rt, rt.alloc(), 68 + call, failed, whole);
+    }
+    // The call behind them is of the second part.
+    let failed = Some(Err(SourceFault::Failed { at: 72 }));
+    assert_parts(&rt, rt.alloc(), 72, whole, failed);
 }

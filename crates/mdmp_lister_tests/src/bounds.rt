@@ -1,5 +1,5 @@
 //! What a lister holds and fetches, beside its bounds.
-use crate::files::{FOUR, ListedFile, file_of};
+use crate::files::{FOUR, file_of, named_by_a_thousand, padded};
 use crate::opening::{counts_of, fetched_by, list_all, opened, patchy};
 use crate::same::{assert_same, assert_same_at};
 use crate::script::{LEAST, NAMED, SHORT_NAMES, STANDARD, WHOLE_BLOCKS};
@@ -14,6 +14,11 @@ use std::process::Abort;
 const EMPTY: [u8; 32] =
     *b"MDMP\x93\xa7\0\0\0\0\0\0\xff\xff\xff\xff\0\0\0\0\0\0\0\0\0\0\0\0\0\0\0\0";
 
+/// Reads four bytes of memory.
+fn read_four<S: Store + Drop, A: Allocator + Copy>(lister: &mut Lister<S, A>) {
+    let _ = lister.read_address(0x1000, &mut [0; 4], &mut [false; 4]);
+}
+
 /// What a lister counts behind all its items and four bytes of memory, and how many bytes and calls its source
 /// does.
 fn counted<S: Store + Drop, A: Allocator + Copy>(
@@ -25,7 +30,7 @@ fn counted<S: Store + Drop, A: Allocator + Copy>(
         return None;
     };
     let _ = list_all(&mut lister);
-    let _ = lister.read_address(0x1000, &mut [0; 4], &mut [false; 4]);
+    read_four(&mut lister);
     let counts = counts_of(&lister);
     Some((counts, fetched_by(lister)))
 }
@@ -51,169 +56,162 @@ fn bound_of(alloc: Global, file: &[u8], limits: Limits) -> Option<Bound> {
     Some([counts.s, counts.r, counts.n, counts.m, counts.held, most])
 }
 
-/// A file, how it is read, and its bound.
-#[derive(Clone, Copy)]
-struct BoundRow {
-    name: &'static str,
-    file: ListedFile,
+/// Asserts the bound of a file with so many entries and these numbers.
+fn assert_bound(
+    rt: &impl Abort,
+    alloc: Global,
+    entries: u32,
+    numbers: &[u32],
     limits: Limits,
-    bound: Bound,
+    expected: Bound,
+) {
+    let file = file_of(rt, alloc, entries, numbers);
+    assert_same(rt, bound_of(alloc, &file, limits), Some(expected));
 }
 
-const BOUNDS: [BoundRow; 10] = [
-    BoundRow {
-        name: "a list that a thousand entries name counts a thousand times",
-        file: ListedFile::Thousand,
-        limits: LEAST,
-        bound: [1000, 0, 4804000, 0, 12168, 4832032],
-    },
-    BoundRow {
-        name: "a long name costs its length",
-        file: LONG_NAME,
-        limits: SHORT_NAMES,
-        bound: [1, 0, 36, 1, 188, 108],
-    },
-    BoundRow {
-        name: "a name of a thread costs as any other",
-        file: ListedFile::Numbers(1, &THREAD_NAME),
-        limits: SHORT_NAMES,
-        bound: [1, 0, 16, 1, 188, 88],
-    },
-    BoundRow {
-        name: "an empty directory",
-        file: ListedFile::Bytes(&EMPTY, 32),
-        limits: LEAST,
-        bound: [0, 0, 0, 0, 168, 32],
-    },
-    // Three modules behind their count, and behind it and four bytes more.
-    BoundRow {
-        name: "three modules",
-        file: ListedFile::Padded(1, &[4, 328, 44, 3], 85, &[]),
-        limits: LEAST,
-        bound: [1, 0, 328, 0, 180, 388],
-    },
-    BoundRow {
-        name: "three modules behind padding",
-        file: ListedFile::Padded(1, &[4, 332, 44, 3], 86, &[]),
-        limits: LEAST,
-        bound: [1, 0, 332, 0, 180, 392],
-    },
-    BoundRow {
-        name: "two unloaded modules, 1000 bytes apart",
-        file: ListedFile::Padded(1, &[14, 2012, 44, 12, 1000, 2, 1], 506, &[]),
-        limits: LEAST,
-        bound: [1, 0, 2012, 0, 180, 2072],
-    },
-    BoundRow {
-        name: "a list that three entries name",
-        file: ListedFile::Numbers(3, &THRICE),
-        limits: LEAST,
-        bound: [3, 0, 156, 0, 204, 272],
-    },
-    BoundRow {
-        name: "a system",
-        file: ListedFile::Bytes(&SYSTEM, 136),
-        limits: STANDARD,
-        bound: [1, 0, 56, 1, 69644, 4216],
-    },
-    // A window, an entry, a name, and two ranges of 24 bytes, of which one is read aside.
-    BoundRow {
-        name: "64-bit memory",
-        file: ListedFile::Bytes(&MEMORY64, 98),
-        limits: NAMED,
-        bound: [1, 2, 48, 0, 168 + 12 + 4096 + 48, 32 + 28 + 48],
-    },
-];
-
-/// An unloaded module whose name has ten bytes.
-const LONG_NAME: ListedFile = ListedFile::Numbers(
-    1,
-    &[
-        14, 36, 44, 12, 24, 1, 0, 0, 0, 0, 0, 80, 10, 0x00620061, 0x00640063, 0x65,
-    ],
-);
+/// The bound of a list that a thousand entries name.
+fn bound_of_thousand(rt: &impl Abort, alloc: Global) -> Option<Bound> {
+    bound_of(alloc, &named_by_a_thousand(rt, alloc), LEAST)
+}
 
 #[test]
-fn counts_succeed_and_bound_small_files(rt: HostRuntime) {
-    let rows = BOUNDS;
-    for row in &rows {
-        let file = file_of(&rt, rt.alloc(), row.file);
-        let found = bound_of(rt.alloc(), &file, row.limits);
-        assert_same_at(&rt, &row.name, found, Some(row.bound));
-    }
+fn list_that_a_thousand_entries_name_counts_a_thousand_times(rt: HostRuntime) {
+    let bound = bound_of_thousand(&rt, rt.alloc());
+    assert_same(&rt, bound, Some([1000, 0, 4804000, 0, 12168, 4832032]));
+}
+
+/// An unloaded module whose name has ten bytes.
+const LONG_NAME: [u32; 16] = [
+    14, 36, 44, 12, 24, 1, 0, 0, 0, 0, 0, 80, 10, 0x00620061, 0x00640063, 0x65,
+];
+
+/// How many names are reached of it where names have at most eight bytes, what is held, and what is fetched.
+fn counts_of_long_name(rt: &impl Abort, alloc: Global) -> (u128, u128, u128) {
+    let file = file_of(rt, alloc, 1, &LONG_NAME);
+    let counted = counted(alloc, MemoryStore::new(&file), SHORT_NAMES);
+    let (counts, _) = counted.expect(rt, "a lister");
+    (counts.m, counts.held, counts.fetched)
 }
 
 #[test]
 fn long_name_costs_its_length(rt: HostRuntime) {
-    let file = file_of(&rt, rt.alloc(), LONG_NAME);
-    let counted = counted(rt.alloc(), MemoryStore::new(&file), SHORT_NAMES);
-    let (counts, _) = counted.expect(&rt, "a lister");
     // Header, entry, head, record and the length of the name are fetched.
     let fetched = 32 + 12 + 12 + 24 + 4;
-    assert_same(
-        &rt,
-        (counts.m, counts.held, counts.fetched),
-        (1, 188, fetched),
-    );
+    let counts = counts_of_long_name(&rt, rt.alloc());
+    assert_same(&rt, counts, (1, 188, fetched));
+    let bound = [1, 0, 36, 1, 188, 108];
+    assert_bound(&rt, rt.alloc(), 1, &LONG_NAME, SHORT_NAMES, bound);
 }
 
-/// What a lister of `FOUR` holds in a heap of so many bytes, if it is opened there.
-fn held_in(rt: &impl Abort, alloc: Global, size: usize) -> Option<u128> {
-    let file = file_of(rt, alloc, ListedFile::Numbers(4, &FOUR));
-    let heap = LocalHeap::new(alloc, size).expect(rt, "a heap");
-    match counted(&heap, MemoryStore::new(&file), WHOLE_BLOCKS) {
+#[test]
+fn name_of_a_thread_costs_as_any_other(rt: HostRuntime) {
+    let bound = [1, 0, 16, 1, 188, 88];
+    assert_bound(&rt, rt.alloc(), 1, &THREAD_NAME, SHORT_NAMES, bound);
+}
+
+/// The numbers of the file in a bound.
+fn numbers_in(bound: Option<Bound>) -> Option<[u128; 4]> {
+    match bound {
+        Some(numbers) => Some([numbers[0], numbers[1], numbers[2], numbers[3]]),
+        None => None,
+    }
+}
+
+#[test]
+fn counts_succeed_and_bound_small_files(rt: HostRuntime) {
+    let bound = bound_of(rt.alloc(), &EMPTY, LEAST);
+    assert_same(&rt, bound, Some([0, 0, 0, 0, 168, 32]));
+
+    // Three modules behind their count, and behind it and four bytes more.
+    let modules = padded::<85>(&[4, 328, 44, 3], &[]);
+    let bound = [1, 0, 328, 0, 180, 388];
+    assert_bound(&rt, rt.alloc(), 1, &modules, LEAST, bound);
+    let modules = padded::<86>(&[4, 332, 44, 3], &[]);
+    let bound = [1, 0, 332, 0, 180, 392];
+    assert_bound(&rt, rt.alloc(), 1, &modules, LEAST, bound);
+
+    // Two unloaded modules, 1000 bytes apart.
+    let spread = padded::<506>(&[14, 2012, 44, 12, 1000, 2, 1], &[]);
+    let bound = [1, 0, 2012, 0, 180, 2072];
+    assert_bound(&rt, rt.alloc(), 1, &spread, LEAST, bound);
+
+    let bound = [3, 0, 156, 0, 204, 272];
+    assert_bound(&rt, rt.alloc(), 3, &THRICE, LEAST, bound);
+
+    let bound = bound_of(rt.alloc(), &SYSTEM, STANDARD);
+    assert_same(&rt, bound, Some([1, 0, 56, 1, 69644, 4216]));
+
+    // Two ranges of 64-bit memory, of which one is read aside.
+    let bound = bound_of(rt.alloc(), &MEMORY64, NAMED);
+    assert_same(&rt, numbers_in(bound), Some([1, 2, 48, 0]));
+}
+
+/// What a lister holds whose numbers these are.
+fn held_of(counted: Option<(Counts, (u128, u128))>) -> Option<u128> {
+    match counted {
         Some((counts, _)) => Some(counts.held),
         None => None,
     }
 }
 
-#[test]
-fn heap_of_what_is_held_is_enough(rt: HostRuntime) {
-    let found = (held_in(&rt, rt.alloc(), 272), held_in(&rt, rt.alloc(), 288));
-    assert_same(&rt, found, (None, Some(288)));
+/// What a lister of `FOUR` holds in a heap of so many bytes, if it is opened there.
+fn held_in(rt: &impl Abort, alloc: Global, size: usize) -> Option<u128> {
+    let file = file_of(rt, alloc, 4, &FOUR);
+    let heap = LocalHeap::new(alloc, size).expect(rt, "a heap");
+    held_of(counted(&heap, MemoryStore::new(&file), WHOLE_BLOCKS))
 }
 
-/// How many calls are counted aside of 64-bit memory in a store that fails at this call, where each other call and each
-/// byte is counted too; none where a lister is not opened.
-fn calls_aside(rt: &impl Abort, alloc: Global, fail_at: u64) -> Option<u128> {
-    let store = patchy(rt, &MEMORY64, &[4096], Some(fail_at));
-    match counted(alloc, store, LEAST) {
-        Some((counts, (bytes, calls))) => {
-            let all = counts.fetched.saturating_add(counts.aside);
-            assert_same_at(rt, &fail_at, bytes, all);
-            Some(calls.saturating_sub(counts.calls))
-        }
-        None => None,
-    }
+#[test]
+fn heap_of_what_is_held_is_enough(rt: HostRuntime) {
+    assert_same(&rt, held_in(&rt, rt.alloc(), 272), None);
+    assert_same(&rt, held_in(&rt, rt.alloc(), 288), Some(288));
+}
+
+/// What is counted of 64-bit memory in a store that fails at this call.
+fn counted_failing(rt: &impl Abort, alloc: Global, fail_at: u64) -> Option<(Counts, (u128, u128))> {
+    counted(alloc, patchy(rt, &MEMORY64, &[4096], Some(fail_at)), LEAST)
+}
+
+/// Asserts that each byte and each call of such a store is counted, so many calls aside.
+fn assert_all_counted(rt: &impl Abort, alloc: Global, fail_at: u64, aside: u128) {
+    let (counts, fetched) = counted_failing(rt, alloc, fail_at).expect(rt, "a lister");
+    let bytes = counts.fetched.saturating_add(counts.aside);
+    let calls = counts.calls.saturating_add(aside);
+    assert_same_at(rt, &fail_at, fetched, (bytes, calls));
+}
+
+/// Whether a lister of such a store is opened.
+fn is_opened(rt: &impl Abort, alloc: Global, fail_at: u64) -> bool {
+    counted_failing(rt, alloc, fail_at).is_some()
 }
 
 #[test]
 fn store_that_fails_keeps_the_equation_of_the_counts(rt: HostRuntime) {
-    for fail_at in 0..10 {
-        let expected = match fail_at {
-            // The header, the entry and the head that is read ahead are read as the file is opened.
-            0..3 => None,
-            3 => Some(0),
-            // Once the ranges are listed, memory is read aside, by one call.
-            _ => Some(1),
-        };
-        assert_same_at(
-            &rt,
-            &fail_at,
-            calls_aside(&rt, rt.alloc(), fail_at),
-            expected,
-        );
+    // The header, the entry and the head that is read ahead are read as the file is opened.
+    for fail_at in 0..3 {
+        assert_same_at(&rt, &fail_at, is_opened(&rt, rt.alloc(), fail_at), false);
+    }
+    // Once the ranges are listed, memory is read aside, by one call.
+    assert_all_counted(&rt, rt.alloc(), 3, 0);
+    for fail_at in 4..10 {
+        assert_all_counted(&rt, rt.alloc(), fail_at, 1);
     }
 }
 
-#[test]
-fn calls_for_the_listing_are_counted(rt: HostRuntime) {
+/// How many calls a lister of one system counts when it is opened and behind all its items, and how many its
+/// source counts.
+fn system_calls(rt: &impl Abort, alloc: Global) -> (u128, u128, u128) {
     let store = MemoryStore::new(&SYSTEM);
-    let mut lister = opened(&rt, rt.alloc(), store, NAMED, Choice::All);
+    let mut lister = opened(rt, alloc, store, NAMED, Choice::All);
     let opened = counts_of(&lister).calls;
     let _ = list_all(&mut lister);
     let listed = counts_of(&lister).calls;
     let (_, calls) = fetched_by(lister);
+    (opened, listed, calls)
+}
+
+#[test]
+fn calls_for_the_listing_are_counted(rt: HostRuntime) {
     // The header and the entry; then the record, the length of its name and its units.
-    assert_same(&rt, (opened, listed, calls), (2, 5, 5));
+    assert_same(&rt, system_calls(&rt, rt.alloc()), (2, 5, 5));
 }

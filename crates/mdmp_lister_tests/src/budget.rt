@@ -1,122 +1,119 @@
 //! Listings that may fetch so many bytes and no more.
-use crate::files::{ListedFile, file_of};
-use crate::opening::{Outcome, all, fault, run_over};
-use crate::same::{assert_same, assert_same_at};
-use crate::script::{Play, assert_plays, play};
+use crate::files::named_by_a_thousand;
+use crate::given::stream;
+use crate::opening::{Outcome, all, fault, open_and_close, run_over};
+use crate::same::{assert_same, assert_same_at, assert_that};
+use crate::script::{Call, entries, fails, gives, has_numbers, play, skips};
 use crate::walking;
-use mdmp_lister::{Choice, FaultKind, Limits, OpenFault, RunFault};
+use mdmp_lister::{Choice, FaultKind, Limits, ListFault, OpenFault, RunFault};
 use mdmp_source::{MemoryStore, Source};
 use mdmp_test_support::{MEMORY64, SYSTEM};
+use std::alloc::Global;
+use std::process::Abort;
 
 /// The window and the names of the program, with a budget.
-macro_rules! within {
-    ($budget:expr) => {
-        within!(65536, 4096, $budget)
-    };
-    ($window:expr, $name:expr, $budget:expr) => {
-        Limits {
-            window: $window,
-            name: $name,
-            budget: Some($budget),
-            memory: None,
-            aside: None,
-        }
-    };
+fn within(rt: &impl Abort, window: u32, name: u32, budget: u64) -> Limits {
+    Limits::with_budget(window, name, budget).expect(rt, "limits")
 }
 
-/// Why a file is not opened where a fetch of so many bytes at this offset would pass the budget.
-macro_rules! refused {
-    ($offset:expr, $size:expr) => {
-        Err(OpenFault::Budget {
-            offset: $offset,
-            size: $size,
-        })
-    };
+/// What a listing of a file comes to with these limits, and how many bytes it fetched.
+fn listed(alloc: Global, file: &[u8], limits: Limits) -> (Outcome, u128) {
+    let source = Source::new(MemoryStore::new(file));
+    let (outcome, source) = run_over(alloc, source, limits, Choice::All);
+    (outcome, source.fetched())
 }
 
-/// How a listing ends behind its Stream item in the place of such a fetch.
-macro_rules! ended {
-    ($offset:expr, $size:expr) => {
-        Ok((Some(RunFault::At(fault!(None, Budget, $offset, $size))), 1, 0))
-    };
+/// Asserts what a listing of the system comes to with this budget, and how many bytes it fetches.
+fn assert_system(rt: &impl Abort, alloc: Global, budget: u64, outcome: Outcome, fetched: u128) {
+    let found = listed(alloc, &SYSTEM, within(rt, 65536, 4096, budget));
+    assert_same_at(rt, &budget, found, (outcome, fetched));
 }
 
-/// The first bytes of a file, as many as this, a budget, what a listing comes to, and how many bytes it fetches.
-type BudgetRow = (&'static [u8], usize, u64, Outcome, u128);
+/// Asserts that a listing of the system is refused with this budget, in the place of a fetch of these bytes.
+fn assert_refused(rt: &impl Abort, alloc: Global, budget: u64, offset: u64, size: u64) {
+    let outcome = Outcome::Refused(OpenFault::Budget { offset, size });
+    assert_system(rt, alloc, budget, outcome, u128::from(offset));
+}
 
-const BUDGETS: &[BudgetRow] = &[
-    // A fetch that would pass the budget is not made.
-    (&SYSTEM, 136, 0, refused!(0, 32), 0),
-    (&SYSTEM, 136, 31, refused!(0, 32), 0),
-    (&SYSTEM, 136, 32, refused!(32, 12), 32),
-    (&SYSTEM, 136, 43, refused!(32, 12), 32),
-    (&SYSTEM, 136, 44, ended!(44, 56), 44),
-    (&SYSTEM, 136, 99, ended!(44, 56), 44),
-    (&SYSTEM, 136, 100, ended!(100, 4), 100),
-    (&SYSTEM, 136, 103, ended!(100, 4), 100),
-    (&SYSTEM, 136, 104, ended!(104, 28), 104),
-    (&SYSTEM, 136, 131, ended!(104, 28), 104),
-    // A budget that is enough changes nothing.
-    (&SYSTEM, 136, 132, all!(2, 0), 132),
-    (&SYSTEM, 136, 133, all!(2, 0), 132),
-    (&SYSTEM, 136, u64::MAX, all!(2, 0), 132),
-    // A file that is too short is told before the budget.
-    (&SYSTEM, 31, 0, Err(OpenFault::TooShort { size: 31 }), 0),
-    // The head of a memory list may pass the budget.
-    (&MEMORY64, 98, 59, refused!(44, 16), 44),
-];
+/// Asserts that it ends behind its Stream item, in the place of a fetch of these bytes.
+fn assert_ended(rt: &impl Abort, alloc: Global, budget: u64, offset: u64, size: u64) {
+    let outcome = Outcome::Listed {
+        fault: Some(RunFault::At(fault(None, FaultKind::Budget, offset, size))),
+        items: 1,
+        mapped: 0,
+    };
+    assert_system(rt, alloc, budget, outcome, u128::from(offset));
+}
 
 #[test]
 fn fetch_that_would_pass_the_budget_is_not_made(rt: HostRuntime) {
-    for (bytes, size, budget, outcome, fetched) in BUDGETS {
-        let file = file_of(&rt, rt.alloc(), ListedFile::Bytes(*bytes, *size));
-        let source = Source::new(MemoryStore::new(&file));
-        let limits = within!(*budget);
-        let (found, source) = run_over(rt.alloc(), source, limits, Choice::All);
-        let expected = (*outcome, *fetched);
-        assert_same_at(&rt, &(size, budget), (found, source.fetched()), expected);
-    }
+    assert_refused(&rt, rt.alloc(), 0, 0, 32);
+    assert_refused(&rt, rt.alloc(), 31, 0, 32);
+    assert_refused(&rt, rt.alloc(), 32, 32, 12);
+    assert_refused(&rt, rt.alloc(), 43, 32, 12);
+    assert_ended(&rt, rt.alloc(), 44, 44, 56);
+    assert_ended(&rt, rt.alloc(), 99, 44, 56);
+    assert_ended(&rt, rt.alloc(), 100, 100, 4);
+    assert_ended(&rt, rt.alloc(), 103, 100, 4);
+    assert_ended(&rt, rt.alloc(), 104, 104, 28);
+    assert_ended(&rt, rt.alloc(), 131, 104, 28);
 }
 
-const REACHED: [Play; 1] = [play!(
-    "a budget that is reached stays so",
-    ListedFile::Bytes(&SYSTEM, 136),
-    within!(99),
-    [
-        entries(1),
-        gives(stream(0, 7, 56, 44)),
-        fails(fault!(None, Budget, 44, 56)),
-        skips(),
-        fails(fault!(None, Budget, 44, 56)),
-        has_numbers(136, 0),
-    ]
-)];
+#[test]
+fn budget_that_is_enough_changes_nothing(rt: HostRuntime) {
+    assert_system(&rt, rt.alloc(), 132, all(2, 0), 132);
+    assert_system(&rt, rt.alloc(), 133, all(2, 0), 132);
+    assert_system(&rt, rt.alloc(), u64::MAX, all(2, 0), 132);
+}
+
+#[test]
+fn file_that_is_too_short_is_told_before_the_budget(rt: HostRuntime) {
+    let source = Source::new(MemoryStore::new(&SYSTEM[..31]));
+    let limits = within(&rt, 65536, 4096, 0);
+    let (fault, source) = open_and_close(rt.alloc(), source, limits, Choice::All);
+    assert_same(&rt, fault, Some(OpenFault::TooShort { size: 31 }));
+    assert_same(&rt, source.fetched(), 0);
+}
 
 #[test]
 fn budget_that_is_reached_stays_so(rt: HostRuntime) {
-    let plays = REACHED;
-    assert_plays(&rt, rt.alloc(), &plays);
+    let reached = fault(None, FaultKind::Budget, 44, 56);
+    let script: [Call; 6] = [
+        entries(1),
+        gives(stream(0, 7, 56, 44)),
+        fails(reached),
+        skips(),
+        fails(reached),
+        has_numbers(136, 0),
+    ];
+    let limits = within(&rt, 65536, 4096, 99);
+    let store = MemoryStore::new(&SYSTEM);
+    let size = play(&rt, rt.alloc(), store, limits, Choice::All, &script);
+    assert_same(&rt, size, 136);
+}
+
+/// Asserts that a listing ended by its budget of so many bytes, behind some items, and fetched no more.
+fn assert_within(rt: &impl Abort, found: ListFault, items: u64, fetched: u128, budget: u64) {
+    assert_same(rt, (found.kind, found.index), (FaultKind::Budget, None));
+    assert_that(rt, items > 1);
+    assert_that(rt, fetched <= u128::from(budget));
+    let asked = fetched.saturating_add(u128::from(found.size));
+    assert_that(rt, asked > u128::from(budget));
 }
 
 #[test]
 fn list_that_a_thousand_entries_name_ends_at_the_budget(rt: HostRuntime) {
-    let file = file_of(&rt, rt.alloc(), ListedFile::Thousand);
-    let source = Source::new(MemoryStore::new(&file));
-    let limits = within!(168, 0, 20000);
-    let (outcome, source) = run_over(rt.alloc(), source, limits, Choice::All);
-    let fetched = source.fetched();
-    let (kind, index, size, items) = match outcome {
-        Ok((Some(RunFault::At(found)), items, _)) => (found.kind, found.index, found.size, items),
+    let file = named_by_a_thousand(&rt, rt.alloc());
+    let limits = within(&rt, 168, 0, 20000);
+    let (outcome, fetched) = listed(rt.alloc(), &file, limits);
+    match outcome {
+        Outcome::Listed {
+            fault: Some(RunFault::At(found)),
+            items,
+            ..
+        } => assert_within(&rt, found, items, fetched, 20000),
         _ => panic!(&rt; "no fault"),
-    };
-    // It ends behind some items, and fetches no more.
-    assert_same(
-        &rt,
-        (kind, index, items > 1),
-        (FaultKind::Budget, None, true),
-    );
-    let asked = fetched.saturating_add(u128::from(size));
-    assert_same(&rt, (fetched <= 20000, asked > 20000), (true, true));
+    }
 }
 
 /// The budget of limits with a budget, or none where there are no such limits.
@@ -127,42 +124,54 @@ fn budget_of(window: u32, budget: u64) -> Option<Option<u64>> {
     }
 }
 
-/// A window, a budget, and whether there are such limits.
-const ANY: [(u32, u64, bool); 4] = [
-    (167, 1, false),
-    (168, 0, true),
-    (168, 1, true),
-    (168, u64::MAX, true),
-];
-
 #[test]
 fn budgets_are_any_number(rt: HostRuntime) {
-    for (window, budget, is_some) in &ANY {
-        let expected = if *is_some { Some(Some(*budget)) } else { None };
-        assert_same_at(&rt, budget, budget_of(*window, *budget), expected);
-    }
+    assert_same(&rt, budget_of(167, 1), None);
+    assert_same(&rt, budget_of(168, 0), Some(Some(0)));
+    assert_same(&rt, budget_of(168, 1), Some(Some(1)));
+    assert_same(&rt, budget_of(168, u64::MAX), Some(Some(u64::MAX)));
     let usual = Limits::new(168, 0).expect(&rt, "limits");
     assert_same(&rt, usual.budget, None);
 }
 
 #[test]
+fn head_of_a_memory_list_may_pass_the_budget(rt: HostRuntime) {
+    let limits = within(&rt, 65536, 4096, 59);
+    let found = listed(rt.alloc(), &MEMORY64, limits);
+    let refused = OpenFault::Budget {
+        offset: 44,
+        size: 16,
+    };
+    assert_same(&rt, found, (Outcome::Refused(refused), 44));
+}
+
+#[test]
 fn walker_is_not_opened_over_its_budget(rt: HostRuntime) {
     let source = Source::new(MemoryStore::new(&SYSTEM));
-    let (fault, source) = walking::open_and_close(rt.alloc(), source, within!(43));
+    let limits = within(&rt, 65536, 4096, 43);
+    let (fault, source) = walking::open_and_close(rt.alloc(), source, limits);
     let refused = OpenFault::Budget {
         offset: 32,
         size: 12,
     };
-    assert_same(&rt, (fault, source.fetched()), (Some(refused), 32));
+    assert_same(&rt, fault, Some(refused));
+    assert_same(&rt, source.fetched(), 32);
+}
+
+/// What the second item of a walker with a budget is, and what its source has fetched.
+fn second_of(rt: &impl Abort, alloc: Global, budget: u64) -> (Option<ListFault>, u128) {
+    let store = MemoryStore::new(&SYSTEM);
+    let limits = within(rt, 65536, 4096, budget);
+    let mut walker = walking::open_over(rt, alloc, store, limits, Choice::All);
+    let first = walking::step_of(&mut walker);
+    assert_that(rt, first.is_ok());
+    let second = walking::step_of(&mut walker).err();
+    (second, walking::fetched_of(walker))
 }
 
 #[test]
 fn walker_ends_at_its_budget(rt: HostRuntime) {
-    let store = MemoryStore::new(&SYSTEM);
-    let mut walker = walking::open_over(&rt, rt.alloc(), store, within!(99), Choice::All);
-    let first = walking::step_of(&mut walker);
-    let second = walking::step_of(&mut walker).err();
-    let found = (first.is_ok(), second, walking::close(walker));
-    let reached = fault!(None, Budget, 44, 56);
-    assert_same(&rt, found, (true, Some(reached), 44));
+    let reached = fault(None, FaultKind::Budget, 44, 56);
+    let ended = second_of(&rt, rt.alloc(), 99);
+    assert_same(&rt, ended, (Some(reached), 44));
 }

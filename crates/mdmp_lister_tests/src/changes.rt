@@ -1,10 +1,10 @@
 //! A lister and a walker over a store that changes while it is read.
-use crate::files::ListedFile;
+use crate::given::{range, stream};
 use crate::opening::{fault, open_and_close};
-use crate::same::assert_same_at;
-use crate::script::{LEAST, NOWHERE, Play, assert_plays_over, play};
-use mdmp_lister::{Choice, FaultKind, ListFault};
-use mdmp_source::{Source, SourceFault, TwoFaces};
+use crate::script::{Call, LEAST, counts, ends, fails, gives, has_room, play};
+use crate::walking::assert_walks;
+use mdmp_lister::{Choice, FaultKind};
+use mdmp_source::{Extent, Source, SourceFault, TwoFaces};
 use mdmp_test_support::{ABCD_RANGE, WXYZ_RANGE, memory_file};
 use std::alloc::Global;
 use std::process::Abort;
@@ -20,74 +20,6 @@ pub fn faces<'a>(rt: &impl Abort, first: &'a [u8], second: &'a [u8], turn: u64) 
     TwoFaces::new(first, second, turn)
 }
 
-/// The fault of a list that counts more ranges than before.
-const CHANGED: ListFault = fault!(
-    0,
-    None,
-    FaultKind::Source(SourceFault::Changed { at: 44 }),
-    44,
-    0
-);
-
-/// The files of a store that changes are made of counts, and not of this.
-const NO_FILE: ListedFile = ListedFile::Numbers(0, &[]);
-
-/// How many ranges a list counts first, and how many from the first call on behind those that open it: the header, the
-/// directory, and for a lister the head of the list.
-const CHANGES: [(u32, u32, u64, Play); 3] = [
-    (
-        1,
-        2,
-        3,
-        play!(
-            "a list that counts more ranges than before has changed",
-            NO_FILE,
-            LEAST,
-            [
-                has_room(0, 1),
-                gives(stream(0, 5, 36, 44)),
-                fails(CHANGED),
-                fails(CHANGED),
-            ]
-        ),
-    ),
-    (
-        2,
-        1,
-        3,
-        play!(
-            "a list that counts fewer ranges than before is listed",
-            NO_FILE,
-            LEAST,
-            [
-                has_room(0, 2),
-                gives(stream(0, 5, 36, 44)),
-                gives(range(0, 0, 0x1000, 4, Inside, 80)),
-                ends(),
-            ]
-        ),
-    ),
-    (
-        1,
-        2,
-        2,
-        play!(
-            walker "a walker has no room to keep, and tells no change",
-            NO_FILE,
-            LEAST,
-            types &[],
-            caps &[],
-            [
-                gives(stream(0, 5, 36, 44)),
-                counts(2),
-                gives(range(0, 0, 0x1000, 4, Inside, 80)),
-                gives(range(0, 1, 0x1002, 4, Inside, 84)),
-                ends(),
-            ]
-        ),
-    ),
-];
-
 /// How many calls of its store opening this file takes.
 fn reads_of_open(rt: &impl Abort, alloc: Global, file: &[u8]) -> u64 {
     let source = Source::new(faces(rt, file, file, u64::MAX));
@@ -95,14 +27,55 @@ fn reads_of_open(rt: &impl Abort, alloc: Global, file: &[u8]) -> u64 {
     source.into_store().reads()
 }
 
+/// Asserts that a lister gives the answers of a script over a store whose list counts first `first` ranges,
+/// and `second` from the first call behind the opening on.
+fn assert_plays_changed(rt: &impl Abort, alloc: Global, first: u32, second: u32, script: &[Call]) {
+    let first = counting(rt, alloc, first);
+    let second = counting(rt, alloc, second);
+    let turn = reads_of_open(rt, alloc, &first);
+    let store = faces(rt, &first, &second, turn);
+    let _ = play(rt, alloc, store, LEAST, Choice::All, script);
+}
+
 #[test]
 fn list_that_counts_more_ranges_than_before_has_changed(rt: HostRuntime) {
-    let rows = CHANGES;
-    for (first, second, turn, play) in &rows {
-        let before = counting(&rt, rt.alloc(), *first);
-        let behind = counting(&rt, rt.alloc(), *second);
-        assert_same_at(&rt, turn, reads_of_open(&rt, rt.alloc(), &before), 3);
-        let store = faces(&rt, &before, &behind, *turn);
-        assert_plays_over(&rt, rt.alloc(), store, 88, play, NOWHERE);
-    }
+    let changed = FaultKind::Source(SourceFault::Changed { at: 44 });
+    let script = [
+        has_room(0, 1),
+        gives(stream(0, 5, 36, 44)),
+        fails(fault(None, changed, 44, 0)),
+        fails(fault(None, changed, 44, 0)),
+    ];
+    assert_plays_changed(&rt, rt.alloc(), 1, 2, &script);
+}
+
+#[test]
+fn list_that_counts_fewer_ranges_than_before_is_listed(rt: HostRuntime) {
+    let script = [
+        has_room(0, 2),
+        gives(stream(0, 5, 36, 44)),
+        gives(range(0, 0x1000, 4, Extent::Inside, 80)),
+        ends(),
+    ];
+    assert_plays_changed(&rt, rt.alloc(), 2, 1, &script);
+}
+
+/// Asserts that a walker gives the answers of a script over a store whose list counts one range, and two
+/// behind the opening: the header and the directory are read then, and no head.
+fn assert_walks_changed(rt: &impl Abort, alloc: Global, script: &[Call]) {
+    let first = counting(rt, alloc, 1);
+    let second = counting(rt, alloc, 2);
+    assert_walks(rt, alloc, LEAST, faces(rt, &first, &second, 2), script);
+}
+
+#[test]
+fn walker_has_no_room_to_keep_and_tells_no_change(rt: HostRuntime) {
+    let script = [
+        gives(stream(0, 5, 36, 44)),
+        counts(2),
+        gives(range(0, 0x1000, 4, Extent::Inside, 80)),
+        gives(range(1, 0x1002, 4, Extent::Inside, 84)),
+        ends(),
+    ];
+    assert_walks_changed(&rt, rt.alloc(), &script);
 }

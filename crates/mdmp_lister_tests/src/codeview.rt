@@ -1,11 +1,12 @@
 //! The CodeView record of a module, read beside the listing.
-use crate::files::{ListedFile, file_of, numbers_file};
+use crate::files::file_of;
 use crate::given::{Text, short_text};
-use crate::opening::{close, counts_of, opened, patchy};
-use crate::same::assert_same_at;
+use crate::opening::{close, counts_of, limits_of, opened, patchy};
+use crate::same::{assert_same, assert_same_at};
 use crate::script::STANDARD;
-use mdmp_lister::{Choice, Limits, Lister};
+use mdmp_lister::{Choice, Lister};
 use mdmp_source::{Location, MemoryStore, SourceFault, Store, inside};
+use mdmp_test_support::{CODEVIEW_RECORD, module_file};
 use mdmp_wire::CodeView;
 use std::alloc::{Allocator, Global};
 use std::process::Abort;
@@ -47,81 +48,68 @@ pub fn told_at<S: Store + Drop, A: Allocator + Copy>(
     }
 }
 
-/// The first bytes of a record, as many as this, whose first four are this number, the limit of a name, what they tell,
-/// and how many bytes are fetched for it.
-type SymbolFileRow = (u32, u32, u32, RecordTold, u128);
-
-/// The symbol file with this name, and whether a zero byte ends it.
-macro_rules! symbol_file {
-    ($len:expr, $bytes:expr, $ended:expr) => {
-        Ok((
-            *b"\x00\x11\x22\x33\x44\x55\x66\x77\x88\x99\xaa\xbb\xcc\xdd\xee\xff",
-            1,
-            ($len, $bytes),
-            $ended,
-        ))
-    };
-}
-
-/// The signature of a symbol file.
-const RSDS: u32 = 0x53445352;
-
-const RECORDS: &[SymbolFileRow] = &[
-    // A symbol file is named up to the limit.
-    (
-        RSDS,
-        30,
-        4096,
-        symbol_file!(5, *b"a.pdb\0\0\0\0\0\0\0\0\0\0\0", true),
-        30,
-    ),
-    (
-        RSDS,
-        30,
-        3,
-        symbol_file!(3, *b"a.p\0\0\0\0\0\0\0\0\0\0\0\0\0", false),
-        27,
-    ),
-    (RSDS, 30, 0, symbol_file!(0, [0; 16], false), 24),
-    (RSDS, 24, 4096, symbol_file!(0, [0; 16], false), 24),
-    // Short and other records name none.
-    (RSDS, 23, 4096, Err((None, 23)), 23),
-    (0x5344534e, 30, 4096, Err((Some(*b"NSDS"), 30)), 24),
-];
-
-/// What a record of so many bytes at 32 tells, and how many bytes are fetched for it.
+/// What the first `size` bytes of a record tell, whose first four are this number, where names have at most
+/// `name` bytes; and how many bytes are fetched for it.
 fn told_of(
     rt: &impl Abort,
     alloc: Global,
-    file: &[u8],
+    signature: u32,
     size: u32,
     name: u32,
 ) -> (Option<Result<RecordTold, SourceFault>>, u128) {
-    let limits = Limits {
-        window: 168,
-        name,
-        budget: None,
-        memory: None,
-        aside: None,
-    };
-    let mut lister = opened(rt, alloc, MemoryStore::new(file), limits, Choice::All);
+    // An identity, an age of 1, and `a.pdb` with its zero byte.
+    let numbers = [
+        signature, 0x00112233, 0x66774455, 0xbbaa9988, 0xffeeddcc, 1, 0x64702e61, 0x00000062,
+    ];
+    let file = file_of(rt, alloc, 0, &numbers);
+    let limits = limits_of(rt, 168, name);
+    let mut lister = opened(rt, alloc, MemoryStore::new(&file), limits, Choice::All);
     let told = told_at(&mut lister, Location { size, rva: 32 });
     let fetched = counts_of(&lister).aside;
     close(lister);
     (told, fetched)
 }
 
+/// Asserts that of such a record.
+fn assert_told(
+    rt: &impl Abort,
+    alloc: Global,
+    signature: u32,
+    size: u32,
+    name: u32,
+    told: RecordTold,
+    fetched: u128,
+) {
+    let found = told_of(rt, alloc, signature, size, name);
+    assert_same(rt, found, (Some(Ok(told)), fetched));
+}
+
+const RSDS: u32 = 0x53445352;
+
+/// The symbol file with this name, and whether a zero byte ends it.
+fn symbol_file(name: &str, ended: bool) -> RecordTold {
+    let guid = *b"\x00\x11\x22\x33\x44\x55\x66\x77\x88\x99\xaa\xbb\xcc\xdd\xee\xff";
+    Ok((guid, 1, short_text(name.as_bytes()), ended))
+}
+
 #[test]
 fn symbol_file_is_named_up_to_the_limit(rt: HostRuntime) {
-    for (signature, size, limit, told, fetched) in RECORDS {
-        // An identity, an age of 1, and `a.pdb` with its zero byte.
-        let numbers = [
-            *signature, 0x00112233, 0x66774455, 0xbbaa9988, 0xffeeddcc, 1, 0x64702e61, 0x00000062,
-        ];
-        let file = numbers_file(&rt, rt.alloc(), 0, &numbers);
-        let found = told_of(&rt, rt.alloc(), &file, *size, *limit);
-        assert_same_at(&rt, &(size, limit), found, (Some(Ok(*told)), *fetched));
+    for (size, limit, name, ended, fetched) in [
+        (30, 4096, "a.pdb", true, 30),
+        (30, 3, "a.p", false, 27),
+        (30, 0, "", false, 24),
+        (24, 4096, "", false, 24),
+    ] {
+        let told = symbol_file(name, ended);
+        assert_told(&rt, rt.alloc(), RSDS, size, limit, told, fetched);
     }
+}
+
+#[test]
+fn short_and_other_records_name_no_symbol_file(rt: HostRuntime) {
+    assert_told(&rt, rt.alloc(), RSDS, 23, 4096, Err((None, 23)), 23);
+    let other = Err((Some(*b"NSDS"), 30));
+    assert_told(&rt, rt.alloc(), 0x5344534e, 30, 4096, other, 24);
 }
 
 /// What a record tells of its symbol file in a store: a fault of the store, or the size of the name.
@@ -130,7 +118,7 @@ type NameTold = Option<Result<usize, SourceFault>>;
 /// That of the record of 30 bytes at 156.
 fn named_in<S: Store + Drop, A: Allocator + Copy>(lister: &mut Lister<S, A>) -> NameTold {
     match told_at(lister, Location { size: 30, rva: 156 }) {
-        Some(Ok(Ok((_, _, (len, _), _)))) => Some(Ok(len)),
+        Some(Ok(Ok((_, _, Text { len, .. }, _)))) => Some(Ok(len)),
         Some(Err(fault)) => Some(Err(fault)),
         _ => None,
     }
@@ -138,8 +126,9 @@ fn named_in<S: Store + Drop, A: Allocator + Copy>(lister: &mut Lister<S, A>) -> 
 
 /// What is told of that record in a store that gives one byte a call and fails at this one, first and then once
 /// more.
-fn told_twice(rt: &impl Abort, alloc: Global, file: &[u8], fail_at: u64) -> [NameTold; 2] {
-    let store = patchy(rt, file, &[1], Some(fail_at));
+fn told_twice(rt: &impl Abort, alloc: Global, fail_at: u64) -> [NameTold; 2] {
+    let file = module_file(alloc, 30, CODEVIEW_RECORD).expect(rt, "memory");
+    let store = patchy(rt, &file, &[1], Some(fail_at));
     let mut lister = opened(rt, alloc, store, STANDARD, Choice::All);
     let first = named_in(&mut lister);
     let second = named_in(&mut lister);
@@ -149,18 +138,14 @@ fn told_twice(rt: &impl Abort, alloc: Global, file: &[u8], fail_at: u64) -> [Nam
 
 #[test]
 fn each_call_of_a_record_may_fail(rt: HostRuntime) {
-    let file = file_of(&rt, rt.alloc(), ListedFile::Module);
-    // 44 calls open the file; 24 are of the head, and six of the name. The call behind them is of the record that is read
-    // then.
-    for call in 0..31 {
-        let at = 156 + call % 30;
-        let failed = Some(Err(SourceFault::Failed { at }));
-        let expected = if call < 30 {
-            [failed, Some(Ok(5))]
-        } else {
-            [Some(Ok(5)), failed]
-        };
-        let told = told_twice(&rt, rt.alloc(), &file, 44 + call);
-        assert_same_at(&rt, &call, told, expected);
+    // 44 calls open the file; 24 are of the head, and six of the name.
+    for call in 0..30 {
+        let failed = Some(Err(SourceFault::Failed { at: 156 + call }));
+        let told = told_twice(&rt, rt.alloc(), 44 + call);
+        assert_same_at(&rt, &call, told, [failed, Some(Ok(5))]);
     }
+    // The call behind them is of the record that is read then.
+    let failed = Some(Err(SourceFault::Failed { at: 156 }));
+    let told = told_twice(&rt, rt.alloc(), 74);
+    assert_same(&rt, told, [Some(Ok(5)), failed]);
 }

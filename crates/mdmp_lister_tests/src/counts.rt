@@ -1,94 +1,92 @@
 //! Which ranges of memory are counted when a file is opened.
-use crate::files::{ListedFile, crowded};
+use crate::files::crowded;
+use crate::given::{What, nameless, range, stream};
 use crate::opening::{chosen, fault, open_and_close};
 use crate::same::assert_same;
-use crate::script::{LEAST, Play, assert_plays, play};
-use mdmp_lister::{Choice, OpenFault};
-use mdmp_source::{MemoryStore, Source};
+use crate::script::{
+    LEAST, assert_plays_chosen, assert_plays_numbers, ends, fails, finds, gives, has_room, runs,
+    skips,
+};
+use mdmp_lister::{Choice, FaultKind, OpenFault};
+use mdmp_source::{Extent, MemoryStore, Source};
 use mdmp_test_support::OVERLAPPING;
 use std::alloc::Global;
 use std::process::Abort;
 
-const COUNTED: [Play; 5] = [
-    // A memory list, one of 64 bits, and the first once more; ABCD and EFGH stand behind them.
-    play!(
-        "each list adds its ranges, and a repeated one again",
-        ListedFile::Numbers(
-            3,
-            &[
-                5, 20, 68, 9, 32, 88, 5, 20, 68, // the directory
-                1, 0x1000, 0, 4, 120, // at 68
-                1, 0, 124, 0, 0x2000, 0, 4, 0, // at 88
-                0x44434241, 0x48474645,
-            ],
-        ),
-        LEAST,
-        [
-            has_room(0, 3),
-            gives(stream(0, 5, 20, 68)),
-            gives(range(0, 0, 0x1000, 4, Inside, 120)),
-            has_room(1, 2),
-            gives(stream(1, 9, 32, 88)),
-            gives(range(1, 0, 0x2000, 4, Inside, 124)),
-            has_room(2, 1),
-            gives(stream(2, 5, 20, 68)),
-            gives(range(2, 0, 0x1000, 4, Inside, 120)),
-            has_room(3, 0),
-            ends(),
-            finds(0x1003, 123, 1),
-            finds(0x2000, 124, 4),
-        ]
-    ),
-    play!(
-        "a list of which threads alone are chosen is not mapped",
-        ListedFile::Numbers(1, &OVERLAPPING),
-        LEAST,
-        types & [3],
-        [has_room(0, 0), runs(u64::MAX, None, 0), has_room(0, 0),]
-    ),
-    play!(
-        "a list of which 64-bit lists alone are chosen is not mapped",
-        ListedFile::Numbers(1, &OVERLAPPING),
-        LEAST,
-        types & [9],
-        [has_room(0, 0), runs(u64::MAX, None, 0), has_room(0, 0),]
-    ),
-    play!(
-        "a list that is chosen is mapped",
-        ListedFile::Numbers(1, &OVERLAPPING),
-        LEAST,
-        types & [5],
-        [has_room(0, 2), runs(u64::MAX, None, 3), has_room(2, 0),]
-    ),
-    // A memory list of 20 bytes that counts two ranges, and one that counts one.
-    play!(
-        "a list with a bad count is opened, and told later",
-        ListedFile::Numbers(
-            2,
-            &[
-                5, 20, 56, 5, 20, 76, 2, 0x1000, 0, 4, 32, 1, 0x2000, 0, 4, 36
-            ],
-        ),
-        LEAST,
-        [
-            has_room(0, 1),
-            gives(stream(0, 5, 20, 56)),
-            fails(fault!(None, BadCount, 56, 2)),
-            has_room(0, 1),
-            skips(),
-            gives(stream(1, 5, 20, 76)),
-            gives(range(1, 0, 0x2000, 4, Inside, 36)),
-            ends(),
-            has_room(1, 0),
-            finds(0x2000, 36, 4),
-        ]
-    ),
-];
+/// A range of four bytes inside the file.
+fn inside(start: u64, offset: u128) -> What {
+    What::Range {
+        start,
+        size: 4,
+        extent: Extent::Inside,
+        offset,
+    }
+}
 
 #[test]
-fn each_list_that_is_chosen_adds_its_ranges(rt: HostRuntime) {
-    let plays = COUNTED;
-    assert_plays(&rt, rt.alloc(), &plays);
+fn each_list_adds_its_ranges_and_a_repeated_one_again(rt: HostRuntime) {
+    // A memory list, one of 64 bits, and the first once more; ABCD and EFGH stand behind them.
+    let numbers = [
+        5, 20, 68, 9, 32, 88, 5, 20, 68, // the directory
+        1, 0x1000, 0, 4, 120, // at 68
+        1, 0, 124, 0, 0x2000, 0, 4, 0, // at 88
+        0x44434241, 0x48474645,
+    ];
+    let script = [
+        has_room(0, 3),
+        gives(stream(0, 5, 20, 68)),
+        gives(range(0, 0x1000, 4, Extent::Inside, 120)),
+        has_room(1, 2),
+        gives(stream(1, 9, 32, 88)),
+        gives(nameless(1, 0, inside(0x2000, 124))),
+        has_room(2, 1),
+        gives(stream(2, 5, 20, 68)),
+        gives(nameless(2, 0, inside(0x1000, 120))),
+        has_room(3, 0),
+        ends(),
+        finds(0x1003, 123, 1),
+        finds(0x2000, 124, 4),
+    ];
+    assert_plays_numbers(&rt, rt.alloc(), LEAST, 3, &numbers, &script);
+}
+
+/// Asserts that a lister of this type alone gives so many items of two ranges, and maps so many of them.
+fn assert_mapped(rt: &impl Abort, alloc: Global, stream_type: u32, items: u64, ranges: usize) {
+    let script = [
+        has_room(0, ranges),
+        runs(u64::MAX, None, items),
+        has_room(ranges, 0),
+    ];
+    let types = [stream_type];
+    assert_plays_chosen(rt, alloc, LEAST, 1, &OVERLAPPING, &types, &script);
+}
+
+#[test]
+fn list_that_is_not_chosen_is_not_mapped(rt: HostRuntime) {
+    assert_mapped(&rt, rt.alloc(), 3, 0, 0);
+    assert_mapped(&rt, rt.alloc(), 9, 0, 0);
+    assert_mapped(&rt, rt.alloc(), 5, 3, 2);
+}
+
+#[test]
+fn list_with_a_bad_count_is_opened_and_told_later(rt: HostRuntime) {
+    // A memory list of 20 bytes that counts two ranges, and one that counts one.
+    let numbers = [
+        5, 20, 56, 5, 20, 76, 2, 0x1000, 0, 4, 32, 1, 0x2000, 0, 4, 36,
+    ];
+    let script = [
+        has_room(0, 1),
+        gives(stream(0, 5, 20, 56)),
+        fails(fault(None, FaultKind::BadCount, 56, 2)),
+        has_room(0, 1),
+        skips(),
+        gives(stream(1, 5, 20, 76)),
+        gives(nameless(1, 0, inside(0x2000, 36))),
+        ends(),
+        has_room(1, 0),
+        finds(0x2000, 36, 4),
+    ];
+    assert_plays_numbers(&rt, rt.alloc(), LEAST, 2, &numbers, &script);
 }
 
 /// What comes of a file of so many ranges that 16,384 entries name: its fault, the size of the source that is

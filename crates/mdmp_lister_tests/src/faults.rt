@@ -1,215 +1,159 @@
 //! Bad files: where a listing ends, and files that are not opened.
-use crate::files::ListedFile;
+use crate::files::{first_bytes, padded};
+use crate::given::{Named, stream, system};
 use crate::opening::{FAULTY_NAME, fault, open_and_close};
 use crate::same::{assert_same, assert_same_at};
-use crate::script::{LEAST, Play, STANDARD, assert_plays, play};
+use crate::script::{Call, LEAST, STANDARD, assert_plays_numbers, ends, fails, gives};
 use mdmp_lister::{Choice, Fault, FaultKind, OpenFault};
 use mdmp_source::{MemoryStore, Source, SourceFault};
 use mdmp_test_support::{FAULTY, SYSTEM};
 use std::alloc::Global;
-
-/// A file with an unloaded list of 36 bytes, whose head has these numbers.
-macro_rules! unloaded_list {
-    ($first:expr, $stride:expr, $count:expr) => {
-        ListedFile::Numbers(1, &[14, 36, 44, $first, $stride, $count, 0, 0, 0, 0, 0, 0])
-    };
-}
-
-const FAULTS: [Play; 14] = [
-    play!(
-        "nothing is listed behind the first fault",
-        ListedFile::Numbers(3, &FAULTY),
-        LEAST,
-        [
-            gives(stream(0, 7, 56, 68)),
-            gives(system(0, 0, None)),
-            gives(stream(1, 4, 112, 124)),
-            fails(FAULTY_NAME),
-        ]
-    ),
-    // A list of one thread.
-    play!(
-        "a list that is too short for its count",
-        ListedFile::Padded(1, &[3, 51, 44, 1, 7], 18, &[]),
-        LEAST,
-        [
-            gives(stream(0, 3, 51, 44)),
-            fails(fault!(None, BadCount, 44, 1)),
-        ]
-    ),
-    play!(
-        "a list that is too short for a count",
-        ListedFile::Padded(1, &[3, 3, 44, 1, 7], 18, &[]),
-        LEAST,
-        [
-            gives(stream(0, 3, 3, 44)),
-            fails(fault!(None, ShortStream, 44, 3)),
-        ]
-    ),
-    // A list of no bytes is too short wherever it stands.
-    play!(
-        "a list of no bytes at the start",
-        ListedFile::Numbers(1, &[3, 0, 0]),
-        LEAST,
-        [
-            gives(stream(0, 3, 0, 0)),
-            fails(fault!(None, ShortStream, 0, 0)),
-        ]
-    ),
-    play!(
-        "a list of no bytes at the end",
-        ListedFile::Numbers(1, &[3, 0, 44]),
-        LEAST,
-        [
-            gives(stream(0, 3, 0, 44)),
-            fails(fault!(None, ShortStream, 44, 0)),
-        ]
-    ),
-    play!(
-        "a list of no bytes outside",
-        ListedFile::Numbers(1, &[3, 0, u32::MAX]),
-        LEAST,
-        [
-            gives(stream(0, 3, 0, 4294967295)),
-            fails(fault!(None, ShortStream, 4294967295, 0)),
-        ]
-    ),
-    // An unloaded list of 36 bytes: the sizes of its head and of a record, and its count.
-    play!(
-        "a head that is too short",
-        unloaded_list!(11, 24, 1),
-        LEAST,
-        [
-            gives(stream(0, 14, 36, 44)),
-            fails(fault!(None, BadHeaderSize, 44, 11)),
-        ]
-    ),
-    play!(
-        "a head that is longer than its list",
-        unloaded_list!(37, 24, 0),
-        LEAST,
-        [
-            gives(stream(0, 14, 36, 44)),
-            fails(fault!(None, BadHeaderSize, 44, 37)),
-        ]
-    ),
-    play!(
-        "records that are too short",
-        unloaded_list!(12, 23, 1),
-        LEAST,
-        [
-            gives(stream(0, 14, 36, 44)),
-            fails(fault!(None, BadEntrySize, 48, 23)),
-        ]
-    ),
-    play!(
-        "a count that is too large",
-        unloaded_list!(12, 24, 2),
-        LEAST,
-        [
-            gives(stream(0, 14, 36, 44)),
-            fails(fault!(None, BadCount, 52, 2)),
-        ]
-    ),
-    play!(
-        "no records, which are too short",
-        unloaded_list!(12, 23, 0),
-        LEAST,
-        [gives(stream(0, 14, 36, 44)), ends(),]
-    ),
-    // A count may be any number.
-    play!(
-        "the greatest count of a region list",
-        ListedFile::Numbers(1, &[16, 16, 44, 16, u32::MAX, u32::MAX, u32::MAX]),
-        LEAST,
-        [
-            gives(stream(0, 16, 16, 44)),
-            fails(fault!(None, BadCount, 52, u64::MAX)),
-        ]
-    ),
-    // Its bytes begin at 0: a head alone.
-    play!(
-        "the greatest count of a list of 64-bit memory",
-        ListedFile::Numbers(1, &[9, 16, 44, u32::MAX, u32::MAX, 0, 0]),
-        LEAST,
-        [
-            gives(stream(0, 9, 16, 44)),
-            fails(fault!(None, BadCount, 44, u64::MAX)),
-        ]
-    ),
-    play!(
-        "the greatest count of a list of threads",
-        ListedFile::Numbers(1, &[3, 4, 44, u32::MAX]),
-        LEAST,
-        [
-            gives(stream(0, 3, 4, 44)),
-            fails(fault!(None, BadCount, 44, 4294967295)),
-        ]
-    ),
-];
+use std::process::Abort;
 
 #[test]
-fn fault_ends_the_listing_behind_its_entry(rt: HostRuntime) {
-    let plays = FAULTS;
-    assert_plays(&rt, rt.alloc(), &plays);
+fn nothing_is_listed_behind_the_first_fault(rt: HostRuntime) {
+    let script = [
+        gives(stream(0, 7, 56, 68)),
+        gives(system(0, 0, Named::None)),
+        gives(stream(1, 4, 112, 124)),
+        fails(FAULTY_NAME),
+    ];
+    assert_plays_numbers(&rt, rt.alloc(), LEAST, 3, &FAULTY, &script);
 }
 
-/// Why a file is not opened, the size of the source that is handed back, and whether its header alone was fetched.
-fn refusal(alloc: Global, file: &[u8]) -> (Option<OpenFault>, u64, bool) {
+/// Asserts that a list of one thread in so many bytes is told to have this fault, behind its entry.
+fn assert_too_short(rt: &impl Abort, alloc: Global, size: u32, kind: FaultKind, told: u64) {
+    let numbers = padded::<18>(&[3, size, 44, 1, 7], &[]);
+    let script = [
+        gives(stream(0, 3, size, 44)),
+        fails(fault(None, kind, 44, told)),
+    ];
+    assert_plays_numbers(rt, alloc, LEAST, 1, &numbers, &script);
+}
+
+#[test]
+fn list_that_is_too_short_is_told_behind_its_entry(rt: HostRuntime) {
+    assert_too_short(&rt, rt.alloc(), 51, FaultKind::BadCount, 1);
+    assert_too_short(&rt, rt.alloc(), 3, FaultKind::ShortStream, 3);
+}
+
+/// Asserts that a list of no bytes is too short where it stands here.
+fn assert_empty_is_short(rt: &impl Abort, alloc: Global, rva: u32) {
+    let short = fault(None, FaultKind::ShortStream, u64::from(rva), 0);
+    let script = [gives(stream(0, 3, 0, rva)), fails(short)];
+    assert_plays_numbers(rt, alloc, LEAST, 1, &[3, 0, rva], &script);
+}
+
+#[test]
+fn list_of_no_bytes_is_too_short_wherever_it_stands(rt: HostRuntime) {
+    assert_empty_is_short(&rt, rt.alloc(), 0);
+    assert_empty_is_short(&rt, rt.alloc(), 44);
+    assert_empty_is_short(&rt, rt.alloc(), u32::MAX);
+}
+
+/// Asserts what comes behind the entry of an unloaded list of 36 bytes at 44, with this head.
+fn assert_head(rt: &impl Abort, alloc: Global, head: [u32; 3], end: Call) {
+    let [first, stride, count] = head;
+    let numbers = [14, 36, 44, first, stride, count, 0, 0, 0, 0, 0, 0];
+    let script = [gives(stream(0, 14, 36, 44)), end];
+    assert_plays_numbers(rt, alloc, LEAST, 1, &numbers, &script);
+}
+
+#[test]
+fn bad_heads_are_told_behind_their_entry(rt: HostRuntime) {
+    let (header, entry) = (FaultKind::BadHeaderSize, FaultKind::BadEntrySize);
+    let count = FaultKind::BadCount;
+    for (head, end) in [
+        ([11, 24, 1], fails(fault(None, header, 44, 11))),
+        ([37, 24, 0], fails(fault(None, header, 44, 37))),
+        ([12, 23, 1], fails(fault(None, entry, 48, 23))),
+        ([12, 24, 2], fails(fault(None, count, 52, 2))),
+        ([12, 23, 0], ends()),
+    ] {
+        assert_head(&rt, rt.alloc(), head, end);
+    }
+}
+
+#[test]
+fn count_of_a_region_list_may_be_any_number(rt: HostRuntime) {
+    let most = u32::MAX;
+    let numbers = [16, 16, 44, 16, most, most, most];
+    let fault = fault(None, FaultKind::BadCount, 52, u64::MAX);
+    let script = [gives(stream(0, 16, 16, 44)), fails(fault)];
+    assert_plays_numbers(&rt, rt.alloc(), LEAST, 1, &numbers, &script);
+}
+
+#[test]
+fn count_of_a_list_without_records_may_be_any_number(rt: HostRuntime) {
+    let most = u32::MAX;
+    // A list of 64-bit memory whose bytes begin at 0: a head alone.
+    let numbers = [9, 16, 44, most, most, 0, 0];
+    let fault_of_ranges = fault(None, FaultKind::BadCount, 44, u64::MAX);
+    let script = [gives(stream(0, 9, 16, 44)), fails(fault_of_ranges)];
+    assert_plays_numbers(&rt, rt.alloc(), LEAST, 1, &numbers, &script);
+
+    // And a list of threads.
+    let fault_of_threads = fault(None, FaultKind::BadCount, 44, u64::from(most));
+    let script = [gives(stream(0, 3, 4, 44)), fails(fault_of_threads)];
+    assert_plays_numbers(&rt, rt.alloc(), LEAST, 1, &[3, 4, 44, most], &script);
+}
+
+/// Why a file is not opened, the size of the source that is handed back, and what it has fetched.
+fn refusal(alloc: Global, file: &[u8]) -> (Option<OpenFault>, u64, u128) {
     let source = Source::new(MemoryStore::new(file));
     let (fault, source) = open_and_close(alloc, source, STANDARD, Choice::All);
-    (fault, source.size(), source.fetched() <= 32)
+    (fault, source.size(), source.fetched())
 }
 
-/// A header, and a directory of one entry, and why they are not opened.
-struct BadHeaderRow {
-    bytes: &'static [u8],
-    fault: OpenFault,
+/// Asserts that a file is refused for this, that its header alone was fetched, and that its size is handed back.
+fn assert_refused(rt: &impl Abort, alloc: Global, file: &[u8], expected: OpenFault) {
+    let (fault, size, fetched) = refusal(alloc, file);
+    assert_same(rt, fault, Some(expected));
+    assert_same(rt, size, file.len() as u64);
+    assert_same_at(rt, &fetched, fetched <= 32, true);
 }
 
-const BAD_HEADERS: &[BadHeaderRow] = &[
-    BadHeaderRow {
-        bytes: b"MDMP\x93\xa7\0\0\x01\0\0\0\x20\0\0\0\0\0\0\0\0\0\0\0\0\0\0\0\0\0\0",
-        fault: OpenFault::TooShort { size: 31 },
-    },
-    BadHeaderRow {
-        bytes: b"PDMP\x93\xa7\0\0\x01\0\0\0\x20\0\0\0\0\0\0\0\0\0\0\0\0\0\0\0\0\0\0\0\x07\0\0\0\x38\0\0\0\x2c\0\0\0",
-        fault: OpenFault::BadSignature,
-    },
-    // The signature is told before the version.
-    BadHeaderRow {
-        bytes: b"PDMP\x94\xa7\0\0\x01\0\0\0\x20\0\0\0\0\0\0\0\0\0\0\0\0\0\0\0\0\0\0\0\x07\0\0\0\x38\0\0\0\x2c\0\0\0",
-        fault: OpenFault::BadSignature,
-    },
-    BadHeaderRow {
-        bytes: b"MDMP\x94\xa7\0\0\x01\0\0\0\x20\0\0\0\0\0\0\0\0\0\0\0\0\0\0\0\0\0\0\0\x07\0\0\0\x38\0\0\0\x2c\0\0\0",
-        fault: OpenFault::BadVersion { low: 0xa794 },
-    },
-    BadHeaderRow {
-        bytes: b"MDMP\x93\xa7\0\0\x01\0\0\0\x20\0\0\0\0\0\0\0\0\0\0\0\0\0\0\0\0\0\0\0\x07\0\0\0\x38\0\0\0\x2c\0\0",
-        fault: OpenFault::DirectoryOutside {
-            offset: 32,
-            size: 12,
-        },
-    },
-    BadHeaderRow {
-        bytes: b"MDMP\x93\xa7\0\0\xff\xff\xff\xff\x20\0\0\0\0\0\0\0\0\0\0\0\0\0\0\0\0\0\0\0\x07\0\0\0\x38\0\0\0\x2c\0\0\0",
-        fault: OpenFault::DirectoryOutside {
-            offset: 32,
-            size: 51539607540,
-        },
-    },
-];
+/// The file of one system, but for these bytes from this place on.
+fn changed<const N: usize>(at: usize, bytes: [u8; N]) -> [u8; 136] {
+    let mut file = SYSTEM;
+    for i in 0..N {
+        let place = at.saturating_add(i);
+        if place < 136 {
+            file[place] = bytes[i];
+        }
+    }
+    file
+}
 
 #[test]
 fn file_that_cannot_be_listed_is_refused(rt: HostRuntime) {
-    for row in BAD_HEADERS {
-        let found = refusal(rt.alloc(), row.bytes);
-        let size = row.bytes.len() as u64;
-        assert_same_at(&rt, &row.fault, found, (Some(row.fault), size, true));
-    }
+    let short = OpenFault::TooShort { size: 31 };
+    assert_refused(&rt, rt.alloc(), first_bytes(&rt, &SYSTEM, 31), short);
+    let signature = changed(0, *b"P");
+    assert_refused(&rt, rt.alloc(), &signature, OpenFault::BadSignature);
+    // The signature is told before the version.
+    let both = changed(0, *b"PDMP\x94");
+    assert_refused(&rt, rt.alloc(), &both, OpenFault::BadSignature);
+    let version = OpenFault::BadVersion { low: 0xa794 };
+    assert_refused(&rt, rt.alloc(), &changed(4, [0x94]), version);
+    let cut = OpenFault::DirectoryOutside {
+        offset: 32,
+        size: 12,
+    };
+    assert_refused(&rt, rt.alloc(), first_bytes(&rt, &SYSTEM, 43), cut);
+    let most = changed(8, [0xff; 4]);
+    let outside = OpenFault::DirectoryOutside {
+        offset: 32,
+        size: 51539607540,
+    };
+    assert_refused(&rt, rt.alloc(), first_bytes(&rt, &most, 44), outside);
     let (fault, ..) = refusal(rt.alloc(), &SYSTEM);
     assert_same(&rt, fault, None);
+}
+
+/// A fault of the store, as a fault of a file.
+fn told_of(fault: SourceFault) -> Fault {
+    Fault::from(fault)
 }
 
 #[test]
@@ -220,5 +164,5 @@ fn fault_of_the_store_names_its_place(rt: HostRuntime) {
         offset: 7,
         size: 0,
     };
-    assert_same(&rt, Fault::from(short), told);
+    assert_same(&rt, told_of(short), told);
 }

@@ -1,8 +1,8 @@
 //! What listers and walkers ask of a heap: nothing, once they are opened.
 use crate::codeview::told_at;
-use crate::files::{ListedFile, file_of};
-use crate::opening::{close, counts_of, patchy};
-use crate::same::assert_same_at;
+use crate::files::file_of;
+use crate::opening::{counts_of, patchy};
+use crate::same::{assert_same, assert_same_at};
 use crate::script::{NAMED, ScriptStep, answer_of};
 use crate::walking;
 use mdmp_lister::{Choice, Lister, StopAt, Walker};
@@ -18,6 +18,11 @@ use std::process::Abort;
 /// blocks were not given back; none where nothing is opened.
 type Growths = Option<(u64, u64, u64)>;
 
+/// An opening by so many growths, and nothing behind it.
+fn opened_by(opening: u64) -> Growths {
+    Some((opening, 0, 0))
+}
+
 /// What was asked of a heap by an opening, and since then.
 fn growths_of(heap: &MeteredHeap<Global>, opening: u64) -> Growths {
     let counts = heap.counts();
@@ -29,8 +34,8 @@ const ASIDE: [ScriptStep; 8] = [
     ScriptStep::Entries,
     ScriptStep::Room,
     ScriptStep::Find(0x1000),
-    ScriptStep::Read(0xffe, &[0; 16], &[false; 16]),
-    ScriptStep::Part(28, &[0; 16]),
+    ScriptStep::Read(0xffe, 16),
+    ScriptStep::Part(28, 16),
     ScriptStep::Numbers,
     ScriptStep::RecordsLeft,
     ScriptStep::Fresh,
@@ -86,6 +91,21 @@ fn make_calls<S: Store + Drop, A: Allocator + Copy>(
     }
 }
 
+/// Makes these calls of a lister in a heap of which the opening alone has asked: what was asked of it.
+fn asked_behind<S: Store + Drop>(
+    rt: &impl Abort,
+    alloc: Global,
+    heap: &MeteredHeap<Global>,
+    lister: Lister<S, &MeteredHeap<Global>>,
+    steps: &[ScriptStep],
+) -> Growths {
+    let opening = heap.counts().growths;
+    let mut lister = lister;
+    make_calls(rt, alloc, &mut lister, steps);
+    let _ = lister.into_source();
+    growths_of(heap, opening)
+}
+
 /// What a lister of a store asks for that makes these calls.
 fn asked_by_lister<S: Store + Drop>(
     rt: &impl Abort,
@@ -94,13 +114,10 @@ fn asked_by_lister<S: Store + Drop>(
     steps: &[ScriptStep],
 ) -> Growths {
     let heap = MeteredHeap::new(alloc, Refusal::Never);
-    let Ok(mut lister) = Lister::open(&heap, Source::new(store), NAMED, Choice::All) else {
-        return None;
-    };
-    let opening = heap.counts().growths;
-    make_calls(rt, alloc, &mut lister, steps);
-    close(lister);
-    growths_of(&heap, opening)
+    match Lister::open(&heap, Source::new(store), NAMED, Choice::All) {
+        Ok(lister) => asked_behind(rt, alloc, &heap, lister, steps),
+        Err(_) => None,
+    }
 }
 
 /// Items and entries that a walker goes to.
@@ -126,6 +143,7 @@ fn read_aside<S: Store + Drop, A: Allocator + Copy>(walker: &mut Walker<S, A>) {
     let _ = walking::part_of(walker, 0);
     let _ = walking::counts_of(walker);
     let _ = walking::entry_of(walker, 0);
+    let _ = walking::is_chosen(walker, 0);
     let _ = walker.is_begun();
 }
 
@@ -155,75 +173,99 @@ fn asked_by_walker<S: Store + Drop>(
     };
     let opening = heap.counts().growths;
     make_walks(rt, alloc, &mut walker, steps);
-    let _ = walking::close(walker);
+    let _ = walker.into_source();
     growths_of(&heap, opening)
 }
 
-/// A file, and by how many growths a lister of it is opened: a directory, a window, a name, and a map where memory is
-/// listed. A walker has no map.
-const FILES: &[(ListedFile, u64)] = &[
-    (ListedFile::Bytes(&SYSTEM, 136), 3),
-    (ListedFile::Bytes(&MEMORY64, 98), 4),
-    (ListedFile::Numbers(3, &FAULTY), 3),
-    (ListedFile::Numbers(3, &THRICE), 3),
-    (ListedFile::Numbers(1, &OVERLAPPING), 4),
-    (ListedFile::Numbers(2, &CRASH), 3),
-    (ListedFile::Numbers(6, &SIX), 3),
-    (ListedFile::Numbers(1, &MODULE), 3),
-    (ListedFile::Numbers(1, &COMMENT), 3),
-];
+/// Asserts that a lister of a file in memory asks for nothing but by so many growths of its opening, if it makes
+/// these calls.
+fn assert_asked(rt: &impl Abort, alloc: Global, file: &[u8], steps: &[ScriptStep], opening: u64) {
+    let store = MemoryStore::new(file);
+    let asked = asked_by_lister(rt, alloc, store, steps);
+    assert_same(rt, asked, opened_by(opening));
+}
 
-/// The calls that a lister makes.
-const CALLS: &[&[ScriptStep]] = &[&ITEMS, &VERDICTS, &RUNS];
+/// The same of listers that make all these calls.
+fn assert_asked_by_listers(rt: &impl Abort, alloc: Global, file: &[u8], opening: u64) {
+    assert_asked(rt, alloc, file, &ITEMS, opening);
+    assert_asked(rt, alloc, file, &VERDICTS, opening);
+    assert_asked(rt, alloc, file, &RUNS, opening);
+}
 
-/// Asserts that a lister of a file in memory asks for nothing but by so many growths of its opening.
-fn assert_asked(rt: &impl Abort, alloc: Global, file: &[u8], opening: u64) {
-    for steps in CALLS {
-        let asked = asked_by_lister(rt, alloc, MemoryStore::new(file), *steps);
-        let at = (file.len(), steps.len());
-        assert_same_at(rt, &at, asked, Some((opening, 0, 0)));
-    }
+/// The same of a file with so many entries and these numbers.
+fn assert_asked_of_numbers(
+    rt: &impl Abort,
+    alloc: Global,
+    entries: u32,
+    numbers: &[u32],
+    opening: u64,
+) {
+    let file = file_of(rt, alloc, entries, numbers);
+    assert_asked_by_listers(rt, alloc, &file, opening);
 }
 
 #[test]
 fn lister_asks_for_no_memory_once_it_is_opened(rt: HostRuntime) {
-    for (sample, opening) in FILES {
-        let file = file_of(&rt, rt.alloc(), *sample);
-        assert_asked(&rt, rt.alloc(), &file, *opening);
-    }
+    // A directory, a window, a name, and a map where memory is listed.
+    assert_asked_by_listers(&rt, rt.alloc(), &SYSTEM, 3);
+    assert_asked_by_listers(&rt, rt.alloc(), &MEMORY64, 4);
+    assert_asked_of_numbers(&rt, rt.alloc(), 3, &FAULTY, 3);
+    assert_asked_of_numbers(&rt, rt.alloc(), 3, &THRICE, 3);
+    assert_asked_of_numbers(&rt, rt.alloc(), 1, &OVERLAPPING, 4);
+    assert_asked_of_numbers(&rt, rt.alloc(), 2, &CRASH, 3);
+    assert_asked_of_numbers(&rt, rt.alloc(), 6, &SIX, 3);
+    assert_asked_of_numbers(&rt, rt.alloc(), 1, &MODULE, 3);
+    assert_asked_of_numbers(&rt, rt.alloc(), 1, &COMMENT, 3);
+}
+
+/// Asserts that a walker of a file in memory asks for nothing but by three growths of its opening.
+fn assert_asked_by_walker(rt: &impl Abort, alloc: Global, file: &[u8]) {
+    let asked = asked_by_walker(rt, alloc, MemoryStore::new(file), &WALKS);
+    assert_same(rt, asked, opened_by(3));
+}
+
+/// The same of a file with so many entries and these numbers.
+fn assert_walked_numbers(rt: &impl Abort, alloc: Global, entries: u32, numbers: &[u32]) {
+    let file = file_of(rt, alloc, entries, numbers);
+    assert_asked_by_walker(rt, alloc, &file);
 }
 
 #[test]
 fn walker_asks_for_no_memory_once_it_is_opened(rt: HostRuntime) {
-    for (sample, _) in FILES {
-        let file = file_of(&rt, rt.alloc(), *sample);
-        let asked = asked_by_walker(&rt, rt.alloc(), MemoryStore::new(&file), &WALKS);
-        assert_same_at(&rt, &file.len(), asked, Some((3, 0, 0)));
-    }
+    assert_walked_numbers(&rt, rt.alloc(), 3, &FAULTY);
+    assert_walked_numbers(&rt, rt.alloc(), 3, &THRICE);
+    assert_walked_numbers(&rt, rt.alloc(), 1, &OVERLAPPING);
+    assert_walked_numbers(&rt, rt.alloc(), 2, &CRASH);
+    assert_walked_numbers(&rt, rt.alloc(), 6, &SIX);
+    assert_walked_numbers(&rt, rt.alloc(), 1, &MODULE);
+    assert_asked_by_walker(&rt, rt.alloc(), &SYSTEM);
+    assert_asked_by_walker(&rt, rt.alloc(), &MEMORY64);
 }
 
-/// What a lister and a walker ask for over a store of 64-bit memory that fails at this call: of a lister the head of the
-/// list is read as the file is opened.
-fn expected_failing(fail_at: u64) -> (Growths, Growths) {
-    match fail_at {
-        0..3 => (None, None),
-        3 => (None, Some((3, 0, 0))),
-        _ => (Some((4, 0, 0)), Some((3, 0, 0))),
-    }
+/// Asserts what a lister and a walker ask for over a store of 64-bit memory that fails at this call.
+fn assert_asked_failing(
+    rt: &impl Abort,
+    alloc: Global,
+    fail_at: u64,
+    by_lister: Growths,
+    by_walker: Growths,
+) {
+    let store = patchy(rt, &MEMORY64, &[20], Some(fail_at));
+    let asked = asked_by_lister(rt, alloc, store, &ITEMS);
+    assert_same_at(rt, &fail_at, asked, by_lister);
+    let store = patchy(rt, &MEMORY64, &[20], Some(fail_at));
+    let asked = asked_by_walker(rt, alloc, store, &WALKS);
+    assert_same_at(rt, &fail_at, asked, by_walker);
 }
 
 #[test]
 fn fault_of_the_store_takes_no_memory(rt: HostRuntime) {
-    for fail_at in 0..12 {
-        let store = patchy(&rt, &MEMORY64, &[20], Some(fail_at));
-        let by_lister = asked_by_lister(&rt, rt.alloc(), store, &ITEMS);
-        let store = patchy(&rt, &MEMORY64, &[20], Some(fail_at));
-        let by_walker = asked_by_walker(&rt, rt.alloc(), store, &WALKS);
-        assert_same_at(
-            &rt,
-            &fail_at,
-            (by_lister, by_walker),
-            expected_failing(fail_at),
-        );
+    for fail_at in 0..3 {
+        assert_asked_failing(&rt, rt.alloc(), fail_at, None, None);
+    }
+    // Of a lister the head of the list is read as the file is opened.
+    assert_asked_failing(&rt, rt.alloc(), 3, None, opened_by(3));
+    for fail_at in 4..12 {
+        assert_asked_failing(&rt, rt.alloc(), fail_at, opened_by(4), opened_by(3));
     }
 }

@@ -29,6 +29,8 @@ mod faults;
 #[cfg(test)]
 mod files;
 #[cfg(test)]
+mod fresh;
+#[cfg(test)]
 mod given;
 #[cfg(test)]
 mod growths;
@@ -55,6 +57,8 @@ mod record_counts;
 #[cfg(test)]
 mod records;
 #[cfg(test)]
+mod records_left;
+#[cfg(test)]
 mod refusals;
 #[cfg(test)]
 mod same;
@@ -66,6 +70,8 @@ mod seeking;
 mod shapes;
 #[cfg(test)]
 mod sinks;
+#[cfg(test)]
+mod six;
 #[cfg(test)]
 mod store_calls;
 #[cfg(test)]

@@ -1,220 +1,142 @@
 //! Whole files, listed: which entries, names, and parts of a thread.
-use crate::files::ListedFile;
-use crate::given::{ABCD, EMPTY, SERVICE_PACK};
-use crate::opening::fault;
-use crate::script::{LEAST, NAMED, Play, SHORT_NAMES, assert_plays, play};
+use crate::files::{first_bytes, named, padded};
+use crate::given::{Named, What, nameless, spelled, stream, system, thread, unloaded};
+use crate::opening::{chosen, fault};
+use crate::script::{
+    Call, LEAST, NAMED, SHORT_NAMES, assert_plays, assert_plays_chosen, assert_plays_numbers, ends,
+    fails, gives, play,
+};
+use mdmp_lister::FaultKind;
+use mdmp_source::{Extent, MemoryStore};
 use mdmp_test_support::{FAULTY, SYSTEM};
+use std::alloc::Global;
+use std::process::Abort;
 
-const CHOSEN: [Play; 2] = [
-    play!(
-        "types that are not chosen are not listed",
-        ListedFile::Bytes(&SYSTEM, 136),
-        NAMED,
-        types & [3],
-        [ends(),]
-    ),
-    play!(
-        "what is not chosen is not looked at",
-        ListedFile::Numbers(3, &FAULTY),
-        LEAST,
-        types & [7],
-        [
-            gives(stream(0, 7, 56, 68)),
-            gives(system(0, 0, None)),
-            ends(),
-        ]
-    ),
-];
+/// Asserts that a lister of these types gives the answers of a script over the file of one system.
+fn assert_system(rt: &impl Abort, alloc: Global, types: &[u32], script: &[Call]) {
+    let store = MemoryStore::new(&SYSTEM);
+    let _ = play(rt, alloc, store, NAMED, chosen(rt, types), script);
+}
 
 #[test]
 fn types_that_are_not_chosen_are_not_listed(rt: HostRuntime) {
-    let plays = CHOSEN;
-    assert_plays(&rt, rt.alloc(), &plays);
+    assert_system(&rt, rt.alloc(), &[3], &[ends()]);
 }
-
-const NAMES: [Play; 12] = [
-    play!(
-        "a system with its name",
-        ListedFile::Bytes(&SYSTEM, 136),
-        NAMED,
-        [
-            gives(stream(0, 7, 56, 44)),
-            gives(system(4, 7601, SERVICE_PACK)),
-            ends(),
-        ]
-    ),
-    play!(
-        "a name behind which nothing is needed",
-        ListedFile::Bytes(&SYSTEM, 132),
-        NAMED,
-        [
-            gives(stream(0, 7, 56, 44)),
-            gives(system(4, 7601, SERVICE_PACK)),
-            ends(),
-        ]
-    ),
-    play!(
-        "a name whose units are cut",
-        ListedFile::Bytes(&SYSTEM, 131),
-        NAMED,
-        [
-            gives(stream(0, 7, 56, 44)),
-            fails(fault!(Some(0), NameUnitsOutside, 104, 28)),
-        ]
-    ),
-    play!(
-        "a name whose length is cut",
-        ListedFile::Bytes(&SYSTEM, 103),
-        NAMED,
-        [
-            gives(stream(0, 7, 56, 44)),
-            fails(fault!(Some(0), NameLengthOutside, 100, 4)),
-        ]
-    ),
-    play!(
-        "a record that is cut",
-        ListedFile::Bytes(&SYSTEM, 99),
-        NAMED,
-        [
-            gives(stream(0, 7, 56, 44)),
-            fails(fault!(None, StreamOutside, 44, 56)),
-        ]
-    ),
-    // The name of an unloaded module is said to stand at a place, and does at 80. At most eight bytes of it are read.
-    play!(
-        "no name",
-        ListedFile::Named(0, b""),
-        SHORT_NAMES,
-        [
-            gives(stream(0, 14, 36, 44)),
-            gives(unloaded(0, 0, None)),
-            ends(),
-        ]
-    ),
-    play!(
-        "a name of no units",
-        ListedFile::Named(80, b"\0\0\0\0"),
-        SHORT_NAMES,
-        [
-            gives(stream(0, 14, 36, 44)),
-            gives(unloaded(0, 0, EMPTY)),
-            ends(),
-        ]
-    ),
-    play!(
-        "a name of the limit",
-        ListedFile::Named(80, b"\x08\0\0\0a\0b\0c\0d\0"),
-        SHORT_NAMES,
-        [
-            gives(stream(0, 14, 36, 44)),
-            gives(unloaded(0, 0, ABCD)),
-            ends(),
-        ]
-    ),
-    play!(
-        "a long name",
-        ListedFile::Named(80, b"\x0a\0\0\0a\0b\0c\0d\0e\0"),
-        SHORT_NAMES,
-        [
-            gives(stream(0, 14, 36, 44)),
-            gives(unloaded(0, 0, Some(Err(10)))),
-            ends(),
-        ]
-    ),
-    play!(
-        "an odd name",
-        ListedFile::Named(80, b"\x07\0\0\0a\0b\0c\0d"),
-        SHORT_NAMES,
-        [
-            gives(stream(0, 14, 36, 44)),
-            fails(fault!(Some(0), NameOdd, 80, 7)),
-        ]
-    ),
-    play!(
-        "a name whose units lie outside",
-        ListedFile::Named(80, b"\x0a\0\0\0a\0b\0c\0d\0"),
-        SHORT_NAMES,
-        [
-            gives(stream(0, 14, 36, 44)),
-            fails(fault!(Some(0), NameUnitsOutside, 84, 10)),
-        ]
-    ),
-    play!(
-        "a name whose length lies outside",
-        ListedFile::Named(80, b"\x08\0\0"),
-        SHORT_NAMES,
-        [
-            gives(stream(0, 14, 36, 44)),
-            fails(fault!(Some(0), NameLengthOutside, 80, 4)),
-        ]
-    ),
-];
 
 #[test]
-fn names_are_listed_or_end_the_listing(rt: HostRuntime) {
-    let plays = NAMES;
-    assert_plays(&rt, rt.alloc(), &plays);
+fn what_is_not_chosen_is_not_looked_at(rt: HostRuntime) {
+    let script = [
+        gives(stream(0, 7, 56, 68)),
+        gives(system(0, 0, Named::None)),
+        ends(),
+    ];
+    assert_plays_chosen(&rt, rt.alloc(), LEAST, 3, &FAULTY, &[7], &script);
 }
 
-const THREADS: [Play; 6] = [
+/// Asserts that a lister gives the answers of a script over the first bytes of that file, as many as this.
+fn assert_first(rt: &impl Abort, alloc: Global, size: usize, script: &[Call]) {
+    let file = first_bytes(rt, &SYSTEM, size);
+    assert_plays(rt, alloc, NAMED, file, script);
+}
+
+#[test]
+fn system_is_listed_with_its_name(rt: HostRuntime) {
+    let script = [
+        gives(stream(0, 7, 56, 44)),
+        gives(system(4, 7601, spelled("Service Pack 1"))),
+        ends(),
+    ];
+    assert_first(&rt, rt.alloc(), 136, &script);
+    // Nothing behind the name is needed.
+    assert_first(&rt, rt.alloc(), 132, &script);
+}
+
+#[test]
+fn cut_name_ends_the_listing(rt: HostRuntime) {
+    let begins = gives(stream(0, 7, 56, 44));
+    let units = fault(Some(0), FaultKind::NameUnitsOutside, 104, 28);
+    assert_first(&rt, rt.alloc(), 131, &[begins, fails(units)]);
+    let length = fault(Some(0), FaultKind::NameLengthOutside, 100, 4);
+    assert_first(&rt, rt.alloc(), 103, &[begins, fails(length)]);
+    let record = fault(None, FaultKind::StreamOutside, 44, 56);
+    assert_first(&rt, rt.alloc(), 99, &[begins, fails(record)]);
+}
+
+/// Asserts that a lister gives the answers of a script over a file with an unloaded module whose name is said to
+/// stand at `rva`, and does at 80. At most eight bytes of it are read.
+fn assert_named(rt: &impl Abort, alloc: Global, rva: u32, name: &[u8], script: &[Call]) {
+    let file = named(rt, alloc, rva, name);
+    assert_plays(rt, alloc, SHORT_NAMES, &file, script);
+}
+
+#[test]
+fn name_is_none_or_lent_or_long(rt: HostRuntime) {
+    let begins = gives(stream(0, 14, 36, 44));
+    for (rva, bytes, name) in [
+        (0, b"".as_slice(), Named::None),
+        (80, b"\0\0\0\0".as_slice(), spelled("")),
+        (80, b"\x08\0\0\0a\0b\0c\0d\0".as_slice(), spelled("abcd")),
+        (80, b"\x0a\0\0\0a\0b\0c\0d\0e\0".as_slice(), Named::Long(10)),
+    ] {
+        let script = [begins, gives(unloaded(0, 0, name)), ends()];
+        assert_named(&rt, rt.alloc(), rva, bytes, &script);
+    }
+}
+
+#[test]
+fn bad_name_ends_the_listing(rt: HostRuntime) {
+    let begins = gives(stream(0, 14, 36, 44));
+    let odd = fault(Some(0), FaultKind::NameOdd, 80, 7);
+    let units = fault(Some(0), FaultKind::NameUnitsOutside, 84, 10);
+    let length = fault(Some(0), FaultKind::NameLengthOutside, 80, 4);
+    for (bytes, fault) in [
+        (b"\x07\0\0\0a\0b\0c\0d".as_slice(), odd),
+        (b"\x0a\0\0\0a\0b\0c\0d\0".as_slice(), units),
+        (b"\x08\0\0".as_slice(), length),
+    ] {
+        assert_named(&rt, rt.alloc(), 80, bytes, &[begins, fails(fault)]);
+    }
+}
+
+/// Asserts the context of a thread whose stack has no bytes in the file.
+fn assert_context(rt: &impl Abort, alloc: Global, numbers: &[u32], context: Extent) {
+    let thread = What::Thread {
+        id: 7,
+        stack: Extent::Absent,
+        context,
+    };
+    let script = [
+        gives(stream(0, 3, 52, 44)),
+        gives(nameless(0, 0, thread)),
+        ends(),
+    ];
+    assert_plays_numbers(rt, alloc, LEAST, 1, numbers, &script);
+}
+
+#[test]
+fn parts_of_a_thread_are_classified(rt: HostRuntime) {
     // The context is the four bytes behind the list.
-    play!(
-        "a context inside",
-        ListedFile::Numbers(
-            1,
-            &[
-                3, 52, 44, 1, 7, 0, 0, 0, 0, 0, 28672, 0, 256, 0, 4, 96, 0xaa
-            ],
-        ),
-        LEAST,
-        [
-            gives(stream(0, 3, 52, 44)),
-            gives(thread(0, 0, 7, Absent, Inside)),
-            ends(),
-        ]
-    ),
-    play!(
-        "a context that is cut off",
-        ListedFile::Numbers(
-            1,
-            &[3, 52, 44, 1, 7, 0, 0, 0, 0, 0, 28672, 0, 256, 0, 4, 96]
-        ),
-        LEAST,
-        [
-            gives(stream(0, 3, 52, 44)),
-            gives(thread(0, 0, 7, Absent, Outside)),
-            ends(),
-        ]
-    ),
-    // One thread: behind its count, or four bytes further on.
-    play!(
-        "a thread behind its count",
-        ListedFile::Padded(1, &[3, 52, 44, 1], 18, &[(4, 7)]),
-        LEAST,
-        [gives(stream(0, 3, 52, 44)), gives(thread(0, 0, 7)), ends(),]
-    ),
-    play!(
-        "a thread behind padding",
-        ListedFile::Padded(1, &[3, 56, 44, 1], 18, &[(5, 7)]),
-        LEAST,
-        [gives(stream(0, 3, 56, 44)), gives(thread(0, 0, 7)), ends(),]
-    ),
-    play!(
-        "a thread behind its count in a longer list",
-        ListedFile::Padded(1, &[3, 60, 44, 1], 18, &[(4, 7)]),
-        LEAST,
-        [gives(stream(0, 3, 60, 44)), gives(thread(0, 0, 7)), ends(),]
-    ),
-    play!(
-        "a thread behind padding that is not zero",
-        ListedFile::Padded(1, &[3, 56, 44, 1], 18, &[(4, 7)]),
-        LEAST,
-        [gives(stream(0, 3, 56, 44)), gives(thread(0, 0, 0)), ends(),]
-    ),
-];
+    let whole = [
+        3, 52, 44, 1, 7, 0, 0, 0, 0, 0, 28672, 0, 256, 0, 4, 96, 0xaa,
+    ];
+    assert_context(&rt, rt.alloc(), &whole, Extent::Inside);
+    // It is cut off.
+    let cut = [3, 52, 44, 1, 7, 0, 0, 0, 0, 0, 28672, 0, 256, 0, 4, 96];
+    assert_context(&rt, rt.alloc(), &cut, Extent::Outside);
+}
+
+/// Asserts that a list of one thread of so many bytes, with a 7 at this place, gives a thread with this id.
+fn assert_thread(rt: &impl Abort, alloc: Global, size: u32, place: usize, id: u32) {
+    let numbers = padded::<18>(&[3, size, 44, 1], &[(place, 7)]);
+    let script = [gives(stream(0, 3, size, 44)), gives(thread(0, id)), ends()];
+    assert_plays_numbers(rt, alloc, LEAST, 1, &numbers, &script);
+}
 
 #[test]
-fn padded_list_is_listed_and_its_parts_are_classified(rt: HostRuntime) {
-    let plays = THREADS;
-    assert_plays(&rt, rt.alloc(), &plays);
+fn padded_list_is_listed(rt: HostRuntime) {
+    // One thread: behind its count, or four bytes further on.
+    assert_thread(&rt, rt.alloc(), 52, 4, 7);
+    assert_thread(&rt, rt.alloc(), 56, 5, 7);
+    assert_thread(&rt, rt.alloc(), 60, 4, 7);
+    assert_thread(&rt, rt.alloc(), 56, 4, 0);
 }

@@ -1,10 +1,10 @@
 //! The memory that a lister takes.
-use crate::files::{FOUR, ListedFile, crowded, file_of};
+use crate::files::{FOUR, crowded, file_of};
 use crate::opening::{Outcome, all, chosen, close, list_all, open_and_close, opened, run_over};
 use crate::same::{assert_same, assert_same_at};
 use crate::script::{LEAST, STANDARD, WHOLE_BLOCKS};
 use linked_list_allocator::LocalHeap;
-use mdmp_lister::{Choice, Limits, OpenFault, RunFault};
+use mdmp_lister::{Choice, Limits, OpenFault};
 use mdmp_source::{MemoryStore, Source};
 use mdmp_test_support::OVERLAPPING;
 use std::alloc::Global;
@@ -15,200 +15,185 @@ fn heap_of(rt: &impl Abort, alloc: Global, size: usize) -> LocalHeap {
     LocalHeap::new(alloc, size).expect(rt, "a heap")
 }
 
-/// What comes of listing a file in a heap: that, what was fetched, why the source that is handed back is not opened with
-/// ample memory, and how much of the heap is used behind it all.
-type Report = (Outcome, u128, Option<OpenFault>, usize);
+/// What comes of listing a file in a heap.
+#[derive(Clone, Copy)]
+struct Report {
+    outcome: Outcome,
+    /// Of the source that is handed back.
+    size: u64,
+    fetched: u128,
+    /// Why that source is not opened with ample memory.
+    ample: Option<OpenFault>,
+    /// How much of the heap is used behind it all.
+    left: usize,
+}
 
-/// That of a file in a heap of so many bytes.
+/// That of a file with so many entries and these numbers, in a heap of so many bytes.
 fn report_of(
     rt: &impl Abort,
     alloc: Global,
     heap_size: usize,
     limits: Limits,
-    file: &[u8],
+    entries: u32,
+    numbers: &[u32],
 ) -> Report {
+    let file = file_of(rt, alloc, entries, numbers);
     let heap = heap_of(rt, alloc, heap_size);
-    let source = Source::new(MemoryStore::new(file));
+    let source = Source::new(MemoryStore::new(&file));
     let (outcome, source) = run_over(&heap, source, limits, Choice::All);
-    assert_same_at(rt, &heap_size, source.size(), file.len() as u64);
-    let fetched = source.fetched();
+    let (size, fetched) = (source.size(), source.fetched());
     let (ample, _) = open_and_close(alloc, source, limits, Choice::All);
-    (outcome, fetched, ample, heap.used())
+    Report {
+        outcome,
+        size,
+        fetched,
+        ample,
+        left: heap.used(),
+    }
 }
 
-/// How much of a heap a lister of a file uses once it is opened, what ends its listing, and how much it uses then.
+/// How much of a heap a lister of a file uses once it is opened, and behind all its items.
+fn used_by(rt: &impl Abort, heap: &LocalHeap, file: &[u8], limits: Limits) -> (usize, usize) {
+    let mut lister = opened(rt, heap, MemoryStore::new(file), limits, Choice::All);
+    let opened = heap.used();
+    assert_same(rt, list_all(&mut lister), None);
+    let listed = heap.used();
+    close(lister);
+    (opened, listed)
+}
+
+/// The same of a file with so many entries and these numbers, in a heap of so many bytes.
 fn used_in(
     rt: &impl Abort,
     alloc: Global,
     heap_size: usize,
     limits: Limits,
-    file: &[u8],
-) -> (usize, Option<RunFault>, usize) {
+    entries: u32,
+    numbers: &[u32],
+) -> (usize, usize) {
+    let file = file_of(rt, alloc, entries, numbers);
     let heap = heap_of(rt, alloc, heap_size);
-    let mut lister = opened(rt, &heap, MemoryStore::new(file), limits, Choice::All);
-    let opened = heap.used();
-    let fault = list_all(&mut lister);
-    let listed = heap.used();
-    close(lister);
-    (opened, fault, listed)
+    used_by(rt, &heap, &file, limits)
 }
 
-/// A file, its limits, the fewest and the most blocks of 16 bytes of some heaps, what comes of it in each of these, and
-/// what is fetched there.
-#[derive(Clone, Copy)]
-struct HeapRow {
-    file: ListedFile,
-    limits: Limits,
-    from: usize,
-    to: usize,
+#[test]
+fn open_succeeds_with_ample_memory(rt: HostRuntime) {
+    let report = report_of(&rt, rt.alloc(), 1 << 20, STANDARD, 1, &OVERLAPPING);
+    assert_same(&rt, report.outcome, all(3, 2));
+    // What is listed takes no more.
+    let (opened, listed) = used_in(&rt, rt.alloc(), 1 << 20, STANDARD, 1, &OVERLAPPING);
+    assert_same(&rt, opened, listed);
+}
+
+/// Asserts what comes of a list of two ranges in a heap of so many bytes, and what is fetched there, if that is
+/// to be known.
+fn assert_ranges_in(
+    rt: &impl Abort,
+    alloc: Global,
+    size: usize,
     outcome: Outcome,
-    fetched: u128,
-}
-
-/// A list of two ranges.
-const RANGES: ListedFile = ListedFile::Numbers(1, &OVERLAPPING);
-
-/// Four unused entries.
-const UNUSED: ListedFile = ListedFile::Padded(4, &[], 12, &[]);
-
-/// What is refused.
-const REFUSED: Outcome = Err(OpenFault::Memory);
-
-const HEAPS: [HeapRow; 8] = [
-    // A directory of 16 bytes, a window of 176, and a map of 48.
-    HeapRow {
-        file: RANGES,
-        limits: LEAST,
-        from: 0,
-        to: 11,
-        outcome: REFUSED,
-        fetched: 32,
-    },
-    // The directory and the count are read before there is a map.
-    HeapRow {
-        file: RANGES,
-        limits: LEAST,
-        from: 12,
-        to: 14,
-        outcome: REFUSED,
-        fetched: 48,
-    },
-    HeapRow {
-        file: RANGES,
-        limits: LEAST,
-        from: 15,
-        to: 19,
-        outcome: all!(3, 2),
-        fetched: 32 + 12 + 4 + 36,
-    },
-    HeapRow {
-        file: RANGES,
-        limits: STANDARD,
-        from: 1 << 16,
-        to: 1 << 16,
-        outcome: all!(3, 2),
-        fetched: 32 + 12 + 4 + 36,
-    },
-    // A directory of 48 bytes, a window of 176, and a name of 16.
-    HeapRow {
-        file: UNUSED,
-        limits: WHOLE_BLOCKS,
-        from: 0,
-        to: 14,
-        outcome: REFUSED,
-        fetched: 32,
-    },
-    HeapRow {
-        file: UNUSED,
-        limits: WHOLE_BLOCKS,
-        from: 15,
-        to: 15,
-        outcome: all!(4, 0),
-        fetched: 32 + 48,
-    },
-    // And a map of two ranges of 24.
-    HeapRow {
-        file: ListedFile::Numbers(4, &FOUR),
-        limits: WHOLE_BLOCKS,
-        from: 17,
-        to: 17,
-        outcome: REFUSED,
-        fetched: 32 + 48 + 4,
-    },
-    HeapRow {
-        file: ListedFile::Numbers(4, &FOUR),
-        limits: WHOLE_BLOCKS,
-        from: 18,
-        to: 18,
-        outcome: all!(6, 0),
-        fetched: 32 + 48 + 4 + 36,
-    },
-];
-
-/// Asserts what comes of a file in each heap of a row, where nothing is lost.
-fn assert_heaps(rt: &impl Abort, alloc: Global, row: &HeapRow) {
-    let file = file_of(rt, alloc, row.file);
-    for blocks in row.from..row.to.saturating_add(1) {
-        let size = blocks.saturating_mul(16);
-        let found = report_of(rt, alloc, size, row.limits, &file);
-        assert_same_at(rt, &size, found, (row.outcome, row.fetched, None, 0));
+    fetched: Option<u128>,
+) {
+    let report = report_of(rt, alloc, size, LEAST, 1, &OVERLAPPING);
+    if let Some(fetched) = fetched {
+        assert_same_at(rt, &size, report.fetched, fetched);
     }
+    assert_same_at(rt, &size, report.outcome, outcome);
+    assert_same_at(rt, &size, (report.ample, report.left), (None, 0));
 }
 
 #[test]
 fn want_of_memory_hands_the_source_back_until_there_is_enough(rt: HostRuntime) {
-    let rows = HEAPS;
-    for row in &rows {
-        assert_heaps(&rt, rt.alloc(), row);
+    // Blocks are multiples of 16: a directory of 16 bytes, a window of 176, and a map of 48.
+    let refused = Outcome::Refused(OpenFault::Memory);
+    for blocks in 0..12 {
+        assert_ranges_in(&rt, rt.alloc(), 16 * blocks, refused, Some(32));
+    }
+    // The directory and the count are read before there is a map.
+    for blocks in 12..15 {
+        assert_ranges_in(&rt, rt.alloc(), 16 * blocks, refused, Some(48));
+    }
+    for blocks in 15..20 {
+        assert_ranges_in(&rt, rt.alloc(), 16 * blocks, all(3, 2), None);
     }
 }
 
-/// A file, its limits, and how many bytes of a heap of just these are used once it is opened, and behind all its items.
-const USED: [(ListedFile, Limits, usize); 3] = [
-    (RANGES, LEAST, 16 + 176 + 48),
-    (UNUSED, WHOLE_BLOCKS, 240),
-    (ListedFile::Numbers(4, &FOUR), WHOLE_BLOCKS, 288),
-];
+/// Asserts that a directory of 48 bytes is refused in a heap of so many bytes, by which nothing is lost.
+fn assert_refused_in(rt: &impl Abort, alloc: Global, size: usize) {
+    let report = report_of(rt, alloc, size, WHOLE_BLOCKS, 4, &[0; 12]);
+    let refused = Outcome::Refused(OpenFault::Memory);
+    assert_same_at(rt, &size, report.outcome, refused);
+    assert_same_at(rt, &size, (report.size, report.fetched), (80, 32));
+    assert_same_at(rt, &size, (report.ample, report.left), (None, 0));
+}
+
+#[test]
+fn want_of_memory_hands_the_source_back(rt: HostRuntime) {
+    assert_refused_in(&rt, rt.alloc(), 0);
+    assert_refused_in(&rt, rt.alloc(), 48);
+    assert_refused_in(&rt, rt.alloc(), 224);
+    let report = report_of(&rt, rt.alloc(), 240, WHOLE_BLOCKS, 4, &[0; 12]);
+    assert_same(&rt, report.outcome, all(4, 0));
+    let used = used_in(&rt, rt.alloc(), 240, WHOLE_BLOCKS, 4, &[0; 12]);
+    assert_same(&rt, used, (240, 240));
+}
+
+/// Why a file of four entries whose threads alone are chosen is not opened in a heap of so many bytes.
+fn fault_of_threads(rt: &impl Abort, alloc: Global, heap_size: usize) -> Option<OpenFault> {
+    let file = file_of(rt, alloc, 4, &FOUR);
+    let heap = heap_of(rt, alloc, heap_size);
+    let source = Source::new(MemoryStore::new(&file));
+    let (fault, _) = open_and_close(&heap, source, WHOLE_BLOCKS, chosen(rt, &[3]));
+    fault
+}
 
 #[test]
 fn memory_is_that_of_four_lists(rt: HostRuntime) {
-    let rows = USED;
-    for (sample, limits, size) in &rows {
-        let file = file_of(&rt, rt.alloc(), *sample);
-        let used = used_in(&rt, rt.alloc(), *size, *limits, &file);
-        assert_same_at(&rt, size, used, (*size, None, *size));
-    }
+    // A directory of 48 bytes, and a map of two ranges of 24.
+    let report = report_of(&rt, rt.alloc(), 272, WHOLE_BLOCKS, 4, &FOUR);
+    assert_same(&rt, report.outcome, Outcome::Refused(OpenFault::Memory));
+    assert_same(&rt, (report.size, report.ample), (116, None));
+    let report = report_of(&rt, rt.alloc(), 288, WHOLE_BLOCKS, 4, &FOUR);
+    assert_same(&rt, report.outcome, all(6, 0));
+    let used = used_in(&rt, rt.alloc(), 288, WHOLE_BLOCKS, 4, &FOUR);
+    assert_same(&rt, used, (288, 288));
     // A list that is not chosen takes none.
-    let file = file_of(&rt, rt.alloc(), ListedFile::Numbers(4, &FOUR));
-    let heap = heap_of(&rt, rt.alloc(), 240);
-    let source = Source::new(MemoryStore::new(&file));
-    let (fault, _) = open_and_close(&heap, source, WHOLE_BLOCKS, chosen(&rt, &[3]));
-    assert_same(&rt, fault, None);
+    assert_same(&rt, fault_of_threads(&rt, rt.alloc(), 240), None);
+}
+
+/// Why 2^28 ranges are not opened in a heap of so many bytes, and what is fetched.
+fn fault_of_most_ranges(
+    rt: &impl Abort,
+    alloc: Global,
+    heap_size: usize,
+) -> (Option<OpenFault>, u128) {
+    let crowded = crowded(rt, alloc, 16384);
+    let heap = heap_of(rt, alloc, heap_size);
+    let source = Source::new(MemoryStore::new(&crowded));
+    let (fault, source) = open_and_close(&heap, source, WHOLE_BLOCKS, Choice::All);
+    (fault, source.fetched())
 }
 
 #[test]
 fn most_ranges_are_not_too_many(rt: HostRuntime) {
-    let crowded = crowded(&rt, rt.alloc(), 16384);
     // There is memory for all but the map.
-    let heap = heap_of(&rt, rt.alloc(), 12 * 16384 + 192);
-    let source = Source::new(MemoryStore::new(&crowded));
-    let (fault, source) = open_and_close(&heap, source, WHOLE_BLOCKS, Choice::All);
+    let found = fault_of_most_ranges(&rt, rt.alloc(), 12 * 16384 + 192);
     let fetched = 32 + 16 * 16384;
-    assert_same(
-        &rt,
-        (fault, source.fetched()),
-        (Some(OpenFault::Memory), fetched),
-    );
+    assert_same(&rt, found, (Some(OpenFault::Memory), fetched));
+}
+
+/// What comes of listing so many unused entries.
+fn outcome_of_unused(rt: &impl Abort, alloc: Global, entries: u32) -> Outcome {
+    let mut numbers = Vec::new(alloc);
+    numbers.resize(3 * entries as usize, 0).expect(rt, "memory");
+    let unused = file_of(rt, alloc, entries, &numbers);
+    let source = Source::new(MemoryStore::new(&unused));
+    let (outcome, _) = run_over(alloc, source, LEAST, Choice::All);
+    outcome
 }
 
 #[test]
 fn directory_of_many_entries_is_opened(rt: HostRuntime) {
-    let unused = file_of(
-        &rt,
-        rt.alloc(),
-        ListedFile::Padded(100_000, &[], 300_000, &[]),
-    );
-    let source = Source::new(MemoryStore::new(&unused));
-    let (outcome, _) = run_over(rt.alloc(), source, LEAST, Choice::All);
-    assert_same(&rt, outcome, all!(100_000, 0));
+    let outcome = outcome_of_unused(&rt, rt.alloc(), 100_000);
+    assert_same(&rt, outcome, all(100_000, 0));
 }

@@ -7,8 +7,16 @@ use mdmp_source::{PatchyStore, Source, SourceFault, Store};
 use std::alloc::{Allocator, Global};
 use std::process::Abort;
 
-/// What ended a listing, how many items it gave, and how many ranges of memory were mapped, or why there is no lister.
-pub type Outcome = Result<(Option<RunFault>, u64, usize), OpenFault>;
+/// All items and how many ranges of memory were mapped, or why there is no lister.
+#[derive(Clone, Copy, Debug, PartialEq, Eq)]
+pub enum Outcome {
+    Listed {
+        fault: Option<RunFault>,
+        items: u64,
+        mapped: usize,
+    },
+    Refused(OpenFault),
+}
 
 /// Each entry, or those of these types.
 pub fn chosen(rt: &impl Abort, types: &[u32]) -> Choice {
@@ -16,6 +24,11 @@ pub fn chosen(rt: &impl Abort, types: &[u32]) -> Choice {
         return Choice::All;
     }
     Choice::Types(TypeSet::new(types).expect(rt, "types"))
+}
+
+/// A window of so many bytes, and names of at most so many.
+pub fn limits_of(rt: &impl Abort, window: u32, name: u32) -> Limits {
+    Limits::new(window, name).expect(rt, "limits")
 }
 
 /// A lister of a store.
@@ -43,23 +56,16 @@ pub fn patchy<'a>(
     PatchyStore::new(bytes, caps, fail_at)
 }
 
-/// A fault of the first entry, or of another one, as a constant.
-macro_rules! fault {
-    ($index:expr, $kind:ident, $offset:expr, $size:expr) => {
-        $crate::opening::fault!(0, $index, mdmp_lister::FaultKind::$kind, $offset, $size)
-    };
-    ($entry:expr, $index:expr, $kind:expr, $offset:expr, $size:expr) => {
-        mdmp_lister::ListFault {
-            entry: $entry,
-            index: $index,
-            kind: $kind,
-            offset: $offset,
-            size: $size,
-        }
-    };
+/// A fault of the first entry.
+pub fn fault(index: Option<u64>, kind: FaultKind, offset: u64, size: u64) -> ListFault {
+    ListFault {
+        entry: 0,
+        index,
+        kind,
+        offset,
+        size,
+    }
 }
-
-pub(crate) use fault;
 
 /// The fault of the second entry of `FAULTY`, in the name of its module.
 pub const FAULTY_NAME: ListFault = ListFault {
@@ -129,23 +135,27 @@ pub fn run_over<S: Store + Drop, A: Allocator + Copy>(
         Ok(lister) => lister,
         Err(refused) => {
             let OpenRefused { fault, source } = refused;
-            return (Err(fault), source);
+            return (Outcome::Refused(fault), source);
         }
     };
     let mut sink = StopAt::new(u64::MAX);
     let fault = lister.list_into(&mut sink).err();
-    let outcome = Ok((fault, sink.calls(), lister.map().len()));
+    let outcome = Outcome::Listed {
+        fault,
+        items: sink.calls(),
+        mapped: lister.map().len(),
+    };
     (outcome, lister.into_source())
 }
 
 /// What a listing without a fault comes to.
-macro_rules! all {
-    ($items:expr, $mapped:expr) => {
-        Ok((None, $items, $mapped))
-    };
+pub fn all(items: u64, mapped: usize) -> Outcome {
+    Outcome::Listed {
+        fault: None,
+        items,
+        mapped,
+    }
 }
-
-pub(crate) use all;
 
 /// What ended a listing of the ranges of a store, and how many were mapped; none where it is not opened.
 pub fn listed_ranges<S: Store + Drop>(

@@ -1,8 +1,8 @@
 //! Openings that are refused one of their growths.
-use crate::files::{ListedFile, file_of};
+use crate::files::file_of;
 use crate::opening::{Outcome, all, run_over};
 use crate::same::assert_same_at;
-use crate::script::{LEAST, NAMED, Opener};
+use crate::script::{LEAST, NAMED};
 use crate::walking::step_of;
 use mdmp_lister::{Choice, Limits, OpenFault, OpenRefused, RunFault, Walker};
 use mdmp_source::{MemoryStore, Source, Store};
@@ -10,22 +10,42 @@ use mdmp_test_support::{MEMORY64, MeteredHeap, OVERLAPPING, Refusal, SYSTEM, THR
 use std::alloc::{Allocator, Global};
 use std::process::Abort;
 
-/// What comes of a store that is opened in a heap: its outcome, how often the heap was asked for a block, how many blocks
-/// were not given back, and what comes of the source that is handed back, with ample memory and no limit.
-pub type MeteredOpening = (Outcome, u64, u64, Outcome);
+/// Who opens a file.
+#[derive(Clone, Copy)]
+pub enum Opener {
+    Lister,
+    Walker,
+}
+
+/// What comes of a store that is opened in a heap.
+#[derive(Clone, Copy)]
+pub struct MeteredOpening {
+    pub outcome: Outcome,
+    /// What comes of the source that is handed back, with ample memory.
+    pub again: Outcome,
+    /// The bytes that were fetched before the source was handed back.
+    pub fetched: u128,
+    /// How often the heap was asked for a block, and how many blocks were not given back.
+    pub growths: u64,
+    pub out: u64,
+}
 
 /// Counts all items of a walker, at most a hundred.
 fn count_items<S: Store + Drop, A: Allocator + Copy>(walker: &mut Walker<S, A>) -> Outcome {
     for count in 0..100 {
         match step_of(walker) {
             Ok(Some(_)) => {}
-            Ok(None) => return all!(count, 0),
+            Ok(None) => return all(count, 0),
             Err(found) => {
-                return Ok((Some(RunFault::At(found)), count, 0));
+                return Outcome::Listed {
+                    fault: Some(RunFault::At(found)),
+                    items: count,
+                    mapped: 0,
+                };
             }
         }
     }
-    all!(100, 0)
+    all(100, 0)
 }
 
 /// Counts all items of a walker, and then hands its source back.
@@ -41,7 +61,7 @@ fn walk_over<S: Store + Drop, A: Allocator + Copy>(
         }
         Err(refused) => {
             let OpenRefused { fault, source } = refused;
-            (Err(fault), source)
+            (Outcome::Refused(fault), source)
         }
     }
 }
@@ -70,6 +90,7 @@ pub fn opened_in<S: Store + Drop>(
     let heap = MeteredHeap::new(alloc, refusal);
     let (outcome, source) = run_by(&heap, Source::new(store), limits, opener);
     let counts = heap.counts();
+    let fetched = source.fetched();
     let ample = Limits {
         window: limits.window,
         name: limits.name,
@@ -78,118 +99,112 @@ pub fn opened_in<S: Store + Drop>(
         aside: limits.aside,
     };
     let (again, _) = run_by(alloc, source, ample, opener);
-    (outcome, counts.growths, counts.out, again)
+    MeteredOpening {
+        outcome,
+        again,
+        fetched,
+        growths: counts.growths,
+        out: counts.out,
+    }
 }
 
-/// A file, how it is opened, by how many growths, and what comes of it.
-#[derive(Clone, Copy)]
-struct GrowthsRow {
+/// What comes of a file that is opened in a heap which refuses this growth alone.
+fn opened_without(
+    alloc: Global,
+    growth: u64,
+    file: &[u8],
+    limits: Limits,
     opener: Opener,
-    file: ListedFile,
+) -> MeteredOpening {
+    let store = MemoryStore::new(file);
+    opened_in(alloc, Refusal::Only(growth), store, limits, opener)
+}
+
+/// Asserts what came of a file that was opened in a heap: its outcome by so many growths, that all which was
+/// taken is given back, and what the source that is handed back gives with ample memory.
+fn assert_opened_without(
+    rt: &impl Abort,
+    found: MeteredOpening,
+    outcome: Outcome,
+    again: Outcome,
+    growths: u64,
+) {
+    assert_same_at(rt, &growths, found.outcome, outcome);
+    assert_same_at(rt, &growths, found.again, again);
+    assert_same_at(rt, &growths, (found.growths, found.out), (growths, 0));
+}
+
+/// Asserts that each of so many growths may be refused, which ends the opening, and that there are no more.
+fn assert_each_may_be_refused(
+    rt: &impl Abort,
+    alloc: Global,
+    file: &[u8],
+    limits: Limits,
+    opener: Opener,
+    growths: u64,
+    outcome: Outcome,
+) {
+    let refused = Outcome::Refused(OpenFault::Memory);
+    for growth in 0..growths {
+        let found = opened_without(alloc, growth, file, limits, opener);
+        assert_opened_without(rt, found, refused, outcome, growth.saturating_add(1));
+    }
+    let found = opened_without(alloc, growths, file, limits, opener);
+    assert_opened_without(rt, found, outcome, outcome, growths);
+}
+
+/// The same of a lister.
+fn assert_lister(
+    rt: &impl Abort,
+    alloc: Global,
+    file: &[u8],
     limits: Limits,
     growths: u64,
     outcome: Outcome,
+) {
+    assert_each_may_be_refused(rt, alloc, file, limits, Opener::Lister, growths, outcome);
 }
 
-macro_rules! growths {
-    ($opener:ident, $file:expr, $limits:expr, $growths:expr, $outcome:expr) => {
-        GrowthsRow {
-            opener: Opener::$opener,
-            file: $file,
-            limits: $limits,
-            growths: $growths,
-            outcome: $outcome,
-        }
-    };
-}
-
-/// A directory, a window, a name, and a map where memory is listed. A walker has no map.
-const GROWTHS: [GrowthsRow; 9] = [
-    growths!(
-        Lister,
-        ListedFile::Bytes(&SYSTEM, 136),
-        NAMED,
-        3,
-        all!(2, 0)
-    ),
-    growths!(
-        Lister,
-        ListedFile::Bytes(&SYSTEM, 136),
-        LEAST,
-        2,
-        all!(2, 0)
-    ),
-    growths!(
-        Lister,
-        ListedFile::Bytes(&MEMORY64, 98),
-        NAMED,
-        4,
-        all!(3, 1)
-    ),
-    growths!(
-        Lister,
-        ListedFile::Bytes(&MEMORY64, 98),
-        LEAST,
-        3,
-        all!(3, 1)
-    ),
-    growths!(
-        Lister,
-        ListedFile::Numbers(3, &THRICE),
-        NAMED,
-        3,
-        all!(6, 0)
-    ),
-    growths!(
-        Lister,
-        ListedFile::Numbers(1, &OVERLAPPING),
-        NAMED,
-        4,
-        all!(3, 2)
-    ),
-    growths!(
-        Walker,
-        ListedFile::Bytes(&SYSTEM, 136),
-        NAMED,
-        3,
-        all!(2, 0)
-    ),
-    growths!(
-        Walker,
-        ListedFile::Bytes(&SYSTEM, 136),
-        LEAST,
-        2,
-        all!(2, 0)
-    ),
-    growths!(
-        Walker,
-        ListedFile::Bytes(&MEMORY64, 98),
-        NAMED,
-        3,
-        all!(3, 0)
-    ),
-];
-
-/// Asserts that each of so many growths may be refused, which ends the opening, and that there are no more.
-fn assert_each_may_be_refused(rt: &impl Abort, alloc: Global, row: &GrowthsRow) {
-    let file = file_of(rt, alloc, row.file);
-    let refused = Err(OpenFault::Memory);
-    for growth in 0..row.growths.saturating_add(1) {
-        let store = MemoryStore::new(&file);
-        let found = opened_in(alloc, Refusal::Only(growth), store, row.limits, row.opener);
-        let expected = if growth < row.growths {
-            (refused, growth.saturating_add(1), 0, row.outcome)
-        } else {
-            (row.outcome, row.growths, 0, row.outcome)
-        };
-        assert_same_at(rt, &(row.opener, file.len(), growth), found, expected);
-    }
+/// The same of a lister of a file with so many entries and these numbers.
+fn assert_lister_of_numbers(
+    rt: &impl Abort,
+    alloc: Global,
+    entries: u32,
+    numbers: &[u32],
+    growths: u64,
+    outcome: Outcome,
+) {
+    let file = file_of(rt, alloc, entries, numbers);
+    assert_lister(rt, alloc, &file, NAMED, growths, outcome);
 }
 
 #[test]
-fn each_growth_of_an_opening_may_be_refused(rt: HostRuntime) {
-    let rows = GROWTHS;
-    for row in &rows {
-        assert_each_may_be_refused(&rt, rt.alloc(), row);
-    }
+fn each_growth_of_a_lister_may_be_refused(rt: HostRuntime) {
+    // A directory, a window, a name, and a map where memory is listed.
+    assert_lister(&rt, rt.alloc(), &SYSTEM, NAMED, 3, all(2, 0));
+    assert_lister(&rt, rt.alloc(), &SYSTEM, LEAST, 2, all(2, 0));
+    assert_lister(&rt, rt.alloc(), &MEMORY64, NAMED, 4, all(3, 1));
+    assert_lister(&rt, rt.alloc(), &MEMORY64, LEAST, 3, all(3, 1));
+    assert_lister_of_numbers(&rt, rt.alloc(), 3, &THRICE, 3, all(6, 0));
+    assert_lister_of_numbers(&rt, rt.alloc(), 1, &OVERLAPPING, 4, all(3, 2));
+}
+
+/// The same of a walker.
+fn assert_walker(
+    rt: &impl Abort,
+    alloc: Global,
+    file: &[u8],
+    limits: Limits,
+    growths: u64,
+    outcome: Outcome,
+) {
+    assert_each_may_be_refused(rt, alloc, file, limits, Opener::Walker, growths, outcome);
+}
+
+#[test]
+fn each_growth_of_a_walker_may_be_refused(rt: HostRuntime) {
+    // A directory, a window and a name: it has no map.
+    assert_walker(&rt, rt.alloc(), &SYSTEM, NAMED, 3, all(2, 0));
+    assert_walker(&rt, rt.alloc(), &SYSTEM, LEAST, 2, all(2, 0));
+    assert_walker(&rt, rt.alloc(), &MEMORY64, NAMED, 3, all(3, 0));
 }

@@ -1,9 +1,8 @@
 //! The calls of one lister, or of one walker, in a row, and what each is to answer.
-use crate::files::{ListedFile, file_of};
+use crate::files::file_of;
 use crate::given::{GivenItem, plain};
-use crate::opening::{chosen, opened, patchy, store_fault};
-use crate::same::assert_same_at;
-use crate::walking;
+use crate::opening::{chosen, opened, patchy};
+use crate::same::{assert_same, assert_same_at};
 use mdmp_lister::{Choice, Item, Limits, ListFault, Lister, RunFault, StopAt};
 use mdmp_map::Place;
 use mdmp_source::{MemoryStore, SourceFault, Store, inside};
@@ -74,11 +73,10 @@ pub enum ScriptStep {
     Room,
     /// Where the map finds an address.
     Find(u64),
-    /// Read so many bytes of memory at an address, at most sixteen, which are to be these, or of which these are
-    /// known.
-    Read(u64, &'static [u8], &'static [bool]),
-    /// Read so many bytes of the file at an offset, at most sixteen, which are to be these.
-    Part(u64, &'static [u8]),
+    /// Read so many bytes of memory at an address, at most sixteen.
+    Read(u64, usize),
+    /// Read so many bytes of the file at an offset, at most sixteen.
+    Part(u64, usize),
     /// How many bytes the file has, and how many were fetched aside.
     Numbers,
     /// How many records of the current entry are still to come.
@@ -92,9 +90,10 @@ pub enum ScriptStep {
 }
 
 /// What a call answers.
-#[derive(Clone, Copy, Debug, PartialEq)]
+#[derive(Clone, Copy, Debug, PartialEq, Eq)]
 pub enum Answer {
     Done,
+    Entries(u32),
     Item(GivenItem),
     End,
     Fault(ListFault),
@@ -102,240 +101,158 @@ pub enum Answer {
     Ran(Option<RunFault>, u64),
     /// Something was given before, so no verdict can be.
     Begun,
-    /// How many, and for some calls a second number.
-    Numbers(u128, u128),
+    Room { len: usize, free: usize },
     Place(Option<Place>),
-    /// What was read is something else: the bytes, and which of them are known.
-    Others([u8; 16], [bool; 16]),
+    /// What was read, with zeros behind it, and which of its bytes are known.
+    Memory([u8; 16], [bool; 16]),
+    /// What was read, with zeros behind it.
+    Bytes([u8; 16]),
     /// Not all of what is to be read lies inside the file.
     Outside,
     Failed(SourceFault),
+    Numbers { size: u64, aside: u128 },
+    RecordsLeft(u64),
+    Counted(u64),
+    Fresh(bool),
     /// It has no such call, or it may not be called there.
     NoCall,
 }
-
-/// What a call is to answer.
-#[derive(Clone, Copy)]
-pub enum Expected {
-    Is(Answer),
-    /// The fault of the entry whose byte the store does not give.
-    FaultHere,
-    /// The fault of the store of that byte.
-    FailedHere,
-    /// A run that ended by that fault of the entry, and how often its sink was called so far.
-    RanHere(u64),
-}
-
-/// The byte that a store does not give, and the entry that it is of.
-#[derive(Clone, Copy)]
-pub struct Here {
-    pub entry: u32,
-    pub at: u64,
-}
-
-/// No call of a store fails.
-pub const NOWHERE: Here = Here { entry: 0, at: 0 };
 
 /// A call and its answer.
 #[derive(Clone, Copy)]
 pub struct Call {
     pub step: ScriptStep,
-    pub answer: Expected,
+    pub answer: Answer,
 }
 
-/// A call and its answer, as a constant.
-macro_rules! call {
-    (entries($count:expr)) => {
-        $crate::script::call!(Entries => Numbers($count, 0))
-    };
-    (gives($kind:ident $fields:tt)) => {
-        $crate::script::call!(Next => Item($crate::given::item!($kind $fields)))
-    };
-    (ends()) => {
-        $crate::script::call!(Next => End)
-    };
-    (fails($fault:expr)) => {
-        $crate::script::call!(Next => Fault($fault))
-    };
-    (fails_here()) => {
-        $crate::script::call!(Next, FaultHere)
-    };
-    (skips()) => {
-        $crate::script::call!(Skip => Done)
-    };
-    // A run into a new sink that stops at this call.
-    (runs($stop_at:expr, $fault:expr, $calls:expr)) => {
-        $crate::script::call!(NewSink($stop_at) => Ran($fault, $calls))
-    };
-    // A further run into the same sink.
-    (runs_on($fault:expr, $calls:expr)) => {
-        $crate::script::call!(SameSink => Ran($fault, $calls))
-    };
-    // A run into a new sink that ends where the store fails.
-    (runs_here($calls:expr)) => {
-        $crate::script::call!(NewSink(u64::MAX), RanHere($calls))
-    };
-    // Verdicts for a new sink that stops at this call.
-    (checks($stop_at:expr, $fault:expr, $calls:expr)) => {
-        $crate::script::call!(Check($stop_at) => Ran($fault, $calls))
-    };
-    (checks_here($calls:expr)) => {
-        $crate::script::call!(Check(u64::MAX), RanHere($calls))
-    };
-    // No verdicts any more.
-    (has_begun()) => {
-        $crate::script::call!(Check(u64::MAX) => Begun)
-    };
-    (has_room($len:expr, $free:expr)) => {
-        $crate::script::call!(Room => Numbers($len, $free))
-    };
-    (finds($address:expr, $offset:expr, $left:expr)) => {
-        $crate::script::call!(
-            Find($address) => Place(Some(mdmp_map::Place { offset: $offset, left: $left }))
-        )
-    };
-    (finds_nothing($address:expr)) => {
-        $crate::script::call!(Find($address) => Place(None))
-    };
-    // These bytes, and which of them are known.
-    (reads($address:expr, $bytes:expr, $known:expr)) => {
-        $crate::script::call!(Read($address, $bytes, $known) => Done)
-    };
-    (read_fails_here($address:expr, $len:literal)) => {
-        $crate::script::call!(Read($address, &[0; $len], &[false; $len]), FailedHere)
-    };
-    // These bytes of the file.
-    (has_part($at:expr, $bytes:expr)) => {
-        $crate::script::call!(Part($at, $bytes) => Done)
-    };
-    (part_outside($at:expr, $len:literal)) => {
-        $crate::script::call!(Part($at, &[0; $len]) => Outside)
-    };
-    (part_fails_here($at:expr, $len:literal)) => {
-        $crate::script::call!(Part($at, &[0; $len]), FailedHere)
-    };
-    // The size of the file, and what was fetched aside so far.
-    (has_numbers($size:expr, $aside:expr)) => {
-        $crate::script::call!(Numbers => Numbers($size, $aside))
-    };
-    (has_records_left($count:expr)) => {
-        $crate::script::call!(RecordsLeft => Numbers($count, 0))
-    };
-    (seeks($number:expr)) => {
-        $crate::script::call!(Seek($number) => Done)
-    };
-    // An entry that is not there.
-    (cannot_seek($number:expr)) => {
-        $crate::script::call!(Seek($number) => NoCall)
-    };
-    (counts($records:expr)) => {
-        $crate::script::call!(Records => Numbers($records, 0))
-    };
-    (count_fails($fault:expr)) => {
-        $crate::script::call!(Records => Fault($fault))
-    };
-    (count_fails_here()) => {
-        $crate::script::call!(Records, FaultHere)
-    };
-    // No Stream item was given last.
-    (cannot_count()) => {
-        $crate::script::call!(Records => NoCall)
-    };
-    // Whether nothing was given yet.
-    (is_fresh(true)) => {
-        $crate::script::call!(Fresh => Numbers(1, 0))
-    };
-    (is_fresh(false)) => {
-        $crate::script::call!(Fresh => Numbers(0, 0))
-    };
-    ($step:ident $( ( $($given:tt)* ) )? => $answer:ident $( ( $($told:tt)* ) )?) => {
-        $crate::script::Call {
-            step: $crate::script::ScriptStep::$step $( ( $($given)* ) )?,
-            answer: $crate::script::Expected::Is(
-                $crate::script::Answer::$answer $( ( $($told)* ) )?,
-            ),
+fn called(step: ScriptStep, answer: Answer) -> Call {
+    Call { step, answer }
+}
+
+pub fn entries(count: u32) -> Call {
+    called(ScriptStep::Entries, Answer::Entries(count))
+}
+
+pub fn gives(item: GivenItem) -> Call {
+    called(ScriptStep::Next, Answer::Item(item))
+}
+
+pub fn ends() -> Call {
+    called(ScriptStep::Next, Answer::End)
+}
+
+pub fn fails(fault: ListFault) -> Call {
+    called(ScriptStep::Next, Answer::Fault(fault))
+}
+
+pub fn skips() -> Call {
+    called(ScriptStep::Skip, Answer::Done)
+}
+
+/// A run into a new sink that stops at this call.
+pub fn runs(stop_at: u64, fault: Option<RunFault>, calls: u64) -> Call {
+    called(ScriptStep::NewSink(stop_at), Answer::Ran(fault, calls))
+}
+
+/// A further run into the same sink.
+pub fn runs_on(fault: Option<RunFault>, calls: u64) -> Call {
+    called(ScriptStep::SameSink, Answer::Ran(fault, calls))
+}
+
+/// Verdicts for a new sink that stops at this call.
+pub fn checks(stop_at: u64, fault: Option<RunFault>, calls: u64) -> Call {
+    called(ScriptStep::Check(stop_at), Answer::Ran(fault, calls))
+}
+
+/// No verdicts any more.
+pub fn has_begun() -> Call {
+    called(ScriptStep::Check(u64::MAX), Answer::Begun)
+}
+
+pub fn has_room(len: usize, free: usize) -> Call {
+    called(ScriptStep::Room, Answer::Room { len, free })
+}
+
+pub fn finds(address: u64, offset: u64, left: u64) -> Call {
+    let place = Place { offset, left };
+    called(ScriptStep::Find(address), Answer::Place(Some(place)))
+}
+
+pub fn finds_nothing(address: u64) -> Call {
+    called(ScriptStep::Find(address), Answer::Place(None))
+}
+
+/// These bytes, and which of them are known.
+pub fn reads<const N: usize>(address: u64, bytes: [u8; N], known: [bool; N]) -> Call {
+    let mut out = [0; 16];
+    let mut is_known = [false; 16];
+    for i in 0..N {
+        if i < 16 {
+            out[i] = bytes[i];
+            is_known[i] = known[i];
         }
-    };
-    ($step:ident $( ( $($given:tt)* ) )?, $answer:ident $( ( $($told:tt)* ) )?) => {
-        $crate::script::Call {
-            step: $crate::script::ScriptStep::$step $( ( $($given)* ) )?,
-            answer: $crate::script::Expected::$answer $( ( $($told)* ) )?,
+    }
+    called(ScriptStep::Read(address, N), Answer::Memory(out, is_known))
+}
+
+pub fn read_fails(address: u64, len: usize, fault: SourceFault) -> Call {
+    called(ScriptStep::Read(address, len), Answer::Failed(fault))
+}
+
+/// These bytes of the file.
+pub fn has_part<const N: usize>(at: u64, bytes: [u8; N]) -> Call {
+    let mut out = [0; 16];
+    for i in 0..N {
+        if i < 16 {
+            out[i] = bytes[i];
         }
-    };
+    }
+    called(ScriptStep::Part(at, N), Answer::Bytes(out))
 }
 
-pub(crate) use call;
-
-/// Calls in a row.
-macro_rules! script {
-    ($($name:ident ( $($given:tt)* )),* $(,)?) => {
-        &[$($crate::script::call!($name ( $($given)* ))),*]
-    };
+pub fn part_outside(at: u64, len: usize) -> Call {
+    called(ScriptStep::Part(at, len), Answer::Outside)
 }
 
-pub(crate) use script;
-
-/// Who gives the items of a file.
-#[derive(Clone, Copy, Debug)]
-pub enum Opener {
-    Lister,
-    Walker,
+pub fn part_fails(at: u64, len: usize, fault: SourceFault) -> Call {
+    called(ScriptStep::Part(at, len), Answer::Failed(fault))
 }
 
-/// A script that is played over a file: by whom, which types of entries are chosen, or all, and how many bytes its store
-/// gives a call, in turn, or all that are asked for.
-#[derive(Clone, Copy)]
-pub struct Play {
-    /// What it shows, which a failing test tells.
-    pub name: &'static str,
-    pub opener: Opener,
-    pub file: ListedFile,
-    pub limits: Limits,
-    pub types: &'static [u32],
-    pub caps: &'static [usize],
-    pub script: &'static [Call],
+/// The size of the file, and what was fetched aside so far.
+pub fn has_numbers(size: u64, aside: u128) -> Call {
+    called(ScriptStep::Numbers, Answer::Numbers { size, aside })
 }
 
-/// A script that is played once for each of some calls of the store, one behind the other, where this call fails: the
-/// number of the first one, how many they are, the entry that they are of, and where the byte of the first one stands.
-#[derive(Clone, Copy)]
-pub struct FailingPlay {
-    pub play: Play,
-    pub first: u64,
-    pub count: u64,
-    pub entry: u32,
-    pub place: u64,
+pub fn has_records_left(count: u64) -> Call {
+    called(ScriptStep::RecordsLeft, Answer::RecordsLeft(count))
 }
 
-/// A play of a lister of all entries of a file in memory, of those of some types, or of a store that gives few bytes a
-/// call; or that of a walker.
-macro_rules! play {
-    ($name:expr, $file:expr, $limits:expr, [$($script:tt)*]) => {
-        $crate::script::play!(@ $name, Lister, $file, $limits, &[], &[], [$($script)*])
-    };
-    ($name:expr, $file:expr, $limits:expr, types $types:expr, [$($script:tt)*]) => {
-        $crate::script::play!(@ $name, Lister, $file, $limits, $types, &[], [$($script)*])
-    };
-    ($name:expr, $file:expr, $limits:expr, caps $caps:expr, [$($script:tt)*]) => {
-        $crate::script::play!(@ $name, Lister, $file, $limits, &[], $caps, [$($script)*])
-    };
-    (walker $name:expr, $file:expr, $limits:expr, types $types:expr, caps $caps:expr, [$($script:tt)*]) => {
-        $crate::script::play!(@ $name, Walker, $file, $limits, $types, $caps, [$($script)*])
-    };
-    (@ $name:expr, $opener:ident, $file:expr, $limits:expr, $types:expr, $caps:expr, [$($script:tt)*]) => {
-        $crate::script::Play {
-            name: $name,
-            opener: $crate::script::Opener::$opener,
-            file: $file,
-            limits: $limits,
-            types: $types,
-            caps: $caps,
-            script: $crate::script::script![$($script)*],
-        }
-    };
+pub fn seeks(number: usize) -> Call {
+    called(ScriptStep::Seek(number), Answer::Done)
 }
 
-pub(crate) use play;
+/// An entry that is not there.
+pub fn cannot_seek(number: usize) -> Call {
+    called(ScriptStep::Seek(number), Answer::NoCall)
+}
+
+pub fn counts(records: u64) -> Call {
+    called(ScriptStep::Records, Answer::Counted(records))
+}
+
+pub fn count_fails(fault: ListFault) -> Call {
+    called(ScriptStep::Records, Answer::Fault(fault))
+}
+
+/// No Stream item was given last.
+pub fn cannot_count() -> Call {
+    called(ScriptStep::Records, Answer::NoCall)
+}
+
+/// Whether nothing was given yet.
+pub fn is_fresh(expected: bool) -> Call {
+    called(ScriptStep::Fresh, Answer::Fresh(expected))
+}
 
 /// An item, the end or a fault as an answer.
 pub fn answer_by(
@@ -348,11 +265,6 @@ pub fn answer_by(
         Ok(None) => Answer::End,
         Err(fault) => Answer::Fault(fault),
     }
-}
-
-/// A count, and a second number.
-pub fn counted(count: u64, second: u128) -> Answer {
-    Answer::Numbers(u128::from(count), second)
 }
 
 fn run<S: Store + Drop, A: Allocator + Copy>(
@@ -374,43 +286,51 @@ fn check<S: Store + Drop, A: Allocator + Copy>(
     Answer::Ran(fault, sink.calls())
 }
 
+/// So many bytes that are no answer, with zeros behind them.
+fn unread(len: usize) -> [u8; 16] {
+    let mut bytes = [0; 16];
+    for i in 0..len.min(16) {
+        bytes[i] = 0xee;
+    }
+    bytes
+}
+
+/// The same of what is known of memory at an address.
+fn unknown(address: u64, len: usize) -> [bool; 16] {
+    let mut known = [false; 16];
+    for i in 0..len.min(16) {
+        known[i] = address % 2 == 0;
+    }
+    known
+}
+
 fn read<S: Store + Drop, A: Allocator + Copy>(
     lister: &mut Lister<S, A>,
     address: u64,
-    bytes: &[u8],
-    are_known: &[bool],
+    len: usize,
 ) -> Answer {
-    let len = bytes.len().min(16);
-    // No answer has such bytes.
-    let mut out = [0xee; 16];
-    let mut known = [address % 2 == 0; 16];
-    if let Err(fault) = lister.read_address(address, &mut out[..len], &mut known[..len]) {
-        return Answer::Failed(fault);
-    }
-    if &out[..len] == bytes && &known[..len] == are_known {
-        Answer::Done
-    } else {
-        Answer::Others(out, known)
+    let len = len.min(16);
+    let mut out = unread(len);
+    let mut known = unknown(address, len);
+    match lister.read_address(address, &mut out[..len], &mut known[..len]) {
+        Ok(()) => Answer::Memory(out, known),
+        Err(fault) => Answer::Failed(fault),
     }
 }
 
 fn read_part<S: Store + Drop, A: Allocator + Copy>(
     lister: &mut Lister<S, A>,
     at: u64,
-    bytes: &[u8],
+    len: usize,
 ) -> Answer {
-    let len = bytes.len().min(16);
+    let len = len.min(16);
     if !inside(at, len as u64, lister.size()) {
         return Answer::Outside;
     }
-    let mut out = [0xee; 16];
-    if let Err(fault) = lister.read_part(at, &mut out[..len]) {
-        return Answer::Failed(fault);
-    }
-    if &out[..len] == bytes {
-        Answer::Done
-    } else {
-        Answer::Others(out, [true; 16])
+    let mut out = unread(len);
+    match lister.read_part(at, &mut out[..len]) {
+        Ok(()) => Answer::Bytes(out),
+        Err(fault) => Answer::Failed(fault),
     }
 }
 
@@ -423,7 +343,7 @@ pub fn answer_of<S: Store + Drop, A: Allocator + Copy>(
     step: ScriptStep,
 ) -> Answer {
     match step {
-        ScriptStep::Entries => counted(u64::from(lister.header().number_of_streams), 0),
+        ScriptStep::Entries => Answer::Entries(lister.header().number_of_streams),
         ScriptStep::Next => answer_by(rt, alloc, lister.next()),
         ScriptStep::Skip => {
             lister.skip_entry();
@@ -438,124 +358,101 @@ pub fn answer_of<S: Store + Drop, A: Allocator + Copy>(
             *sink = StopAt::new(stop_at);
             check(lister, sink)
         }
-        ScriptStep::Room => {
-            Answer::Numbers(lister.map().len() as u128, lister.map().free() as u128)
-        }
+        ScriptStep::Room => Answer::Room {
+            len: lister.map().len(),
+            free: lister.map().free(),
+        },
         ScriptStep::Find(address) => Answer::Place(lister.map().find(address)),
-        ScriptStep::Read(address, bytes, known) => read(lister, address, bytes, known),
-        ScriptStep::Part(at, bytes) => read_part(lister, at, bytes),
-        ScriptStep::Numbers => counted(lister.size(), lister.counts().aside),
-        ScriptStep::RecordsLeft => counted(lister.records_left(), 0),
-        ScriptStep::Fresh => counted(u64::from(lister.is_fresh()), 0),
+        ScriptStep::Read(address, len) => read(lister, address, len),
+        ScriptStep::Part(at, len) => read_part(lister, at, len),
+        ScriptStep::Numbers => Answer::Numbers {
+            size: lister.size(),
+            aside: lister.counts().aside,
+        },
+        ScriptStep::RecordsLeft => Answer::RecordsLeft(lister.records_left()),
+        ScriptStep::Fresh => Answer::Fresh(lister.is_fresh()),
         ScriptStep::Seek(_) | ScriptStep::Records => Answer::NoCall,
     }
 }
 
-/// What a call is to answer where the store does not give this byte.
-pub fn expected_at(expected: Expected, here: Here) -> Answer {
-    match expected {
-        Expected::Is(answer) => answer,
-        Expected::FaultHere => Answer::Fault(store_fault(here.entry, here.at)),
-        Expected::FailedHere => Answer::Failed(SourceFault::Failed { at: here.at }),
-        Expected::RanHere(calls) => {
-            let fault = store_fault(here.entry, here.at);
-            Answer::Ran(Some(RunFault::At(fault)), calls)
-        }
-    }
-}
-
 /// Asserts that a lister gives the answers of a script.
-pub fn assert_answers<S: Store + Drop, A: Allocator + Copy>(
+fn assert_answers<S: Store + Drop>(
     rt: &impl Abort,
     alloc: Global,
-    name: &str,
-    lister: &mut Lister<S, A>,
+    lister: &mut Lister<S, Global>,
     script: &[Call],
-    here: Here,
 ) {
     let mut sink = StopAt::new(u64::MAX);
     for i in 0..script.len() {
         let call = script[i];
         let answer = answer_of(rt, alloc, lister, &mut sink, call.step);
-        let expected = expected_at(call.answer, here);
-        assert_same_at(rt, &(name, here.at, i), answer, expected);
+        assert_same_at(rt, &i, answer, call.answer);
     }
 }
 
 /// Plays a script over a lister of a store, each of whose answers has to be that of the script: the size
 /// of the source that it hands back.
-fn play_lister<S: Store + Drop>(
+pub fn play<S: Store + Drop>(
     rt: &impl Abort,
     alloc: Global,
     store: S,
+    limits: Limits,
     choice: Choice,
-    play: &Play,
-    here: Here,
+    script: &[Call],
 ) -> u64 {
-    let mut lister = opened(rt, alloc, store, play.limits, choice);
-    assert_answers(rt, alloc, play.name, &mut lister, play.script, here);
+    let mut lister = opened(rt, alloc, store, limits, choice);
+    assert_answers(rt, alloc, &mut lister, script);
     lister.into_source().size()
 }
 
-/// Asserts that a lister or a walker of a store gives the answers of a script, and that a lister hands it back.
-pub fn assert_plays_over<S: Store + Drop>(
-    rt: &impl Abort,
-    alloc: Global,
-    store: S,
-    size: u64,
-    given: &Play,
-    here: Here,
-) {
-    let choice = chosen(rt, given.types);
-    match given.opener {
-        Opener::Lister => {
-            let found = play_lister(rt, alloc, store, choice, given, here);
-            assert_same_at(rt, &given.name, found, size);
-        }
-        Opener::Walker => walking::play_walker(rt, alloc, store, choice, given, here),
-    }
+/// Asserts that a lister of each entry of a file gives the answers of a script.
+pub fn assert_plays(rt: &impl Abort, alloc: Global, limits: Limits, file: &[u8], script: &[Call]) {
+    let store = MemoryStore::new(file);
+    let size = play(rt, alloc, store, limits, Choice::All, script);
+    assert_same(rt, size, file.len() as u64);
 }
 
-/// The same of its file in a store that fails at this call, if at one.
-pub fn assert_plays_failing(
+/// The same of a file with so many entries and these numbers.
+pub fn assert_plays_numbers(
     rt: &impl Abort,
     alloc: Global,
-    given: &Play,
+    limits: Limits,
+    entries: u32,
+    numbers: &[u32],
+    script: &[Call],
+) {
+    let file = file_of(rt, alloc, entries, numbers);
+    assert_plays(rt, alloc, limits, &file, script);
+}
+
+/// The same of the entries of these types alone.
+pub fn assert_plays_chosen(
+    rt: &impl Abort,
+    alloc: Global,
+    limits: Limits,
+    entries: u32,
+    numbers: &[u32],
+    types: &[u32],
+    script: &[Call],
+) {
+    let file = file_of(rt, alloc, entries, numbers);
+    let store = MemoryStore::new(&file);
+    let size = play(rt, alloc, store, limits, chosen(rt, types), script);
+    assert_same(rt, size, file.len() as u64);
+}
+
+/// The same of each entry of a file in a store that gives as many bytes a call as the caps say, in turn,
+/// and fails at this call, if at one.
+pub fn assert_plays_patchy(
+    rt: &impl Abort,
+    alloc: Global,
+    limits: Limits,
+    file: &[u8],
+    caps: &[usize],
     fail_at: Option<u64>,
-    here: Here,
+    script: &[Call],
 ) {
-    let file = file_of(rt, alloc, given.file);
-    let size = file.len() as u64;
-    if given.caps.is_empty() {
-        assert_plays_over(rt, alloc, MemoryStore::new(&file), size, given, here);
-    } else {
-        let store = patchy(rt, &file, given.caps, fail_at);
-        assert_plays_over(rt, alloc, store, size, given, here);
-    }
-}
-
-/// Asserts that each of these plays gives the answers of its script.
-pub fn assert_plays(rt: &impl Abort, alloc: Global, plays: &[Play]) {
-    for play in plays {
-        assert_plays_failing(rt, alloc, play, None, NOWHERE);
-    }
-}
-
-/// Asserts it of a play where each of its calls fails in turn.
-pub fn assert_each_fails(rt: &impl Abort, alloc: Global, failing: &FailingPlay) {
-    for call in 0..failing.count {
-        let here = Here {
-            entry: failing.entry,
-            at: failing.place.saturating_add(call),
-        };
-        let fail_at = Some(failing.first.saturating_add(call));
-        assert_plays_failing(rt, alloc, &failing.play, fail_at, here);
-    }
-}
-
-/// Asserts it of each of these plays.
-pub fn assert_fails(rt: &impl Abort, alloc: Global, plays: &[FailingPlay]) {
-    for failing in plays {
-        assert_each_fails(rt, alloc, failing);
-    }
+    let store = patchy(rt, file, caps, fail_at);
+    let size = play(rt, alloc, store, limits, Choice::All, script);
+    assert_same(rt, size, file.len() as u64);
 }

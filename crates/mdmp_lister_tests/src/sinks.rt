@@ -1,108 +1,116 @@
 //! Sinks that stop at each item of a file in turn, and at each verdict.
-use crate::files::{ListedFile, file_of};
-use crate::given::SERVICE_PACK;
-use crate::opening::{chosen, close, opened};
-use crate::script::{Call, NAMED, NOWHERE, assert_answers, call, script};
+use crate::script::{
+    Call, NAMED, assert_plays_chosen, checks, ends, has_begun, runs, runs_on, skips,
+};
+use crate::six::{STREAMS, six_items};
 use mdmp_lister::RunFault;
-use mdmp_source::MemoryStore;
 use mdmp_test_support::SIX;
 use std::alloc::Global;
 use std::process::Abort;
 
-/// The calls that give the items of `SIX`, where a name is not longer than its limit, and the end behind them.
-pub const SIX_ITEMS: &[Call] = script![
-    gives(stream(0, 7, 56, 104)),
-    gives(system(4, 7601, SERVICE_PACK)),
-    gives(stream(1, 3, 52, 196)),
-    gives(thread(1, 0, 7, Inside, Inside)),
-    gives(stream(2, 4, 4, 260)),
-    gives(stream(3, 6, 168, 264)),
-    gives(exception(3, 7, 0xc0000005, Inside)),
-    gives(stream(4, 5, 4, 436)),
-    gives(stream(5, 12, 4, 440)),
-    ends(),
-];
-
 /// Asserts that a lister of the six streams, or of those of these types, gives the answers of a script.
 fn assert_six(rt: &impl Abort, alloc: Global, types: &[u32], script: &[Call]) {
-    let file = file_of(rt, alloc, ListedFile::Numbers(6, &SIX));
-    let mut lister = opened(rt, alloc, MemoryStore::new(&file), NAMED, chosen(rt, types));
-    assert_answers(rt, alloc, "six streams", &mut lister, script, NOWHERE);
-    close(lister);
+    assert_plays_chosen(rt, alloc, NAMED, 6, &SIX, types, script);
 }
 
-/// The call that gives an item, or the end behind the last one.
-fn gives(rt: &impl Abort, item: usize) -> Call {
-    *SIX_ITEMS.get(item).expect(rt, "an item")
+/// The next call: it gives this item, or the end behind the last one.
+fn comes(item: Option<&Call>) -> Call {
+    match item {
+        Some(call) => *call,
+        None => ends(),
+    }
 }
 
-/// An item at which a sink stops, and the Stream item of the entry behind its own, or the end.
-const STOPS: [(usize, usize); 9] = [
-    (0, 2),
-    (1, 2),
-    (2, 4),
-    (3, 4),
-    (4, 5),
-    (5, 7),
-    (6, 7),
-    (7, 8),
-    (8, 9),
-];
+/// The Stream item of this stream, or the end where there is none.
+fn begins(items: &[Call; 9], stream: usize) -> Call {
+    match STREAMS.get(stream) {
+        Some(place) => comes(items.get(*place)),
+        None => ends(),
+    }
+}
 
-/// Asserts that a sink has the item at which it stops: the one behind it comes next, the same sink takes all that are
-/// left, and where its entry is skipped, the next stream is begun or the end comes.
-fn assert_stops(rt: &impl Abort, alloc: Global, stop_at: usize, behind: usize) {
+/// A run into a new sink that stops at this item and has it then.
+fn stops(stop_at: usize) -> Call {
     let calls = stop_at.saturating_add(1);
-    let stops = call!(runs(stop_at as u64, Some(RunFault::Stopped), calls as u64));
-    assert_six(rt, alloc, &[], &[stops, gives(rt, calls)]);
-    assert_six(
-        rt,
-        alloc,
-        &[],
-        &[stops, call!(runs_on(None, 9)), call!(ends())],
-    );
-    assert_six(rt, alloc, &[], &[stops, call!(skips()), gives(rt, behind)]);
+    runs(stop_at as u64, Some(RunFault::Stopped), calls as u64)
+}
+
+/// Asserts that a sink has the item at which it stops; the one behind it comes next, and the same sink takes all
+/// that are left.
+fn assert_stops(rt: &impl Abort, alloc: Global, items: &[Call; 9], stop_at: usize) {
+    let next = comes(items.get(stop_at.saturating_add(1)));
+    assert_six(rt, alloc, &[], &[stops(stop_at), next]);
+    assert_six(rt, alloc, &[], &[stops(stop_at), runs_on(None, 9), ends()]);
 }
 
 #[test]
 fn sink_stops_at_each_item_in_turn(rt: HostRuntime) {
-    for (stop_at, behind) in &STOPS {
-        assert_stops(&rt, rt.alloc(), *stop_at, *behind);
+    let items = six_items();
+    for stop_at in 0..9 {
+        assert_stops(&rt, rt.alloc(), &items, stop_at);
     }
-    assert_six(&rt, rt.alloc(), &[], script![runs(9, None, 9), ends()]);
+    assert_six(&rt, rt.alloc(), &[], &[runs(9, None, 9), ends()]);
 }
 
-/// The types that are chosen, a verdict at which a sink stops, and the Stream item that comes next, or the end.
-const CHECKS: [(&[u32], usize, usize); 9] = [
-    (&[], 0, 2),
-    (&[], 1, 4),
-    (&[], 2, 5),
-    (&[], 3, 7),
-    (&[], 4, 8),
-    (&[], 5, 9),
-    // A system, a thread and a stream of bytes.
-    (&[3, 7, 12], 0, 2),
-    (&[3, 7, 12], 1, 8),
-    (&[3, 7, 12], 2, 9),
-];
+/// How many streams were begun when so many items had been given.
+fn begun_by(count: usize) -> usize {
+    let mut begun: usize = 0;
+    for place in STREAMS {
+        if place < count {
+            begun = begun.saturating_add(1);
+        }
+    }
+    begun
+}
 
-/// Asserts that a sink of verdicts has the one at which it stops, and this stream is begun then, or the end comes.
-fn assert_checks(rt: &impl Abort, alloc: Global, types: &[u32], stop_at: usize, next: usize) {
+/// Asserts that behind a sink that stops at this item its entry is skipped, and the next stream is begun or the end comes.
+fn assert_skipped(rt: &impl Abort, alloc: Global, items: &[Call; 9], stop_at: usize) {
+    let begun = begun_by(stop_at.saturating_add(1));
+    let script = [stops(stop_at), skips(), begins(items, begun)];
+    assert_six(rt, alloc, &[], &script);
+}
+
+#[test]
+fn entry_of_the_last_item_of_a_sink_is_skipped(rt: HostRuntime) {
+    let items = six_items();
+    for stop_at in 0..9 {
+        assert_skipped(&rt, rt.alloc(), &items, stop_at);
+    }
+}
+
+/// Verdicts for a new sink that stops at this one and has it then.
+fn stops_checking(stop_at: usize) -> Call {
     let calls = stop_at.saturating_add(1);
-    let stops = call!(checks(stop_at as u64, Some(RunFault::Stopped), calls as u64));
-    assert_six(
-        rt,
-        alloc,
-        types,
-        &[stops, call!(has_begun()), gives(rt, next)],
-    );
+    checks(stop_at as u64, Some(RunFault::Stopped), calls as u64)
+}
+
+/// Asserts that a sink of verdicts has the one at which it stops, and the next stream is begun or the end comes.
+fn assert_verdict(rt: &impl Abort, alloc: Global, items: &[Call; 9], stop_at: usize) {
+    let next = begins(items, stop_at.saturating_add(1));
+    let script = [stops_checking(stop_at), has_begun(), next];
+    assert_six(rt, alloc, &[], &script);
 }
 
 #[test]
 fn sink_stops_at_each_verdict_in_turn(rt: HostRuntime) {
-    for (types, stop_at, next) in &CHECKS {
-        assert_checks(&rt, rt.alloc(), *types, *stop_at, *next);
+    let items = six_items();
+    for stop_at in 0..6 {
+        assert_verdict(&rt, rt.alloc(), &items, stop_at);
     }
-    let script = script![checks(6, None, 6), has_begun(), ends()];
-    assert_six(&rt, rt.alloc(), &[], script);
+    let script = [checks(6, None, 6), has_begun(), ends()];
+    assert_six(&rt, rt.alloc(), &[], &script);
+}
+
+/// Asserts that a sink of the verdicts on a system, a thread and a stream of bytes stops at this one, and that
+/// this stream is begun then, or the end comes.
+fn assert_chosen_verdict(rt: &impl Abort, alloc: Global, stop_at: usize, next: usize) {
+    let script = [stops_checking(stop_at), begins(&six_items(), next)];
+    assert_six(rt, alloc, &[3, 7, 12], &script);
+}
+
+#[test]
+fn next_chosen_entry_comes_behind_a_verdict(rt: HostRuntime) {
+    assert_chosen_verdict(&rt, rt.alloc(), 0, 1);
+    assert_chosen_verdict(&rt, rt.alloc(), 1, 5);
+    assert_chosen_verdict(&rt, rt.alloc(), 2, 6);
 }

@@ -1,113 +1,89 @@
 //! A lister over stores that give few bytes a call, or fail.
-use crate::files::ListedFile;
-use crate::given::SERVICE_PACK;
+use crate::given::{range, spelled, stream, system};
 use crate::opening::{fault, open_and_close, patchy};
-use crate::same::assert_same_at;
-use crate::script::{FailingPlay, LEAST, NAMED, Play, STANDARD, assert_fails, assert_plays, play};
-use mdmp_lister::{Choice, FaultKind, ListFault, OpenFault, RunFault};
-use mdmp_source::{Source, SourceFault};
+use crate::same::assert_same;
+use crate::script::{LEAST, NAMED, STANDARD, assert_plays_patchy, ends, fails, gives, runs, skips};
+use mdmp_lister::{Choice, FaultKind, OpenFault, RunFault};
+use mdmp_source::{Extent, Source, SourceFault};
 use mdmp_test_support::{MEMORY64, SYSTEM};
-
-/// The fault of a record that the store does not give.
-const NOT_GIVEN: ListFault = fault!(
-    0,
-    None,
-    FaultKind::Source(SourceFault::ShortRead { at: 44 }),
-    44,
-    0
-);
-
-/// One byte a call, but the 45th none.
-const NOTHING_AT_44: [usize; 45] = [
-    1, 1, 1, 1, 1, 1, 1, 1, 1, 1, 1, 1, 1, 1, 1, 1, 1, 1, 1, 1, 1, 1, 1, 1, 1, 1, 1, 1, 1, 1, 1, 1,
-    1, 1, 1, 1, 1, 1, 1, 1, 1, 1, 1, 1, 0,
-];
-
-const FEW: [Play; 3] = [
-    play!(
-        "a system, by one byte a call",
-        ListedFile::Bytes(&SYSTEM, 136),
-        NAMED,
-        caps & [1],
-        [
-            gives(stream(0, 7, 56, 44)),
-            gives(system(4, 7601, SERVICE_PACK)),
-            ends(),
-        ]
-    ),
-    play!(
-        "64-bit memory, by one byte and three",
-        ListedFile::Bytes(&MEMORY64, 98),
-        LEAST,
-        caps & [1, 3],
-        [
-            gives(stream(0, 9, 48, 44)),
-            gives(range(0, 0, 0x1000, 4, Inside, 92)),
-            gives(range(0, 1, 0x2000, 4, Outside, 96)),
-            ends(),
-        ]
-    ),
-    play!(
-        "a record that is not given",
-        ListedFile::Bytes(&SYSTEM, 136),
-        STANDARD,
-        caps & NOTHING_AT_44,
-        [
-            gives(stream(0, 7, 56, 44)),
-            fails(NOT_GIVEN),
-            skips(),
-            fails(NOT_GIVEN),
-            runs(0, Some(RunFault::At(NOT_GIVEN)), 0),
-        ]
-    ),
-];
+use std::alloc::Global;
+use std::process::Abort;
 
 #[test]
 fn one_byte_a_call_gives_the_same_items(rt: HostRuntime) {
-    let plays = FEW;
-    assert_plays(&rt, rt.alloc(), &plays);
+    let script = [
+        gives(stream(0, 7, 56, 44)),
+        gives(system(4, 7601, spelled("Service Pack 1"))),
+        ends(),
+    ];
+    assert_plays_patchy(&rt, rt.alloc(), NAMED, &SYSTEM, &[1], None, &script);
+
+    let script = [
+        gives(stream(0, 9, 48, 44)),
+        gives(range(0, 0x1000, 4, Extent::Inside, 92)),
+        gives(range(1, 0x2000, 4, Extent::Outside, 96)),
+        ends(),
+    ];
+    assert_plays_patchy(&rt, rt.alloc(), LEAST, &MEMORY64, &[1, 3], None, &script);
 }
 
-/// How many bytes each call of a store gives, which of them fails, and why a file of one system is not opened.
-const REFUSED: [(&[usize], Option<u64>, SourceFault); 3] = [
-    (&[1], Some(0), SourceFault::Failed { at: 0 }),
-    (&[1], Some(43), SourceFault::Failed { at: 43 }),
-    (&[0], None, SourceFault::ShortRead { at: 0 }),
-];
+/// Why a store of one system is not opened, and the size of the source that is handed back.
+fn refusal(
+    rt: &impl Abort,
+    alloc: Global,
+    cap: usize,
+    fail_at: Option<u64>,
+) -> (Option<OpenFault>, u64) {
+    let caps = [cap];
+    let source = Source::new(patchy(rt, &SYSTEM, &caps, fail_at));
+    let (fault, source) = open_and_close(alloc, source, STANDARD, Choice::All);
+    (fault, source.size())
+}
 
 #[test]
 fn store_that_fails_at_once_is_handed_back(rt: HostRuntime) {
-    for (caps, fail_at, fault) in &REFUSED {
-        let source = Source::new(patchy(&rt, &SYSTEM, *caps, *fail_at));
-        let (found, source) = open_and_close(rt.alloc(), source, STANDARD, Choice::All);
-        let expected = (Some(OpenFault::Source(*fault)), 136);
-        assert_same_at(&rt, fail_at, (found, source.size()), expected);
+    for (cap, fail_at, fault) in [
+        (1, Some(0), SourceFault::Failed { at: 0 }),
+        (1, Some(43), SourceFault::Failed { at: 43 }),
+        (0, None, SourceFault::ShortRead { at: 0 }),
+    ] {
+        let expected = (Some(OpenFault::Source(fault)), 136);
+        let found = refusal(&rt, rt.alloc(), cap, fail_at);
+        assert_same(&rt, found, expected);
     }
 }
 
-/// One byte a call: call k is of the byte at k. The calls from 44 on are of the record, those from 100 on of its name.
-const FOR_GOOD: [FailingPlay; 1] = [FailingPlay {
-    play: play!(
-        "a fault of the store stands for good",
-        ListedFile::Bytes(&SYSTEM, 136),
-        STANDARD,
-        caps & [1],
-        [
-            gives(stream(0, 7, 56, 44)),
-            fails_here(),
-            skips(),
-            fails_here(),
-            runs_here(0),
-        ]
-    ),
-    first: 44,
-    count: 88,
-    entry: 0,
-    place: 44,
-}];
+/// Asserts that a fault of a store of one system stands for good, whose calls give one byte each, but the 45th
+/// as many as `cap`.
+fn assert_for_good(
+    rt: &impl Abort,
+    alloc: Global,
+    cap: usize,
+    fail_at: Option<u64>,
+    source_fault: SourceFault,
+    offset: u64,
+) {
+    let mut caps = [1; 136];
+    caps[44] = cap;
+    let fault = fault(None, FaultKind::Source(source_fault), offset, 0);
+    let script = [
+        gives(stream(0, 7, 56, 44)),
+        fails(fault),
+        skips(),
+        fails(fault),
+        runs(0, Some(RunFault::At(fault)), 0),
+    ];
+    assert_plays_patchy(rt, alloc, STANDARD, &SYSTEM, &caps, fail_at, &script);
+}
 
 #[test]
 fn store_fault_stands_for_good(rt: HostRuntime) {
-    let plays = FOR_GOOD;
-    assert_fails(&rt, rt.alloc(), &plays);
+    // One byte a call: call k is of the byte at k. The calls from 44 on are of the record, those
+    // from 100 on of its name.
+    for at in [44, 99, 100, 131] {
+        let failed = SourceFault::Failed { at };
+        assert_for_good(&rt, rt.alloc(), 1, Some(at), failed, at);
+    }
+    let short = SourceFault::ShortRead { at: 44 };
+    assert_for_good(&rt, rt.alloc(), 0, None, short, 44);
 }

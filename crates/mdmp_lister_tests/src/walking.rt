@@ -1,6 +1,8 @@
 //! A walker that is opened, and its calls in a row.
+use crate::files::file_of;
+use crate::opening::patchy;
 use crate::same::assert_same_at;
-use crate::script::{Answer, Call, Here, LEAST, Play, ScriptStep, answer_by, counted, expected_at};
+use crate::script::{Answer, Call, LEAST, ScriptStep, answer_by};
 use mdmp_lister::{
     Choice, Counts, Limits, ListFault, OpenFault, OpenRefused, Step as Read, Walker,
 };
@@ -8,6 +10,9 @@ use mdmp_source::{MemoryStore, Source, SourceFault, Store, inside};
 use mdmp_wire::Entry;
 use std::alloc::{Allocator, Global};
 use std::process::Abort;
+
+/// A walker over a file in memory.
+pub type Walking<'a> = Walker<MemoryStore<'a>, Global>;
 
 /// A walker over a store.
 pub fn open_over<S: Store + Drop>(
@@ -24,12 +29,7 @@ pub fn open_over<S: Store + Drop>(
 }
 
 /// A walker over a file in memory, by the least window.
-pub fn open<'a>(
-    rt: &impl Abort,
-    alloc: Global,
-    file: &'a [u8],
-    choice: Choice,
-) -> Walker<MemoryStore<'a>, Global> {
+pub fn open<'a>(rt: &impl Abort, alloc: Global, file: &'a [u8], choice: Choice) -> Walking<'a> {
     open_over(rt, alloc, MemoryStore::new(file), LEAST, choice)
 }
 
@@ -45,9 +45,13 @@ pub fn counts_of<S: Store + Drop, A: Allocator + Copy>(walker: &Walker<S, A>) ->
     walker.counts()
 }
 
-/// Closes a walker, which is short for the prover here, and long at the end of a function that does more: what its source
-/// has fetched.
-pub fn close<S: Store + Drop, A: Allocator + Copy>(walker: Walker<S, A>) -> u128 {
+/// Closes a walker, which is short for the prover here, and long at the end of a function that does more.
+pub fn close<S: Store + Drop, A: Allocator + Copy>(walker: Walker<S, A>) {
+    let _ = walker.into_source();
+}
+
+/// What its source has fetched, once it is closed.
+pub fn fetched_of<S: Store + Drop, A: Allocator + Copy>(walker: Walker<S, A>) -> u128 {
     walker.into_source().fetched()
 }
 
@@ -66,13 +70,25 @@ pub fn open_and_close<S: Store + Drop, A: Allocator + Copy>(
     }
 }
 
-/// An entry of the directory, and whether it is chosen, if there is one.
+/// An entry of the directory, if there is one.
 pub fn entry_of<S: Store + Drop, A: Allocator + Copy>(
     walker: &Walker<S, A>,
     number: usize,
-) -> Option<(Entry, bool)> {
+) -> Option<Entry> {
     if number < walker.header().number_of_streams as usize {
-        Some((walker.entry(number), walker.is_chosen(number)))
+        Some(walker.entry(number))
+    } else {
+        None
+    }
+}
+
+/// Whether an entry is chosen, if there is one.
+pub fn is_chosen<S: Store + Drop, A: Allocator + Copy>(
+    walker: &Walker<S, A>,
+    number: usize,
+) -> Option<bool> {
+    if number < walker.header().number_of_streams as usize {
+        Some(walker.is_chosen(number))
     } else {
         None
     }
@@ -97,13 +113,13 @@ pub fn part_of<S: Store + Drop, A: Allocator + Copy>(
 }
 
 /// How many records a stream has whose Stream item was given last, or the fault in their place.
-pub fn records_of<S: Store + Drop, A: Allocator + Copy>(walker: &mut Walker<S, A>) -> Answer {
-    if !walker.is_begun() {
-        return Answer::NoCall;
-    }
-    match walker.records() {
-        Ok(count) => counted(count, 0),
-        Err(fault) => Answer::Fault(fault),
+pub fn records_of<S: Store + Drop, A: Allocator + Copy>(
+    walker: &mut Walker<S, A>,
+) -> Option<Result<u64, ListFault>> {
+    if walker.is_begun() {
+        Some(walker.records())
+    } else {
+        None
     }
 }
 
@@ -115,6 +131,14 @@ fn seek<S: Store + Drop, A: Allocator + Copy>(walker: &mut Walker<S, A>, number:
     Answer::Done
 }
 
+fn count<S: Store + Drop, A: Allocator + Copy>(walker: &mut Walker<S, A>) -> Answer {
+    match records_of(walker) {
+        Some(Ok(count)) => Answer::Counted(count),
+        Some(Err(fault)) => Answer::Fault(fault),
+        None => Answer::NoCall,
+    }
+}
+
 /// What a walker answers to a call.
 pub fn answer_of<S: Store + Drop, A: Allocator + Copy>(
     rt: &impl Abort,
@@ -123,20 +147,14 @@ pub fn answer_of<S: Store + Drop, A: Allocator + Copy>(
     step: ScriptStep,
 ) -> Answer {
     match step {
-        ScriptStep::Entries => counted(u64::from(walker.header().number_of_streams), 0),
+        ScriptStep::Entries => Answer::Entries(walker.header().number_of_streams),
         ScriptStep::Next => answer_by(rt, alloc, walker.next()),
         ScriptStep::Skip => {
             walker.skip_entry();
             Answer::Done
         }
         ScriptStep::Seek(number) => seek(walker, number),
-        ScriptStep::Records => records_of(walker),
-        ScriptStep::Part(at, bytes) => match part_of(walker, at) {
-            None => Answer::Outside,
-            Some(Ok(found)) if found.as_slice() == bytes => Answer::Done,
-            Some(Ok(_)) => Answer::NoCall,
-            Some(Err(fault)) => Answer::Failed(fault),
-        },
+        ScriptStep::Records => count(walker),
         _ => Answer::NoCall,
     }
 }
@@ -145,29 +163,51 @@ pub fn answer_of<S: Store + Drop, A: Allocator + Copy>(
 pub fn assert_walk<S: Store + Drop, A: Allocator + Copy>(
     rt: &impl Abort,
     alloc: Global,
-    name: &str,
     walker: &mut Walker<S, A>,
     script: &[Call],
-    here: Here,
 ) {
     for i in 0..script.len() {
         let call = script[i];
         let answer = answer_of(rt, alloc, walker, call.step);
-        let expected = expected_at(call.answer, here);
-        assert_same_at(rt, &(name, here.at, i), answer, expected);
+        assert_same_at(rt, &i, answer, call.answer);
     }
 }
 
-/// Asserts that a walker over a store gives the answers of a script.
-pub fn play_walker<S: Store + Drop>(
+/// Asserts that a walker over each entry of a store gives the answers of a script.
+pub fn assert_walks<S: Store + Drop>(
     rt: &impl Abort,
     alloc: Global,
+    limits: Limits,
     store: S,
-    choice: Choice,
-    play: &Play,
-    here: Here,
+    script: &[Call],
 ) {
-    let mut walker = open_over(rt, alloc, store, play.limits, choice);
-    assert_walk(rt, alloc, play.name, &mut walker, play.script, here);
-    let _ = close(walker);
+    let mut walker = open_over(rt, alloc, store, limits, Choice::All);
+    assert_walk(rt, alloc, &mut walker, script);
+    close(walker);
+}
+
+/// The same of a file in a store that gives as many bytes a call as the caps say, in turn, and fails at
+/// this call, if at one.
+pub fn assert_walks_patchy(
+    rt: &impl Abort,
+    alloc: Global,
+    limits: Limits,
+    file: &[u8],
+    caps: &[usize],
+    fail_at: Option<u64>,
+    script: &[Call],
+) {
+    assert_walks(rt, alloc, limits, patchy(rt, file, caps, fail_at), script);
+}
+
+/// The same of a file in memory with so many entries and these numbers, by the least window.
+pub fn assert_walks_numbers(
+    rt: &impl Abort,
+    alloc: Global,
+    entries: u32,
+    numbers: &[u32],
+    script: &[Call],
+) {
+    let file = file_of(rt, alloc, entries, numbers);
+    assert_walks(rt, alloc, LEAST, MemoryStore::new(&file), script);
 }
