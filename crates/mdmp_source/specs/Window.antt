@@ -7,7 +7,7 @@ pub record WindowState : Type 0 where
   pub place : ℕ
   pub end : ℕ
   pub room : ℕ
-  -- so many bytes of its memory were ever written to
+  -- how many bytes its buffer has, of which `held` is a part
   pub touched : ℕ
   pub held : List ℕ
 
@@ -19,11 +19,11 @@ behind_of w = w.place + length w.held
 abbrev pub next_len_of : WindowState → ℕ
 next_len_of w = min (w.room - length w.held) (w.end - behind_of w)
 
--- a window after so many bytes of its memory were written to
+-- a window whose buffer has at least so many bytes
 abbrev pub touched_by : ℕ → WindowState → WindowState
 touched_by n w = record w { touched = max w.touched n }
 
--- a fill writes no further than to the end of what it holds then
+-- a fill lengthens the buffer to what it holds then, and no further
 abbrev pub touched_after : WindowState → WindowState
 touched_after w = touched_by (length w.held + next_len_of w) w
 
