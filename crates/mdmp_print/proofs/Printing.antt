@@ -1,8 +1,8 @@
 -- Texts that go to an output of lines.
 use Rattle.std.proofs.Common.{◌≡◌, ℕ, List, [], Result, Ok, Err, subst, sym}
 use Rattle.std.specs.Prelude.{is_err}
-use Rattle.mdmp_source.specs.Blocks.{BlockState, MovesFront, output_state}
-use Rattle.mdmp_source.specs.BlockLaws.{PutsAll-moved, PutsPrefix-moved}
+use Rattle.mdmp_print.specs.Blocks.{BlockState, MovesFront, output_state}
+use Rattle.mdmp_print.specs.BlockLaws.{PutsAll-moved, PutsPrefix-moved}
 use Rattle.mdmp_source.specs.Output.{OutState, Puts, refused_if}
 
 -- a flush puts no text of its own

@@ -1,3 +1,5 @@
+pub mod BlockLaws
+pub mod Blocks
 pub mod Buffer
 pub mod Digits
 pub mod Escapes

@@ -1,7 +1,7 @@
 -- A text that is put into a buffer part by part.
 use Rattle.std.specs.Prelude.{◌≡◌, ℕ, List, ◌++◌}
 use Rattle.mdmp_source.specs.Output.{OutState, PutsAll}
-use Rattle.mdmp_source.specs.Blocks.{BlockState}
+use Rattle.mdmp_print.specs.Blocks.{BlockState}
 use Rattle.mdmp_print.specs.Buffer.{IsPutBehind}
 
 -- of a text a first part, of at most `most` bytes, stands behind the first `len` bytes of a buffer, and the rest is left

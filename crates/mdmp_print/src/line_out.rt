@@ -1,6 +1,6 @@
 //! An output of lines.
 ghost use Rattle.std.specs.Prelude.{◌≡◌, ◌≤◌, ◌<◌, ◌+◌, ◌-◌, ◌++◌, [], ◌↔◌, length, take, drop, nat_lt, IsOk, IfOk, MatchResult, is_err};
-ghost use Rattle.mdmp_source.specs.Blocks.{BlockState, output_state, MovesFront};
+ghost use Rattle.mdmp_print.specs.Blocks.{BlockState, FillsBlock, MovesFront, output_state};
 ghost use Rattle.mdmp_source.specs.Output.{Puts, PutsPrefix, refused_if};
 ghost use Rattle.mdmp_print.specs.Parts.{IsUnprinted, IsPartAppended};
 
@@ -82,6 +82,7 @@ impl<'b, O: Out> LineOut<'b, O> {
     fn reserve(&mut self) -> Result<(), OutFailed>
         ensures nothing { Puts result (output_state self.old) [] (output_state self.new) }
         ensures room { IsOk result → length self.new.pending + LINE_ROOM ≤ self.new.room }
+        ensures fills { FillsBlock self.old [] result self.new }
     {
         if self.buffer.len() - self.len < LINE_ROOM {
             return self.flush();
@@ -113,10 +114,17 @@ impl<'b, O: Out> LineOut<'b, O> {
 }
 
 impl<'b, O: Out> Printer for LineOut<'b, O> {
+    ghost use Rattle.mdmp_print.specs.Blocks.{FillsBlock, output_state};
+    ghost use Rattle.mdmp_source.specs.Output.{Puts};
+
     ghost state = { output_state };
 
     #[inline(always)]
-    fn print<P: Piece>(&mut self, piece: &P) -> Result<(), OutFailed> {
+    fn print<P: Piece>(&mut self, piece: &P) -> Result<(), OutFailed>
+        ensures puts { Puts result (output_state self.old) (P.text piece.now) (output_state self.new) }
+        // What this output says beside any other.
+        ensures fills { FillsBlock self.old (P.text piece.now) result self.new }
+    {
         self.reserve()?;
         self.append(piece);
         Ok(())

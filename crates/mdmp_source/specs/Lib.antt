@@ -1,6 +1,4 @@
-pub mod BlockLaws
 pub mod BlockedFile
-pub mod Blocks
 pub mod Count
 pub mod Extent
 pub mod Fault

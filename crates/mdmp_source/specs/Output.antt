@@ -65,8 +65,3 @@ pub record PutsPrefix (before : OutState) (text : List ℕ) (after : OutState) :
 -- a call that writes a text: all of it, or an error because the output refused once
 abbrev pub Puts : {T E : Type 0} → Result T E → OutState → List ℕ → OutState → Type 0
 Puts result before text after = MatchResult result (λ _. PutsAll before text after) (λ _. PutsPrefix before text after)
-
--- the text of a call that takes all of it or none, as its answer says
-abbrev pub text_if_taken : {E : Type 0} → Result Bool E → List ℕ → List ℕ
-text_if_taken (Ok is_taken) text = if is_taken then text else []
-text_if_taken (Err e) text = []

@@ -2,14 +2,14 @@
 use Rattle.std.specs.Prelude.{◌-◌, ◌%◌, ◌==◌, ◌&&◌, ℕ, Bool, false, List, Option, Some, None, length, min, is_none, nat_lt, slice_index}
 use Rattle.std.specs.List.{list_all}
 use Rattle.mdmp_source.specs.Store.{StoreState}
-use Rattle.mdmp_source.specs.declared.store.Tally.{Tally}
+use Rattle.mdmp_source.specs.declared.store.StoreCounts.{StoreCounts}
 
 -- such a store as its callers see it: its file, how much a call reads, which call fails, and its calls so far
 pub record PatchyStoreState : Type 0 where
   pub bytes : List ℕ
   pub caps : List ℕ
   pub fail_at : Option ℕ
-  pub counts : Tally
+  pub counts : StoreCounts
 
 -- the same as any store: it is reliable where no cap is 0 and no call fails
 abbrev pub patchy_state : PatchyStoreState → StoreState

@@ -5,7 +5,7 @@ use Rattle.mdmp_source.specs.Store.{StoreState}
 use Rattle.mdmp_source.specs.Fault.{HasFetchCause, fault_at}
 use Rattle.mdmp_source.specs.declared.fault.SourceFault.{SourceFault}
 use Rattle.mdmp_source.specs.declared.fault.SourceFault.TheVariants.{Failed, ShortRead, Changed}
-use Rattle.mdmp_source.specs.declared.store.Tally.{Tally}
+use Rattle.mdmp_source.specs.declared.store.StoreCounts.{StoreCounts}
 
 -- a source as its callers see it
 pub record SourceState : Type 0 where
@@ -38,7 +38,7 @@ fault_of (Err fault) = Some fault
 
 -- one call of the store failed in a fetch that answers `Failed`, one gave no bytes in one that answers `ShortRead`, and no
 -- other
-abbrev pub FailsOnce : {T : Type 0} → Result T SourceFault → Tally → Tally → Type 0
+abbrev pub FailsOnce : {T : Type 0} → Result T SourceFault → StoreCounts → StoreCounts → Type 0
 FailsOnce (Ok x) old new = (new.failures ≡ old.failures) × (new.empties ≡ old.empties)
 FailsOnce (Err (Failed at)) old new = (new.failures ≡ raised old.failures 1) × (new.empties ≡ old.empties)
 FailsOnce (Err (ShortRead at)) old new = (new.failures ≡ old.failures) × (new.empties ≡ raised old.empties 1)

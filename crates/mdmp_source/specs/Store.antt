@@ -2,7 +2,7 @@
 use Rattle.std.specs.Prelude.{◌≡◌, ◌≢◌, ◌≤◌, ◌<◌, ◌-◌, ◌^◌, ◌&&◌, ◌==◌, ℕ, Bool, false, List, Option, Result, Some, Ok, Err, IsTrue, length, min, take, IfOk, IfSome, is_err, nat_lt, if◌then◌else◌, slice_index}
 use Rattle.mdmp_source.specs.Count.{raised, raised_if}
 use Rattle.mdmp_source.specs.Range.{bytes_at}
-use Rattle.mdmp_source.specs.declared.store.Tally.{Tally}
+use Rattle.mdmp_source.specs.declared.store.StoreCounts.{StoreCounts}
 
 -- a store as its callers see it
 pub record StoreState : Type 0 where
@@ -15,7 +15,7 @@ pub record StoreState : Type 0 where
   -- a call that does not fail gives at least so many bytes, if as many are asked for and there; 0 where that is not known
   pub least : ℕ
   -- its calls so far
-  pub counts : Tally
+  pub counts : StoreCounts
 
 -- the content is known to be this file, and each byte of it is given
 pub record IsGood (store : StoreState) (file : List ℕ) : Type 0 where
@@ -63,8 +63,8 @@ place_after (Ok k) at asked before = if (k == 0) && nat_lt 0 asked then at else 
 place_after (Err e) at asked before = at
 
 -- the counts after a call at this place with this answer
-abbrev pub tally_after : {E : Type 0} → Tally → Result ℕ E → ℕ → ℕ → Tally
-tally_after before result at asked = record {
+abbrev pub counts_after : {E : Type 0} → StoreCounts → Result ℕ E → ℕ → ℕ → StoreCounts
+counts_after before result at asked = record {
   calls = raised before.calls 1;
   failures = raised_if (is_err result) before.failures;
   empties = raised_if (is_empty_answer result asked) before.empties;
@@ -73,4 +73,4 @@ tally_after before result at asked = record {
 
 -- the store after a call at this place with this answer: its content stays
 abbrev pub after_call : {E : Type 0} → StoreState → Result ℕ E → ℕ → ℕ → StoreState
-after_call before result at asked = record before { counts = tally_after before.counts result at asked }
+after_call before result at asked = record before { counts = counts_after before.counts result at asked }

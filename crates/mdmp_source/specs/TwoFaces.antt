@@ -1,14 +1,14 @@
 -- The store that changes, which tests use.
 use Rattle.std.specs.Prelude.{ℕ, List, None, true, length, nat_lt, if◌then◌else◌}
 use Rattle.mdmp_source.specs.Store.{StoreState}
-use Rattle.mdmp_source.specs.declared.store.Tally.{Tally}
+use Rattle.mdmp_source.specs.declared.store.StoreCounts.{StoreCounts}
 
 -- such a store as its callers see it: its two contents, the call from which on it gives the second, and its calls so far
 pub record TwoFacesState : Type 0 where
   pub first : List ℕ
   pub second : List ℕ
   pub turn : ℕ
-  pub counts : Tally
+  pub counts : StoreCounts
 
 -- the same as any store: it never fails, gives all that it is asked for, and no content is known
 abbrev pub two_faces_state : TwoFacesState → StoreState

@@ -2,7 +2,7 @@
 ghost use Rattle.std.specs.Prelude.{◌≡◌, ◌≤◌, length, IfOk};
 
 use crate::blocked_file::{BLOCK, BlockedFile};
-use crate::store::{Store, StoreFailed, Tally};
+use crate::store::{Store, StoreFailed, StoreCounts};
 use std::alloc::{Alloc, Allocator, Global};
 use std::fs::{Metadata, OpenFile};
 use std::io::{Read, Seek};
@@ -54,7 +54,7 @@ impl<F: OpenFile> Described for F {
 pub struct FileStore<F, A: Allocator = Global> {
     file: BlockedFile<F, A>,
     size: u64,
-    tally: Tally,
+    counts: StoreCounts,
 }
 
 impl<F: Read + Seek + Described + Drop, A: Allocator> FileStore<F, A> {
@@ -86,7 +86,7 @@ impl<F: Read + Seek + Described + Drop, A: Allocator> FileStore<F, A> {
         FileStore {
             file,
             size: metadata.len(),
-            tally: Tally::new(),
+            counts: StoreCounts::new(),
         }
     }
 }
@@ -94,14 +94,14 @@ impl<F: Read + Seek + Described + Drop, A: Allocator> FileStore<F, A> {
 impl<F: Read + Seek, A: Allocator> Store for FileStore<F, A> {
     ghost use Rattle.std.specs.Prelude.{◌≡◌, ◌≤◌, IfOk, None, false, length};
     ghost use Rattle.mdmp_source.specs.BlockedFile.{IsBlockedRead};
-    ghost use Rattle.mdmp_source.specs.Store.{StoreState, tally_after};
+    ghost use Rattle.mdmp_source.specs.Store.{StoreState, counts_after};
 
     ghost state = { λ s. record {
       content = None;
       size = s.size;
       is_reliable = false;
       least = 0;
-      counts = s.tally;
+      counts = s.counts;
     } };
 
     fn size(&self) -> u64 {
@@ -112,12 +112,12 @@ impl<F: Read + Seek, A: Allocator> Store for FileStore<F, A> {
         ensures bound { IfOk result (λ k. k ≤ length out.new) }
         ensures state { self.new ≡ record self.old {
           file = self.new.file;
-          tally = tally_after self.old.tally result at (length out.new);
+          counts = counts_after self.old.counts result at (length out.new);
         } }
         ensures read { IsBlockedRead F.stream_position F.remaining self.old.file at result out.new self.new.file }
     {
         let answer = self.file.read_at(at, out);
-        self.tally.count(&answer, at, out.len());
+        self.counts.count(&answer, at, out.len());
         answer
     }
 }

@@ -4,9 +4,7 @@
 //! it and counts them. A [`Window`] slides over a stretch of a file, so that many small pieces that
 //! stand one behind the other take few fetches. An [`Out`] takes the bytes of a text or a dump. The
 //! stores are [`MemoryStore`], [`FileStore`] and, for tests, [`PatchyStore`] and [`TwoFaces`]; the
-//! outputs are [`WriteOut`] over any writer of std, [`BlockOut`], which gathers many small writes
-//! into blocks, and, for tests, [`PatchyOut`]. A [`Line`] of text is put straight into such a block
-//! ([`put_line`]).
+//! outputs are [`WriteOut`] over any writer of std and, for tests, [`PatchyOut`].
 //!
 //! Beside them stand the tests of place that every layer above makes: [`inside`], and the class of
 //! a [`Location`].
@@ -20,12 +18,10 @@
 //! `crates/mdmp_base_tests` fetches so, and `crates/mdmp_example_modules` opens a file of the system.
 #![tactic(auto)]
 
-mod block_out;
 mod blocked_file;
 mod fault;
 mod file_block;
 mod file_store;
-mod line;
 mod location;
 mod memory_store;
 mod output;
@@ -39,18 +35,16 @@ mod two_faces;
 mod window;
 mod write_out;
 
-pub use crate::block_out::BlockOut;
 pub use crate::fault::SourceFault;
 pub use crate::file_store::FileStore;
-pub use crate::line::{LINE_ROOM, Line};
 pub use crate::location::{Extent, Location};
 pub use crate::memory_store::MemoryStore;
-pub use crate::output::{Out, OutFailed, put_line, send, write_all};
+pub use crate::output::{Out, OutFailed, send, write_all};
 pub use crate::patchy_out::PatchyOut;
 pub use crate::patchy_store::PatchyStore;
 pub use crate::range::inside;
 pub use crate::source::Source;
-pub use crate::store::{Store, StoreFailed, Tally};
+pub use crate::store::{Store, StoreFailed, StoreCounts};
 pub use crate::two_faces::TwoFaces;
 pub use crate::window::Window;
 pub use crate::write_out::WriteOut;

@@ -3,14 +3,14 @@ ghost use Rattle.std.specs.Prelude.{◌≡◌, ◌-◌, length, take, min};
 ghost use Rattle.mdmp_source.specs.Range.{bytes_at};
 ghost use Rattle.mdmp_source.specs.Store.{AreBytes};
 
-use crate::store::{Store, StoreFailed, Tally};
+use crate::store::{Store, StoreFailed, StoreCounts};
 
 /// A file in memory, which the store borrows. It never fails, and a call gives all bytes that it is asked for
 /// and that are there.
 #[derive(Drop)]
 pub struct MemoryStore<'a> {
     bytes: &'a [u8],
-    tally: Tally,
+    counts: StoreCounts,
     ghost are_bytes: { AreBytes bytes.now },
 }
 
@@ -25,7 +25,7 @@ impl<'a> MemoryStore<'a> {
         know_bytes(bytes);
         MemoryStore {
             bytes,
-            tally: Tally::new(),
+            counts: StoreCounts::new(),
         }
     }
 }
@@ -38,7 +38,7 @@ impl Store for MemoryStore<'_> {
       size = length s.bytes.now;
       is_reliable = true;
       least = length s.bytes.now;
-      counts = s.tally;
+      counts = s.counts;
     } };
 
     fn size(&self) -> u64 {
@@ -47,7 +47,7 @@ impl Store for MemoryStore<'_> {
 
     fn read_at(&mut self, at: u64, out: &mut [u8]) -> Result<usize, StoreFailed> {
         let answer = Ok(copy_at(self.bytes, at, out));
-        self.tally.count(&answer, at, out.len());
+        self.counts.count(&answer, at, out.len());
         answer
     }
 }

@@ -4,8 +4,6 @@ ghost use Rattle.mdmp_source.specs.Count.{raised_if};
 ghost use Rattle.mdmp_source.specs.Store.{is_empty_answer};
 ghost use Rattle.mdmp_source.specs.Output.{OutState, Keeps, Takes, Puts, refused_if};
 
-use crate::line::{LINE_ROOM, Line};
-
 /// An output refused a call.
 #[derive(Clone, Copy, Debug, PartialEq, Eq)]
 pub struct OutFailed;
@@ -16,7 +14,7 @@ pub struct OutFailed;
 /// those that went to a terminal are not.
 // std's `Write` has no count of its failures, so no clause over it could say why a text was cut.
 pub trait Out {
-    ghost use Rattle.mdmp_source.specs.Output.{OutState, Keeps, Takes, Puts, refused_if, text_if_taken};
+    ghost use Rattle.mdmp_source.specs.Output.{OutState, Keeps, Takes, Puts, refused_if};
 
     /// The bytes that it took so far, where they are known; how often it refused: answered an error, or
     /// took none of some bytes; and the loans by which it is reached.
@@ -29,16 +27,6 @@ pub trait Out {
         ensures none { OnErr result (Keeps (state self.old).taken (state self.new).taken) }
         ensures failures { (state self.new).failures
             ≡ refused_if (is_err result || is_empty_answer result (length bytes.now)) (state self.old).failures };
-
-    /// Takes all of a line straight into a buffer of its own, or nothing of it, and answers whether
-    /// it did. An output without a buffer never does; [`put_line`] puts a line into any.
-    // A method that puts the line in any case was turned down: its body here would call `write_all`,
-    // of whatever implements this trait, and no proof is made of that.
-    fn take_line<L: Line>(&mut self, line: &L) -> Result<bool, OutFailed>
-        ensures { Puts result (state self.old) (text_if_taken result (L.text line.now)) (state self.new) }
-    {
-        Ok(false)
-    }
 }
 
 /// An output that is lent is one too, and tells its loan.
@@ -49,10 +37,6 @@ impl<O: Out> Out for &mut O {
 
     fn write(&mut self, bytes: &[u8]) -> Result<usize, OutFailed> {
         O::write(*self, bytes)
-    }
-
-    fn take_line<L: Line>(&mut self, line: &L) -> Result<bool, OutFailed> {
-        O::take_line(*self, line)
     }
 }
 
@@ -99,27 +83,4 @@ pub fn write_all<O: Out>(out: &mut O, bytes: &[u8]) -> Result<(), OutFailed>
     } else {
         Err(OutFailed)
     }
-}
-
-/// Writes a line: straight into the output's own buffer, where it has one with room for a line, else
-/// by [`write_all`]. Where the output refuses, the first bytes of it went out.
-#[inline(always)]
-pub fn put_line<O: Out, L: Line>(out: &mut O, line: &L) -> Result<(), OutFailed>
-    ensures { Puts result (O.state out.old) (L.text line.now) (O.state out.new) }
-{
-    match out.take_line(line) {
-        Ok(true) => Ok(()),
-        Ok(false) => write_line(out, line),
-        Err(failed) => Err(failed),
-    }
-}
-
-/// Writes a line by way of a buffer on the stack.
-#[inline(never)]
-fn write_line<O: Out, L: Line>(out: &mut O, line: &L) -> Result<(), OutFailed>
-    ensures { Puts result (O.state out.old) (L.text line.now) (O.state out.new) }
-{
-    let mut buffer = [0; LINE_ROOM];
-    let end = line.put(&mut buffer, 0);
-    write_all(out, &buffer[..end])
 }

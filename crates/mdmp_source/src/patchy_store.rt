@@ -4,7 +4,7 @@ ghost use Rattle.mdmp_source.specs.Patchy.{PatchyStoreState};
 ghost use Rattle.mdmp_source.specs.Store.{AreBytes};
 
 use crate::memory_store::{copy_at, know_bytes};
-use crate::store::{Store, StoreFailed, Tally};
+use crate::store::{Store, StoreFailed, StoreCounts};
 use std::marker::Model;
 
 /// A file in memory whose call k, counted from 0, reads at most `caps[k % caps.len()]` bytes, and
@@ -14,7 +14,7 @@ pub struct PatchyStore<'a> {
     bytes: &'a [u8],
     caps: &'a [usize],
     fail_at: Option<u64>,
-    tally: Tally,
+    counts: StoreCounts,
 }
 
 impl<'a> Model for PatchyStore<'a> {
@@ -24,7 +24,7 @@ impl<'a> Model for PatchyStore<'a> {
       bytes = s.bytes.now;
       caps = s.caps.now;
       fail_at = s.fail_at;
-      counts = s.tally;
+      counts = s.counts;
     } };
 
     ghost invariant = { λ s. (0 < length s.caps.now) × AreBytes s.bytes.now };
@@ -48,14 +48,14 @@ impl<'a> PatchyStore<'a> {
             bytes,
             caps,
             fail_at,
-            tally: Tally::new(),
+            counts: StoreCounts::new(),
         }
     }
 }
 
 impl Store for PatchyStore<'_> {
     ghost use Rattle.std.specs.Prelude.{◌≡◌, ◌≤◌, ◌<◌, Some, IfOk, IsOk, IsTrue, is_err, length};
-    ghost use Rattle.mdmp_source.specs.Store.{GivesContent, GivesLeast, GivesSome, tally_after};
+    ghost use Rattle.mdmp_source.specs.Store.{GivesContent, GivesLeast, GivesSome, counts_after};
     ghost use Rattle.mdmp_source.specs.Patchy.{patchy_state, is_failing_call, given_count};
 
     ghost state = { patchy_state };
@@ -67,7 +67,7 @@ impl Store for PatchyStore<'_> {
     fn read_at(&mut self, at: u64, out: &mut [u8]) -> Result<usize, StoreFailed>
         ensures bound { IfOk result (λ k. k ≤ length out.new) }
         ensures bytes { GivesContent (Some self.old.bytes) at result out.new }
-        ensures state { self.new ≡ record self.old { counts = tally_after self.old.counts result at (length out.new) } }
+        ensures state { self.new ≡ record self.old { counts = counts_after self.old.counts result at (length out.new) } }
         ensures never_fails { IsTrue (patchy_state self.old).is_reliable → IsOk result }
         ensures gives { IsTrue (patchy_state self.old).is_reliable → 0 < length out.new → GivesSome (Some self.old.bytes) at result }
         ensures least { GivesLeast (patchy_state self.old) at (length out.new) result }
@@ -75,7 +75,7 @@ impl Store for PatchyStore<'_> {
         ensures fails { is_err result ≡ is_failing_call self.old.fail_at self.old.counts.calls }
         ensures count { IfOk result (λ k. k ≡ given_count self.old at (length out.new)) }
     {
-        let call = self.tally.calls;
+        let call = self.counts.calls;
         let answer = if self
             .fail_at
             .is_some_and(|fail_at| call == u128::from(fail_at))
@@ -86,7 +86,7 @@ impl Store for PatchyStore<'_> {
             let room = out.len().min(cap);
             Ok(copy_at(self.bytes, at, &mut out[..room]))
         };
-        self.tally.count(&answer, at, out.len());
+        self.counts.count(&answer, at, out.len());
         answer
     }
 }

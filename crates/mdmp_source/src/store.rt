@@ -8,7 +8,7 @@ pub struct StoreFailed;
 /// How often a store was called, and with what answers. A count that has reached its greatest value
 /// stays there.
 #[derive(Clone, Copy, Debug, PartialEq, Eq)]
-pub struct Tally {
+pub struct StoreCounts {
     /// Calls of `read_at`.
     pub calls: u128,
     /// Calls that answered an error.
@@ -19,15 +19,15 @@ pub struct Tally {
     pub place: u64,
 }
 
-impl Tally {
+impl StoreCounts {
     ghost use Rattle.std.specs.Prelude.{◌≡◌};
-    ghost use Rattle.mdmp_source.specs.Store.{tally_after};
+    ghost use Rattle.mdmp_source.specs.Store.{counts_after};
 
     /// No calls yet.
     pub fn new() -> Self
         ensures { result ≡ record { calls = 0; failures = 0; empties = 0; place = 0 } }
     {
-        Tally {
+        StoreCounts {
             calls: 0,
             failures: 0,
             empties: 0,
@@ -37,7 +37,7 @@ impl Tally {
 
     /// Counts a call that was asked for `asked` bytes at the offset `at` and gave this answer.
     pub fn count(&mut self, answer: &Result<usize, StoreFailed>, at: u64, asked: usize)
-        ensures { self.new ≡ tally_after self.old answer.now at asked }
+        ensures { self.new ≡ counts_after self.old answer.now at asked }
     {
         self.calls = self.calls.saturating_add(1);
         match answer {

@@ -3,7 +3,7 @@ ghost use Rattle.std.specs.Prelude.{◌≡◌, length};
 ghost use Rattle.mdmp_source.specs.TwoFaces.{TwoFacesState};
 
 use crate::memory_store::copy_at;
-use crate::store::{Store, StoreFailed, Tally};
+use crate::store::{Store, StoreFailed, StoreCounts};
 use std::marker::Model;
 
 /// A file in memory that changes while it is read: its calls of `read_at`, counted from 0, read
@@ -16,7 +16,7 @@ pub struct TwoFaces<'a> {
     first: &'a [u8],
     second: &'a [u8],
     turn: u64,
-    tally: Tally,
+    counts: StoreCounts,
 }
 
 impl<'a> Model for TwoFaces<'a> {
@@ -26,7 +26,7 @@ impl<'a> Model for TwoFaces<'a> {
       first = s.first.now;
       second = s.second.now;
       turn = s.turn;
-      counts = s.tally;
+      counts = s.counts;
     } };
 
     ghost invariant = { λ s. length s.second.now ≡ length s.first.now };
@@ -46,7 +46,7 @@ impl<'a> TwoFaces<'a> {
             first,
             second,
             turn,
-            tally: Tally::new(),
+            counts: StoreCounts::new(),
         }
     }
 
@@ -54,14 +54,14 @@ impl<'a> TwoFaces<'a> {
     pub fn reads(&self) -> u64
         ensures { result ≡ min self.now.counts.calls (2 ^ 64 - 1) }
     {
-        u64::try_from(self.tally.calls).unwrap_or(u64::MAX)
+        u64::try_from(self.counts.calls).unwrap_or(u64::MAX)
     }
 }
 
 impl Store for TwoFaces<'_> {
     ghost use Rattle.std.specs.Prelude.{◌≡◌, ◌≤◌, ◌-◌, IfOk, IsOk, length, min, take};
     ghost use Rattle.mdmp_source.specs.Range.{bytes_at};
-    ghost use Rattle.mdmp_source.specs.Store.{GivesContent, GivesLeast, tally_after};
+    ghost use Rattle.mdmp_source.specs.Store.{GivesContent, GivesLeast, counts_after};
     ghost use Rattle.mdmp_source.specs.TwoFaces.{two_faces_state, face_of};
 
     ghost state = { two_faces_state };
@@ -73,20 +73,20 @@ impl Store for TwoFaces<'_> {
     fn read_at(&mut self, at: u64, out: &mut [u8]) -> Result<usize, StoreFailed>
         ensures bound { IfOk result (λ k. k ≤ length out.new) }
         ensures bytes { GivesContent (two_faces_state self.old).content at result out.new }
-        ensures state { self.new ≡ record self.old { counts = tally_after self.old.counts result at (length out.new) } }
+        ensures state { self.new ≡ record self.old { counts = counts_after self.old.counts result at (length out.new) } }
         ensures never_fails { IsOk result }
         ensures least { GivesLeast (two_faces_state self.old) at (length out.new) result }
         // What this store says beside any other.
         ensures count { IfOk result (λ k. k ≡ min (length out.new) (length self.old.first - at)) }
         ensures face { IfOk result (λ k. take k out.new ≡ bytes_at (face_of self.old) at k) }
     {
-        let face = if self.tally.calls < u128::from(self.turn) {
+        let face = if self.counts.calls < u128::from(self.turn) {
             self.first
         } else {
             self.second
         };
         let answer = Ok(copy_at(face, at, out));
-        self.tally.count(&answer, at, out.len());
+        self.counts.count(&answer, at, out.len());
         answer
     }
 }

@@ -3,8 +3,8 @@ use Rattle.std.proofs.Common.{◌≡◌, ◌≢◌, ◌∙◌, ◌++◌, ℕ, Li
 use Rattle.std.specs.Prelude.{Result, Ok, Err}
 use Rattle.std.specs.Io.KnownBytes.{append_known}
 use Rattle.mdmp_source.specs.Output.{HasRefused, OutState, Refusals, refused_once, Keeps, Takes, TakesPrefix, PutsAll}
-use Rattle.mdmp_source.specs.Blocks.{MovesFront}
-use Rattle.mdmp_source.specs.BlockLaws.{Keeps-moved}
+use Rattle.mdmp_print.specs.Blocks.{MovesFront}
+use Rattle.mdmp_print.specs.BlockLaws.{Keeps-moved}
 use Rattle.mdmp_source.specs.OutputLaws.{HasRefused-once, PutsAll-nothing}
 use Rattle.mdmp_tool.specs.declared.fault.ToolFault.{ToolFault}
 use Rattle.mdmp_tool.specs.declared.fault.ToolFault.TheVariants.{Opening, List as BadList, Source, Budget, Out, Memory, MemoryLimit, AsideLimit}

@@ -1,6 +1,6 @@
 //! What is the same for each command over the listing of a file.
 ghost use Rattle.std.specs.Prelude.{◌≡◌, ◌<◌, ℕ, List, [], Some, Err};
-ghost use Rattle.mdmp_source.specs.Blocks.{MovesFront};
+ghost use Rattle.mdmp_print.specs.Blocks.{MovesFront};
 ghost use Rattle.mdmp_lister.specs.Format.Refusal.{opening_fault};
 ghost use Rattle.mdmp_tool.specs.Causes.{MayReachAside, MayReachBudget, MayReachMemory};
 ghost use Rattle.mdmp_tool.specs.Telling.{opening_beside};

@@ -2,7 +2,7 @@
 use super::{Fetched, file_store, four_at_one, remove};
 use crate::same::{assert_same, assert_same_at};
 use mdmp_source::{
-    FileStore, MemoryStore, PatchyStore, Source, SourceFault, Store, StoreFailed, Tally,
+    FileStore, MemoryStore, PatchyStore, Source, SourceFault, Store, StoreFailed, StoreCounts,
 };
 use std::fs;
 use std::process::Abort;
@@ -61,7 +61,7 @@ fn patchy_store_answers_nothing(rt: HostRuntime) {
     assert_fetches(&rt, &mut source, &SHORT);
 }
 
-/// Answers to calls: where each begins and how much it asks for, and the place that the tally has then. A call
+/// Answers to calls: where each begins and how much it asks for, and the place that the counts have then. A call
 /// that asks for nothing and gets it has no place.
 const COUNTED: [(Result<usize, StoreFailed>, u64, usize, u64); 5] = [
     (Ok(3), 1, 4, 0),
@@ -72,19 +72,19 @@ const COUNTED: [(Result<usize, StoreFailed>, u64, usize, u64); 5] = [
 ];
 
 #[test]
-fn tally_counts_answers(rt: HostRuntime) {
-    let mut tally = Tally::new();
+fn store_counts_follow_the_answers(rt: HostRuntime) {
+    let mut counts = StoreCounts::new();
     for (answer, at, len, place) in &COUNTED {
-        tally.count(answer, *at, *len);
-        assert_same_at(&rt, at, tally.place, *place);
+        counts.count(answer, *at, *len);
+        assert_same_at(&rt, at, counts.place, *place);
     }
-    let counted = Tally {
+    let counted = StoreCounts {
         calls: 5,
         failures: 1,
         empties: 1,
         place: 7,
     };
-    assert_same(&rt, tally, counted);
+    assert_same(&rt, counts, counted);
 }
 
 #[test]

@@ -1,4 +1,4 @@
-use Rattle.mdmp_source.specs.BlockLaws.{MovesFront-take}
+use Rattle.mdmp_print.specs.BlockLaws.{MovesFront-take}
 use Rattle.mdmp_print.proofs.line_out.send_front.Goals as goal
 
 pub returns-clause-moved : goal.returns-clause-moved

@@ -1,5 +1,5 @@
 use Rattle.std.proofs.Common.{ap, rules}
-use Rattle.mdmp_source.specs.Blocks.{BlockState}
+use Rattle.mdmp_print.specs.Blocks.{BlockState}
 use Rattle.mdmp_tool.proofs.Loans.{printed_lent}
 use Rattle.mdmp_tool.specs.Words.{printed}
 use Rattle.mdmp_tool.proofs.words.print_file.Goals as goal

@@ -4,7 +4,7 @@ use Rattle.std.proofs.lemmas.List.{take-append-drop}
 use Rattle.std.specs.Io.KnownBytes.{append_known}
 use Rattle.mdmp_source.specs.Output.{OutState, Keeps, Takes, PutsAll, PutsPrefix, refused_once}
 use Rattle.mdmp_source.specs.OutputLaws.{HasRefused-once}
-use Rattle.mdmp_source.specs.Blocks.{BlockState, MovesFront, output_state}
+use Rattle.mdmp_print.specs.Blocks.{BlockState, MovesFront, output_state}
 
 kept : (a b : Option (List ℕ)) (pending sent left : List ℕ) → pending ≡ sent ++ left → Takes a sent b
     → Keeps (append_known a pending) (append_known b left)

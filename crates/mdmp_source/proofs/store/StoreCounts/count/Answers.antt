@@ -1,5 +1,5 @@
 use Rattle.std.proofs.Common.{rules}
-use Rattle.mdmp_source.proofs.store.Tally.count.Goals as goal
+use Rattle.mdmp_source.proofs.store.StoreCounts.count.Goals as goal
 
 pub returns-in-Err : goal.returns-in-Err
 returns-in-Err c = search rules

@@ -1,6 +1,0 @@
-use Rattle.std.proofs.Common.{rules}
-use Rattle.std.proofs.lemmas.Slice.{between_is, overwrites}
-use Rattle.mdmp_source.proofs.block_out.drop_front.Goals as goal
-
-pub returns : goal.returns
-returns c = search (rules, overwrites, between_is)
