@@ -22,7 +22,7 @@ SHOWN = [
     ("a sink that stops", r"sinks::"),
     ("success", r"succeed|are_read$|is_read_back|copy_stands|by_no_fetch"),
     ("a call of the system", r"system_calls::"),
-    ("a write", r"output|an_escape|block_takes_nothing"),
+    ("a write", r"output|an_escape|line_outs::"),
     ("a read", r"store|_may_fail|read_failed|small_reads|windows::window_is_as_it_was"),
 ]
 MOST = 300  # how many characters of calls or of tests a row has

@@ -1,10 +1,9 @@
 //! Calls that take memory, each of whose growths is refused.
 use crate::map::room::holds_map;
 use crate::same::{assert_same, assert_same_at};
-use crate::source::patchy_out;
 use crate::source::windows::holds_window;
 use crate::wire::units::{NINE, holds_bytes, holds_text, holds_text_of, holds_units};
-use mdmp_source::{BlockOut, FileStore, PatchyOut};
+use mdmp_source::{FileStore, PatchyOut};
 use mdmp_test_support::{HeapCounts, MeteredHeap, Refusal};
 use std::alloc::{Allocator, Global};
 use std::fs;
@@ -15,7 +14,6 @@ use std::rt::Files;
 #[derive(Clone, Copy, Debug)]
 enum MemoryCall {
     Window,
-    Blocks,
     Patchy,
     Map,
     UnitsOfText,
@@ -24,26 +22,15 @@ enum MemoryCall {
     Text,
 }
 
-/// Whether there is memory for the blocks of this output.
-fn holds_blocks<A: Allocator>(heap: A, out: PatchyOut<Global>) -> bool {
-    BlockOut::with_room(heap, 168, out).is_ok()
-}
-
 /// Whether there is memory for an output in memory.
 fn holds_patchy<A: Allocator>(heap: A) -> bool {
     PatchyOut::with_room(heap, 168, 7, None).is_ok()
 }
 
 /// Whether the call succeeds with memory of this heap.
-fn succeeds<A: Allocator + Copy>(
-    rt: &impl Abort,
-    alloc: Global,
-    heap: A,
-    call: MemoryCall,
-) -> bool {
+fn succeeds<A: Allocator + Copy>(rt: &impl Abort, heap: A, call: MemoryCall) -> bool {
     match call {
         MemoryCall::Window => holds_window(heap, 168),
-        MemoryCall::Blocks => holds_blocks(heap, patchy_out(rt, alloc, 0, 1, None)),
         MemoryCall::Patchy => holds_patchy(heap),
         MemoryCall::Map => holds_map(heap, 2),
         MemoryCall::UnitsOfText => holds_text(heap, "symbol.db"),
@@ -58,7 +45,7 @@ fn succeeds<A: Allocator + Copy>(
 fn succeeds_without(rt: &impl Abort, alloc: Global, growth: u32, call: MemoryCall) -> bool {
     let growth = u64::from(growth);
     let heap = MeteredHeap::new(alloc, Refusal::Only(growth));
-    let is_ok = succeeds(rt, alloc, &heap, call);
+    let is_ok = succeeds(rt, &heap, call);
     let counts = heap.counts();
     let growths = if is_ok { growth } else { growth + 1 };
     assert_same(rt, (counts.growths, counts.out), (growths, 0));
@@ -101,7 +88,6 @@ fn block_of_a_file_is_one_growth_which_may_be_refused(rt: HostRuntime) {
 fn room_is_one_growth_which_may_be_refused(rt: HostRuntime) {
     for call in &[
         MemoryCall::Window,
-        MemoryCall::Blocks,
         MemoryCall::Patchy,
         MemoryCall::Map,
         MemoryCall::UnitsOfBytes,

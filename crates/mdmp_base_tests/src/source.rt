@@ -1,7 +1,4 @@
 //! Stores, sources, outputs and tests of place.
-ghost use Rattle.std.specs.Prelude.{◌≡◌, ◌≤◌, ◌+◌, ◌++◌, length, take};
-
-mod blocks;
 mod failing;
 mod outputs;
 mod places;
@@ -11,8 +8,7 @@ pub mod windows;
 
 use crate::same::{assert_same, assert_same_at};
 use mdmp_source::{
-    FileStore, LINE_ROOM, Line, Out, OutFailed, PatchyOut, Source, SourceFault, Store, put_line,
-    send, write_all,
+    FileStore, Out, OutFailed, PatchyOut, Source, SourceFault, Store, send, write_all,
 };
 use std::alloc::{AllocGlobal, Global};
 use std::fs;
@@ -68,8 +64,6 @@ enum OutStep {
     Write(&'static [u8], Result<usize, OutFailed>),
     /// A write of all bytes.
     WriteAll(&'static [u8], Result<(), OutFailed>),
-    /// A line of these bytes.
-    Line(&'static [u8], Result<(), OutFailed>),
     /// Writes up to a refusal, by which so many went out.
     Send(&'static [u8], usize),
 }
@@ -84,24 +78,6 @@ fn sent<O: Out>(out: &mut O, bytes: &[u8]) -> usize {
     send(out, bytes)
 }
 
-/// The first bytes of these, as many as a line has at most.
-#[derive(Clone, Copy)]
-struct First<'a> {
-    bytes: &'a [u8],
-}
-
-impl<'a> Line for First<'a> {
-    ghost use Rattle.mdmp_source.specs.declared.line.TheConstants.{LINE_ROOM};
-
-    ghost text = { λ l. take LINE_ROOM l.bytes.now };
-
-    fn put(&self, buffer: &mut [u8], at: usize) -> usize {
-        let count = LINE_ROOM.min(self.bytes.len());
-        buffer[at..at + count].copy_from_slice(&self.bytes[..count]);
-        at + count
-    }
-}
-
 /// Asserts that the output answers each call as its step says.
 fn assert_out<O: Out>(rt: &impl Abort, out: &mut O, steps: &[OutStep]) {
     for step in steps {
@@ -111,9 +87,6 @@ fn assert_out<O: Out>(rt: &impl Abort, out: &mut O, steps: &[OutStep]) {
             }
             OutStep::WriteAll(bytes, answer) => {
                 assert_same_at(rt, &bytes, write_whole(out, bytes), answer)
-            }
-            OutStep::Line(bytes, answer) => {
-                assert_same_at(rt, &bytes, put_line(out, &First { bytes }), answer)
             }
             OutStep::Send(bytes, count) => assert_same_at(rt, &bytes, sent(out, bytes), count),
         }

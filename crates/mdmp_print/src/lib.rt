@@ -42,8 +42,6 @@ mod record;
 mod records;
 mod stack;
 mod symbols;
-#[cfg(test)]
-mod tests;
 mod text;
 mod values;
 mod verdict;

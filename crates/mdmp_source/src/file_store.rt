@@ -2,7 +2,7 @@
 ghost use Rattle.std.specs.Prelude.{◌≡◌, ◌≤◌, length, IfOk};
 
 use crate::blocked_file::{BLOCK, BlockedFile};
-use crate::store::{Store, StoreFailed, StoreCounts};
+use crate::store::{Store, StoreCounts, StoreFailed};
 use std::alloc::{Alloc, Allocator, Global};
 use std::fs::{Metadata, OpenFile};
 use std::io::{Read, Seek};

@@ -44,7 +44,7 @@ pub use crate::patchy_out::PatchyOut;
 pub use crate::patchy_store::PatchyStore;
 pub use crate::range::inside;
 pub use crate::source::Source;
-pub use crate::store::{Store, StoreFailed, StoreCounts};
+pub use crate::store::{Store, StoreCounts, StoreFailed};
 pub use crate::two_faces::TwoFaces;
 pub use crate::window::Window;
 pub use crate::write_out::WriteOut;

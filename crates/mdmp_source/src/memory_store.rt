@@ -3,7 +3,7 @@ ghost use Rattle.std.specs.Prelude.{◌≡◌, ◌-◌, length, take, min};
 ghost use Rattle.mdmp_source.specs.Range.{bytes_at};
 ghost use Rattle.mdmp_source.specs.Store.{AreBytes};
 
-use crate::store::{Store, StoreFailed, StoreCounts};
+use crate::store::{Store, StoreCounts, StoreFailed};
 
 /// A file in memory, which the store borrows. It never fails, and a call gives all bytes that it is asked for
 /// and that are there.

@@ -4,7 +4,7 @@ ghost use Rattle.mdmp_source.specs.Patchy.{PatchyStoreState};
 ghost use Rattle.mdmp_source.specs.Store.{AreBytes};
 
 use crate::memory_store::{copy_at, know_bytes};
-use crate::store::{Store, StoreFailed, StoreCounts};
+use crate::store::{Store, StoreCounts, StoreFailed};
 use std::marker::Model;
 
 /// A file in memory whose call k, counted from 0, reads at most `caps[k % caps.len()]` bytes, and

@@ -3,7 +3,7 @@ ghost use Rattle.std.specs.Prelude.{◌≡◌, length};
 ghost use Rattle.mdmp_source.specs.TwoFaces.{TwoFacesState};
 
 use crate::memory_store::copy_at;
-use crate::store::{Store, StoreFailed, StoreCounts};
+use crate::store::{Store, StoreCounts, StoreFailed};
 use std::marker::Model;
 
 /// A file in memory that changes while it is read: its calls of `read_at`, counted from 0, read

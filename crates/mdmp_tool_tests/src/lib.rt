@@ -1,4 +1,4 @@
-//! Tests of the commands over stores and outputs, by the public calls of `mdmp_tool` alone.
+//! Tests of the commands over stores and outputs, by the public calls of `mdmp_tool`, and of what they print by.
 //!
 //! `commands` makes the calls whose contracts are long, in functions without one or with a short one; `runs` runs them,
 //! and gives plain values; and a test goes over the rows of a table.
@@ -21,7 +21,11 @@ mod files;
 #[cfg(test)]
 mod growths;
 #[cfg(test)]
+mod line_outs;
+#[cfg(test)]
 mod lists;
+#[cfg(test)]
+mod print_items;
 #[cfg(test)]
 mod prints;
 #[cfg(test)]

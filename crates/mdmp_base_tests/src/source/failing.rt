@@ -1,8 +1,7 @@
 //! Stores and outputs each of whose calls fails in turn.
-use super::blocks::{assert_given_back, assert_pending, patchy_blocks};
-use super::{Fetched, First, assert_taken, four_at_one, part, patchy_out, sent, write_whole};
+use super::{Fetched, assert_taken, four_at_one, part, patchy_out, sent, write_whole};
 use crate::same::{assert_same, assert_same_at};
-use mdmp_source::{PatchyOut, PatchyStore, Source, SourceFault, put_line};
+use mdmp_source::{PatchyOut, PatchyStore, Source, SourceFault};
 use std::alloc::Global;
 use std::process::Abort;
 
@@ -45,8 +44,8 @@ fn failing_out(rt: &impl Abort, alloc: Global, fail_at: usize) -> PatchyOut<Glob
     patchy_out(rt, alloc, 100, 1, Some(fail_at as u64))
 }
 
-/// Asserts that sending bytes, writing all of them, and writing them as a line end well where no call fails, and else stop
-/// at that call: the bytes before it are taken, and no others.
+/// Asserts that sending bytes and writing all of them end well where no call fails, and else stop at that call: the bytes
+/// before it are taken, and no others.
 fn assert_written(rt: &impl Abort, alloc: Global, fail_at: usize) {
     let first = part(rt, TEXT, 0, fail_at);
     let mut out = failing_out(rt, alloc, fail_at);
@@ -55,46 +54,11 @@ fn assert_written(rt: &impl Abort, alloc: Global, fail_at: usize) {
     let mut out = failing_out(rt, alloc, fail_at);
     assert_same(rt, write_whole(&mut out, TEXT).is_ok(), fail_at == 9);
     assert_taken(rt, &out, first);
-    let mut out = failing_out(rt, alloc, fail_at);
-    let is_written = put_line(&mut out, &First { bytes: TEXT }).is_ok();
-    assert_same(rt, is_written, fail_at == 9);
-    assert_taken(rt, &out, first);
 }
 
 #[test]
 fn each_call_of_an_output_may_fail(rt: HostRuntime) {
     for call in 0..10 {
         assert_written(&rt, rt.alloc(), call);
-    }
-}
-
-/// Asserts whether nine bytes that are written in blocks of four, and then flushed, to an output that fails
-/// at this call are written and flushed. The output took those before the call, and those from there up to
-/// `end` are pending.
-fn assert_in_blocks(
-    rt: &impl Abort,
-    alloc: Global,
-    fail_at: usize,
-    end: usize,
-    expected: (bool, bool),
-) {
-    let mut blocks = patchy_blocks(rt, alloc, 4, 1, Some(fail_at as u64));
-    let is_written = write_whole(&mut blocks, TEXT).is_ok();
-    let is_flushed = is_written && blocks.flush().is_ok();
-    assert_same(rt, (is_written, is_flushed), expected);
-    assert_pending(rt, &blocks, part(rt, TEXT, fail_at, end));
-    assert_given_back(rt, blocks, part(rt, TEXT, 0, fail_at));
-}
-
-#[test]
-fn each_call_of_an_output_of_blocks_may_fail(rt: HostRuntime) {
-    // What the failing call leaves of its block is pending.
-    for call in 0..10 {
-        let (end, is_written) = match call {
-            0..4 => (4, false),
-            4..8 => (8, false),
-            _ => (9, true),
-        };
-        assert_in_blocks(&rt, rt.alloc(), call, end, (is_written, call == 9));
     }
 }

@@ -39,14 +39,6 @@ const TAKEN: &[TakenRow] = &[
         ],
         b"abcdefghij",
     ),
-    // A line that stops at a refusal.
-    (
-        10,
-        2,
-        Some(2),
-        &[OutStep::Line(b"abcdef", Err(OutFailed))],
-        b"abcd",
-    ),
 ];
 
 #[test]
@@ -62,7 +54,7 @@ fn output_that_fails_once_takes_what_it_can(rt: HostRuntime) {
 const SUCCEEDS: [OutStep; 3] = [
     OutStep::Write(b"xy", Ok(2)),
     OutStep::WriteAll(b"z", Ok(())),
-    OutStep::Line(b"abc", Ok(())),
+    OutStep::Send(b"abc", 3),
 ];
 
 #[test]

@@ -2,7 +2,7 @@
 use super::{Fetched, file_store, four_at_one, remove};
 use crate::same::{assert_same, assert_same_at};
 use mdmp_source::{
-    FileStore, MemoryStore, PatchyStore, Source, SourceFault, Store, StoreFailed, StoreCounts,
+    FileStore, MemoryStore, PatchyStore, Source, SourceFault, Store, StoreCounts, StoreFailed,
 };
 use std::fs;
 use std::process::Abort;
