@@ -46,7 +46,7 @@ impl<'a, E: Element<u8> + Copy> Parts for EachByte<'a, E> {
         self.bytes.len()
     }
 
-    fn put_part(&self, place: usize, buffer: &mut [u8], len: usize) -> PartEnd {
+    fn write_part(&self, place: usize, buffer: &mut [u8], len: usize) -> PartEnd {
         let next = place + (self.bytes.len() - place).min(PART);
         PartEnd {
             next,
@@ -68,11 +68,11 @@ impl Piece for EscapedByte {
 
     ghost joined = { λ p more. refl };
 
-    fn put(&self, buffer: &mut [u8], at: usize) -> usize {
+    fn write_at(&self, buffer: &mut [u8], at: usize) -> usize {
         if is_plain(self.0) {
             return text_at(buffer, at, [self.0]);
         }
-        (b"\\x", Hex2(self.0)).put(buffer, at)
+        (b"\\x", Hex2(self.0)).write_at(buffer, at)
     }
 }
 
@@ -123,7 +123,7 @@ impl<'a> Piece for ShortBytes<'a> {
 
     ghost joined = { λ p more. refl };
 
-    fn put(&self, buffer: &mut [u8], at: usize) -> usize {
+    fn write_at(&self, buffer: &mut [u8], at: usize) -> usize {
         slice_at(buffer, at, self.bytes)
     }
 }
@@ -141,7 +141,7 @@ impl<'a> Parts for LongBytes<'a> {
         self.0.len()
     }
 
-    fn put_part(&self, place: usize, buffer: &mut [u8], len: usize) -> PartEnd {
+    fn write_part(&self, place: usize, buffer: &mut [u8], len: usize) -> PartEnd {
         let next = place + (self.0.len() - place).min(SHORT);
         PartEnd {
             next,

@@ -24,7 +24,7 @@ impl Piece for Guid {
     ghost joined = { λ p more. refl };
 
     #[inline(never)]
-    fn put(&self, buffer: &mut [u8], at: usize) -> usize {
+    fn write_at(&self, buffer: &mut [u8], at: usize) -> usize {
         let mut text = Uuid::encode_buffer();
         let guid = Uuid::from_bytes(self.0).hyphenated();
         slice_at(buffer, at, guid.encode_lower(&mut text).as_bytes())
@@ -51,7 +51,7 @@ impl Piece for DebugId {
     ghost joined = { λ p more. refl };
 
     #[inline(never)]
-    fn put(&self, buffer: &mut [u8], at: usize) -> usize {
+    fn write_at(&self, buffer: &mut [u8], at: usize) -> usize {
         let mut text = Uuid::encode_buffer();
         let guid = Uuid::from_bytes(self.0).simple();
         let at = slice_at(buffer, at, guid.encode_upper(&mut text).as_bytes());
@@ -79,7 +79,7 @@ impl Piece for Signature {
     ghost joined = { λ p more. refl };
 
     #[inline(never)]
-    fn put(&self, buffer: &mut [u8], at: usize) -> usize {
+    fn write_at(&self, buffer: &mut [u8], at: usize) -> usize {
         each_at::<u8, Hex2>(buffer, at, &self.0)
     }
 }
@@ -114,10 +114,10 @@ impl Piece for Cut {
 
     ghost joined = { λ p more. refl };
 
-    fn put(&self, buffer: &mut [u8], at: usize) -> usize {
+    fn write_at(&self, buffer: &mut [u8], at: usize) -> usize {
         if self.ended {
             return at;
         }
-        b" cut".put(buffer, at)
+        b" cut".write_at(buffer, at)
     }
 }

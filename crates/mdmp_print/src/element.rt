@@ -26,7 +26,7 @@ pub(crate) fn each_at<T: Copy, E: Element<T> + Copy>(
 {
     let mut len = len;
     for element in elements {
-        len = E::of(*element).put(buffer, len);
+        len = E::of(*element).write_at(buffer, len);
     }
     len
 }

@@ -22,8 +22,8 @@ impl Piece for At {
     ghost joined = { λ p more. refl };
 
     #[inline(always)]
-    fn put(&self, buffer: &mut [u8], at: usize) -> usize {
-        (b" ", self.1).put(buffer, at)
+    fn write_at(&self, buffer: &mut [u8], at: usize) -> usize {
+        (b" ", self.1).write_at(buffer, at)
     }
 }
 
@@ -52,8 +52,8 @@ impl Piece for AtMembers {
     ghost joined = { λ p more. refl };
 
     #[inline(always)]
-    fn put(&self, buffer: &mut [u8], at: usize) -> usize {
-        (b",\"entry\":", (self.0, (b",\"index\":", self.1))).put(buffer, at)
+    fn write_at(&self, buffer: &mut [u8], at: usize) -> usize {
+        (b",\"entry\":", (self.0, (b",\"index\":", self.1))).write_at(buffer, at)
     }
 }
 
@@ -79,8 +79,8 @@ impl Piece for EntryNumber {
     ghost joined = { λ p more. refl };
 
     #[inline(always)]
-    fn put(&self, buffer: &mut [u8], at: usize) -> usize {
-        (b" ", self.0).put(buffer, at)
+    fn write_at(&self, buffer: &mut [u8], at: usize) -> usize {
+        (b" ", self.0).write_at(buffer, at)
     }
 }
 
@@ -109,7 +109,7 @@ impl Piece for EntryOnly {
     ghost joined = { λ p more. refl };
 
     #[inline(always)]
-    fn put(&self, _buffer: &mut [u8], at: usize) -> usize {
+    fn write_at(&self, _buffer: &mut [u8], at: usize) -> usize {
         at
     }
 }
@@ -139,8 +139,8 @@ impl Piece for EntryMember {
     ghost joined = { λ p more. refl };
 
     #[inline(always)]
-    fn put(&self, buffer: &mut [u8], at: usize) -> usize {
-        (b",\"entry\":", self.0).put(buffer, at)
+    fn write_at(&self, buffer: &mut [u8], at: usize) -> usize {
+        (b",\"entry\":", self.0).write_at(buffer, at)
     }
 }
 

@@ -33,7 +33,7 @@ impl<'a> Piece for Information<'a> {
     ghost joined = { λ p more. refl };
 
     #[inline(never)]
-    fn put(&self, buffer: &mut [u8], at: usize) -> usize {
+    fn write_at(&self, buffer: &mut [u8], at: usize) -> usize {
         let values = self.values;
         let count = (self.count as usize).min(15);
         each_at::<u64, Spaced>(buffer, at, &values[..count])
@@ -72,12 +72,12 @@ impl<'a> Piece for InformationMember<'a> {
     ghost joined = { λ p more. refl };
 
     #[inline(never)]
-    fn put(&self, buffer: &mut [u8], at: usize) -> usize {
+    fn write_at(&self, buffer: &mut [u8], at: usize) -> usize {
         let values = self.values;
         let count = (self.count as usize).min(15);
-        let at = b",\"information\":[".put(buffer, at);
+        let at = b",\"information\":[".write_at(buffer, at);
         let at = strings_at(buffer, at, &values[..count]);
-        b"]".put(buffer, at)
+        b"]".write_at(buffer, at)
     }
 }
 
@@ -97,7 +97,7 @@ fn strings_at(buffer: &mut [u8], len: usize, values: &[u64]) -> usize
     let Some((first, rest)) = values.split_first() else {
         return len;
     };
-    let len = HexString(*first).put(buffer, len);
+    let len = HexString(*first).write_at(buffer, len);
     each_at::<u64, NextString>(buffer, len, rest)
 }
 
@@ -115,8 +115,8 @@ impl Piece for Spaced {
     ghost joined = { λ p more. refl };
 
     #[inline(always)]
-    fn put(&self, buffer: &mut [u8], at: usize) -> usize {
-        (b" 0x", Hex16(self.0)).put(buffer, at)
+    fn write_at(&self, buffer: &mut [u8], at: usize) -> usize {
+        (b" 0x", Hex16(self.0)).write_at(buffer, at)
     }
 }
 
@@ -142,8 +142,8 @@ impl Piece for HexString {
     ghost joined = { λ p more. refl };
 
     #[inline(always)]
-    fn put(&self, buffer: &mut [u8], at: usize) -> usize {
-        row![b"\"0x", Hex16(self.0), b"\""].put(buffer, at)
+    fn write_at(&self, buffer: &mut [u8], at: usize) -> usize {
+        row![b"\"0x", Hex16(self.0), b"\""].write_at(buffer, at)
     }
 }
 
@@ -161,8 +161,8 @@ impl Piece for NextString {
     ghost joined = { λ p more. refl };
 
     #[inline(always)]
-    fn put(&self, buffer: &mut [u8], at: usize) -> usize {
-        (b",", HexString(self.0)).put(buffer, at)
+    fn write_at(&self, buffer: &mut [u8], at: usize) -> usize {
+        (b",", HexString(self.0)).write_at(buffer, at)
     }
 }
 

@@ -25,13 +25,13 @@ impl Piece for PartText {
     ghost joined = { λ p more. refl };
 
     #[inline(always)]
-    fn put(&self, buffer: &mut [u8], at: usize) -> usize {
+    fn write_at(&self, buffer: &mut [u8], at: usize) -> usize {
         let Location { size, rva } = self.1;
         match self.0 {
-            Extent::Empty => b"empty".put(buffer, at),
-            Extent::Absent => row![b"absent ", size].put(buffer, at),
-            Extent::Inside => row![b"inside ", size, b"@", rva].put(buffer, at),
-            Extent::Outside => row![b"outside ", size, b"@", rva].put(buffer, at),
+            Extent::Empty => b"empty".write_at(buffer, at),
+            Extent::Absent => row![b"absent ", size].write_at(buffer, at),
+            Extent::Inside => row![b"inside ", size, b"@", rva].write_at(buffer, at),
+            Extent::Outside => row![b"outside ", size, b"@", rva].write_at(buffer, at),
         }
     }
 }
@@ -60,11 +60,11 @@ impl Piece for PartMembers {
 
     ghost joined = { λ p more. refl };
 
-    fn put(&self, buffer: &mut [u8], at: usize) -> usize {
+    fn write_at(&self, buffer: &mut [u8], at: usize) -> usize {
         let Location { size, rva } = self.1;
         match self.0 {
-            Extent::Empty => b"\"class\":\"empty\"".put(buffer, at),
-            Extent::Absent => row![b"\"class\":\"absent\",\"size\":", size].put(buffer, at),
+            Extent::Empty => b"\"class\":\"empty\"".write_at(buffer, at),
+            Extent::Absent => row![b"\"class\":\"absent\",\"size\":", size].write_at(buffer, at),
             Extent::Inside => {
                 row![
                     b"\"class\":\"inside\",\"size\":",
@@ -72,7 +72,7 @@ impl Piece for PartMembers {
                     b",\"offset\":",
                     rva
                 ]
-                .put(buffer, at)
+                .write_at(buffer, at)
             }
             Extent::Outside => {
                 row![
@@ -81,7 +81,7 @@ impl Piece for PartMembers {
                     b",\"offset\":",
                     rva
                 ]
-                .put(buffer, at)
+                .write_at(buffer, at)
             }
         }
     }
@@ -112,12 +112,14 @@ impl Piece for RangeText {
 
     ghost joined = { λ p more. refl };
 
-    fn put(&self, buffer: &mut [u8], at: usize) -> usize {
+    fn write_at(&self, buffer: &mut [u8], at: usize) -> usize {
         match self.extent {
-            Extent::Empty => b" empty".put(buffer, at),
-            Extent::Absent => row![b" absent ", self.size].put(buffer, at),
-            Extent::Inside => row![b" inside ", self.size, b"@", self.offset].put(buffer, at),
-            Extent::Outside => row![b" outside ", self.size, b"@", self.offset].put(buffer, at),
+            Extent::Empty => b" empty".write_at(buffer, at),
+            Extent::Absent => row![b" absent ", self.size].write_at(buffer, at),
+            Extent::Inside => row![b" inside ", self.size, b"@", self.offset].write_at(buffer, at),
+            Extent::Outside => row![b" outside ", self.size, b"@", self.offset].write_at(
+                buffer, at,
+            ),
         }
     }
 }
@@ -154,11 +156,11 @@ impl Piece for RangeMembers {
 
     ghost joined = { λ p more. refl };
 
-    fn put(&self, buffer: &mut [u8], at: usize) -> usize {
+    fn write_at(&self, buffer: &mut [u8], at: usize) -> usize {
         match self.extent {
-            Extent::Empty => b",\"class\":\"empty\"".put(buffer, at),
+            Extent::Empty => b",\"class\":\"empty\"".write_at(buffer, at),
             Extent::Absent => {
-                row![b",\"class\":\"absent\",\"size\":\"", self.size, b"\""].put(buffer, at)
+                row![b",\"class\":\"absent\",\"size\":\"", self.size, b"\""].write_at(buffer, at)
             }
             Extent::Inside => row![
                 b",\"class\":\"inside\",\"size\":\"",
@@ -167,7 +169,7 @@ impl Piece for RangeMembers {
                 self.offset,
                 b"\"",
             ]
-            .put(buffer, at),
+            .write_at(buffer, at),
             Extent::Outside => row![
                 b",\"class\":\"outside\",\"size\":\"",
                 self.size,
@@ -175,7 +177,7 @@ impl Piece for RangeMembers {
                 self.offset,
                 b"\"",
             ]
-            .put(buffer, at),
+            .write_at(buffer, at),
         }
     }
 }

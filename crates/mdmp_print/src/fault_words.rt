@@ -25,11 +25,17 @@ impl Piece for SourceWords {
 
     ghost joined = { λ p more. refl };
 
-    fn put(&self, buffer: &mut [u8], at: usize) -> usize {
+    fn write_at(&self, buffer: &mut [u8], at: usize) -> usize {
         match self.0 {
-            SourceFault::Failed { at: place } => row![b"store failed at ", place].put(buffer, at),
-            SourceFault::ShortRead { at: place } => row![b"store ended at ", place].put(buffer, at),
-            SourceFault::Changed { at: place } => row![b"store changed at ", place].put(buffer, at),
+            SourceFault::Failed { at: place } => row![b"store failed at ", place].write_at(
+                buffer, at,
+            ),
+            SourceFault::ShortRead { at: place } => row![b"store ended at ", place].write_at(
+                buffer, at,
+            ),
+            SourceFault::Changed { at: place } => row![b"store changed at ", place].write_at(
+                buffer, at,
+            ),
         }
     }
 }
@@ -52,14 +58,14 @@ impl Piece for BudgetWords {
 
     ghost joined = { λ p more. refl };
 
-    fn put(&self, buffer: &mut [u8], at: usize) -> usize {
+    fn write_at(&self, buffer: &mut [u8], at: usize) -> usize {
         row![
             b"fetch budget reached: offset ",
             self.offset,
             b" size ",
             self.size
         ]
-        .put(buffer, at)
+        .write_at(buffer, at)
     }
 }
 
@@ -76,13 +82,17 @@ impl Piece for OpenWords {
 
     ghost joined = { λ p more. refl };
 
-    fn put(&self, buffer: &mut [u8], at: usize) -> usize {
+    fn write_at(&self, buffer: &mut [u8], at: usize) -> usize {
         match self.0 {
-            OpenFault::TooShort { size } => row![b"file of ", size, b" bytes is too short"].put(
+            OpenFault::TooShort { size } => row![
+                b"file of ",
+                size,
+                b" bytes is too short"
+            ].write_at(buffer, at),
+            OpenFault::BadSignature => b"bad signature".write_at(buffer, at),
+            OpenFault::BadVersion { low } => row![b"bad version 0x", Hex4(low)].write_at(
                 buffer, at,
             ),
-            OpenFault::BadSignature => b"bad signature".put(buffer, at),
-            OpenFault::BadVersion { low } => row![b"bad version 0x", Hex4(low)].put(buffer, at),
             OpenFault::DirectoryOutside { offset, size } => {
                 row![
                     b"directory outside the file: offset ",
@@ -90,15 +100,15 @@ impl Piece for OpenWords {
                     b" size ",
                     size
                 ]
-                .put(buffer, at)
+                .write_at(buffer, at)
             }
-            OpenFault::Source(fault) => SourceWords(fault).put(buffer, at),
-            OpenFault::Budget { offset, size } => BudgetWords { offset, size }.put(buffer, at),
-            OpenFault::Memory => b"out of memory".put(buffer, at),
-            OpenFault::MemoryLimit { held } => row![b"memory limit reached: ", held].put(
+            OpenFault::Source(fault) => SourceWords(fault).write_at(buffer, at),
+            OpenFault::Budget { offset, size } => BudgetWords { offset, size }.write_at(buffer, at),
+            OpenFault::Memory => b"out of memory".write_at(buffer, at),
+            OpenFault::MemoryLimit { held } => row![b"memory limit reached: ", held].write_at(
                 buffer, at,
             ),
-            OpenFault::TooManyRanges { count } => row![b"too many memory ranges: ", count].put(
+            OpenFault::TooManyRanges { count } => row![b"too many memory ranges: ", count].write_at(
                 buffer, at,
             ),
         }
@@ -118,7 +128,7 @@ impl Piece for ListWords {
 
     ghost joined = { λ p more. refl };
 
-    fn put(&self, buffer: &mut [u8], at: usize) -> usize {
+    fn write_at(&self, buffer: &mut [u8], at: usize) -> usize {
         row![
             b"entry ",
             self.0.entry,
@@ -130,7 +140,7 @@ impl Piece for ListWords {
             b" size ",
             self.0.size,
         ]
-        .put(buffer, at)
+        .write_at(buffer, at)
     }
 }
 
@@ -147,16 +157,16 @@ impl Piece for KindWords {
 
     ghost joined = { λ p more. refl };
 
-    fn put(&self, buffer: &mut [u8], at: usize) -> usize {
+    fn write_at(&self, buffer: &mut [u8], at: usize) -> usize {
         match self.0 {
-            FaultKind::StreamOutside => b"stream outside the file".put(buffer, at),
-            FaultKind::ShortStream => b"stream too short".put(buffer, at),
-            FaultKind::BadHeaderSize => b"bad header size".put(buffer, at),
-            FaultKind::BadEntrySize => b"bad entry size".put(buffer, at),
-            FaultKind::BadCount => b"bad count".put(buffer, at),
-            FaultKind::NameLengthOutside => b"name length outside the file".put(buffer, at),
-            FaultKind::NameOdd => b"odd name length".put(buffer, at),
-            FaultKind::NameUnitsOutside => b"name outside the file".put(buffer, at),
+            FaultKind::StreamOutside => b"stream outside the file".write_at(buffer, at),
+            FaultKind::ShortStream => b"stream too short".write_at(buffer, at),
+            FaultKind::BadHeaderSize => b"bad header size".write_at(buffer, at),
+            FaultKind::BadEntrySize => b"bad entry size".write_at(buffer, at),
+            FaultKind::BadCount => b"bad count".write_at(buffer, at),
+            FaultKind::NameLengthOutside => b"name length outside the file".write_at(buffer, at),
+            FaultKind::NameOdd => b"odd name length".write_at(buffer, at),
+            FaultKind::NameUnitsOutside => b"name outside the file".write_at(buffer, at),
             FaultKind::Source(_) => at,
             FaultKind::Budget => at,
         }
@@ -182,10 +192,10 @@ impl Piece for ItemWords {
 
     ghost joined = { λ p more. refl };
 
-    fn put(&self, buffer: &mut [u8], at: usize) -> usize {
+    fn write_at(&self, buffer: &mut [u8], at: usize) -> usize {
         match self.0 {
             None => at,
-            Some(index) => (b" item ", index).put(buffer, at),
+            Some(index) => (b" item ", index).write_at(buffer, at),
         }
     }
 }
@@ -203,10 +213,10 @@ impl Piece for ItemMember {
 
     ghost joined = { λ p more. refl };
 
-    fn put(&self, buffer: &mut [u8], at: usize) -> usize {
+    fn write_at(&self, buffer: &mut [u8], at: usize) -> usize {
         match self.0 {
             None => at,
-            Some(index) => row![b",\"item\":", b"\"", index, b"\""].put(buffer, at),
+            Some(index) => row![b",\"item\":", b"\"", index, b"\""].write_at(buffer, at),
         }
     }
 }

@@ -31,11 +31,11 @@ impl<'a, const N: usize, V: Value> Piece for Field<'a, N, V> {
     ghost joined = { λ p more. joined-field p.0.now (V.text p.1) (V.before p.1) (V.joined p.1) more };
 
     #[inline(always)]
-    fn put(&self, buffer: &mut [u8], at: usize) -> usize {
-        let at = b" ".put(buffer, at);
-        let at = self.0.put(buffer, at);
-        let at = b" ".put(buffer, at);
-        self.1.put(buffer, at)
+    fn write_at(&self, buffer: &mut [u8], at: usize) -> usize {
+        let at = b" ".write_at(buffer, at);
+        let at = self.0.write_at(buffer, at);
+        let at = b" ".write_at(buffer, at);
+        self.1.write_at(buffer, at)
     }
 }
 
@@ -75,8 +75,8 @@ impl Piece for LineEnd {
     ghost joined = { λ p more. refl };
 
     #[inline(always)]
-    fn put(&self, buffer: &mut [u8], at: usize) -> usize {
-        b"\n".put(buffer, at)
+    fn write_at(&self, buffer: &mut [u8], at: usize) -> usize {
+        b"\n".write_at(buffer, at)
     }
 }
 

@@ -72,7 +72,7 @@ impl Piece for Hex2 {
     ghost joined = { λ p more. refl };
 
     #[inline(always)]
-    fn put(&self, buffer: &mut [u8], at: usize) -> usize {
+    fn write_at(&self, buffer: &mut [u8], at: usize) -> usize {
         let from = self.0 as usize * 2;
         text_at(buffer, at, [HEX_PAIRS[from], HEX_PAIRS[from + 1]])
     }
@@ -91,7 +91,7 @@ impl Piece for Hex4 {
 
     ghost joined = { λ p more. refl };
 
-    fn put(&self, buffer: &mut [u8], at: usize) -> usize {
+    fn write_at(&self, buffer: &mut [u8], at: usize) -> usize {
         let mut digits = [0; 4];
         hex_digits(u64::from(self.0), &mut digits);
         text_at(buffer, at, digits)
@@ -111,7 +111,7 @@ impl Piece for Hex8 {
 
     ghost joined = { λ p more. refl };
 
-    fn put(&self, buffer: &mut [u8], at: usize) -> usize {
+    fn write_at(&self, buffer: &mut [u8], at: usize) -> usize {
         let mut digits = [0; 8];
         hex_digits(u64::from(self.0), &mut digits);
         text_at(buffer, at, digits)
@@ -132,7 +132,7 @@ impl Piece for Hex16 {
     ghost joined = { λ p more. refl };
 
     #[inline(always)]
-    fn put(&self, buffer: &mut [u8], at: usize) -> usize {
+    fn write_at(&self, buffer: &mut [u8], at: usize) -> usize {
         hex16_at(buffer, at, self.0)
     }
 }
@@ -169,9 +169,9 @@ impl<H: PlainPiece> Piece for Prefixed<H> {
     ghost joined = { λ p more. refl };
 
     #[inline(always)]
-    fn put(&self, buffer: &mut [u8], at: usize) -> usize {
-        let at = b"0x".put(buffer, at);
-        self.0.put(buffer, at)
+    fn write_at(&self, buffer: &mut [u8], at: usize) -> usize {
+        let at = b"0x".write_at(buffer, at);
+        self.0.write_at(buffer, at)
     }
 }
 

@@ -79,10 +79,10 @@ impl<'a> Piece for HexLine<'a> {
 
     ghost joined = { λ l more. refl };
 
-    fn put(&self, buffer: &mut [u8], at: usize) -> usize {
+    fn write_at(&self, buffer: &mut [u8], at: usize) -> usize {
         let at = address_at(buffer, at, self.address);
         let at = hex_cells_at(buffer, at, self.bytes, self.known);
-        b"\n".put(buffer, at)
+        b"\n".write_at(buffer, at)
     }
 }
 
@@ -92,7 +92,7 @@ fn address_at(text: &mut [u8], len: usize, address: u64) -> usize
     requires { len + 19 ≤ length text.old }
     ensures { IsPutBehind text.old len (address_text address) 19 text.new result }
 {
-    row![b"0x", Hex16(address), b":"].put(text, len)
+    row![b"0x", Hex16(address), b":"].write_at(text, len)
 }
 
 /// Puts the texts of bytes one behind the other, behind the first `len` bytes.
@@ -116,7 +116,7 @@ fn hex_cell_at(text: &mut [u8], len: usize, byte: u8, is_known: bool) -> usize
     ensures { IsPutBehind text.old len (cell_text (cell byte is_known)) 3 text.new result }
 {
     if !is_known {
-        return b" ??".put(text, len);
+        return b" ??".write_at(text, len);
     }
-    row![b" ", Hex2(byte)].put(text, len)
+    row![b" ", Hex2(byte)].write_at(text, len)
 }

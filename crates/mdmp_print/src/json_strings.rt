@@ -65,7 +65,7 @@ impl Piece for JsonByte {
     ghost joined = { λ p more. refl };
 
     #[inline(always)]
-    fn put(&self, buffer: &mut [u8], at: usize) -> usize {
+    fn write_at(&self, buffer: &mut [u8], at: usize) -> usize {
         escape_byte_at(buffer, at, self.0)
     }
 }

@@ -26,9 +26,9 @@ impl Piece for Lossy {
 
     ghost joined = { λ p more. refl };
 
-    fn put(&self, buffer: &mut [u8], at: usize) -> usize {
+    fn write_at(&self, buffer: &mut [u8], at: usize) -> usize {
         if self.0 {
-            return b",\"lossy\":true".put(buffer, at);
+            return b",\"lossy\":true".write_at(buffer, at);
         }
         at
     }

@@ -61,7 +61,7 @@ fn is_plain(unit: u16) -> bool
 
 /// Puts the character whose units begin at a place as it stands in a string.
 #[inline(always)]
-fn put_character(units: &UnitsRef<'_>, place: usize, buffer: &mut [u8], len: usize) -> PartEnd
+fn write_character(units: &UnitsRef<'_>, place: usize, buffer: &mut [u8], len: usize) -> PartEnd
     requires place { place < length (units_in units.now) }
     requires room { len + CHARACTER ≤ length buffer.old }
     ensures next { place < result.next × result.next ≤ length (units_in units.now) }
@@ -99,11 +99,11 @@ impl<'a> Parts for Quoted<'a> {
         self.units.len()
     }
 
-    fn put_part(&self, place: usize, buffer: &mut [u8], len: usize) -> PartEnd {
+    fn write_part(&self, place: usize, buffer: &mut [u8], len: usize) -> PartEnd {
         let full = len + 1000;
         let mut end = PartEnd { next: place, len };
         while end.next < self.units.len() && end.len <= full {
-            end = put_character(&self.units, end.next, buffer, end.len);
+            end = write_character(&self.units, end.next, buffer, end.len);
         }
         end
     }

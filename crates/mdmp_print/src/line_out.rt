@@ -97,7 +97,7 @@ impl<'b, O: Out> LineOut<'b, O> {
         requires room { length self.old.pending + LINE_ROOM ≤ self.old.room }
         ensures { self.new ≡ record self.old { pending = self.old.pending ++ P.text piece.now } }
     {
-        self.len = piece.put(self.buffer, self.len);
+        self.len = piece.write_at(self.buffer, self.len);
     }
 
     /// Puts the part of a text from a place on behind what is pending, and answers where the next one begins.
@@ -107,7 +107,7 @@ impl<'b, O: Out> LineOut<'b, O> {
         ensures next { place < result × result ≤ T.places text.now }
         ensures puts { IsPartAppended self.old (T.text_from text.now place) (T.text_from text.now result) self.new }
     {
-        let end = text.put_part(place, self.buffer, self.len);
+        let end = text.write_part(place, self.buffer, self.len);
         self.len = end.len;
         end.next
     }

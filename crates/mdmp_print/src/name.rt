@@ -31,7 +31,7 @@ impl<'a> Parts for Escaped<'a> {
         self.units.len()
     }
 
-    fn put_part(&self, place: usize, buffer: &mut [u8], len: usize) -> PartEnd {
+    fn write_part(&self, place: usize, buffer: &mut [u8], len: usize) -> PartEnd {
         let next = place + (self.units.len() - place).min(PART);
         PartEnd {
             next,
@@ -65,10 +65,10 @@ impl<'a> Piece for ShortName<'a> {
     ghost joined = { λ p more. refl };
 
     #[inline(always)]
-    fn put(&self, buffer: &mut [u8], at: usize) -> usize {
-        let at = b"\"".put(buffer, at);
+    fn write_at(&self, buffer: &mut [u8], at: usize) -> usize {
+        let at = b"\"".write_at(buffer, at);
         let at = self.units.escape_at(buffer, at, 0, self.units.len());
-        b"\"".put(buffer, at)
+        b"\"".write_at(buffer, at)
     }
 }
 

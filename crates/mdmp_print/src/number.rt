@@ -20,7 +20,7 @@ impl Piece for u32 {
     ghost joined = { λ p more. refl };
 
     #[inline(always)]
-    fn put(&self, buffer: &mut [u8], at: usize) -> usize {
+    fn write_at(&self, buffer: &mut [u8], at: usize) -> usize {
         decimal32_at(buffer, at, *self)
     }
 }
@@ -35,7 +35,7 @@ impl Piece for u64 {
     ghost joined = { λ p more. refl };
 
     #[inline(always)]
-    fn put(&self, buffer: &mut [u8], at: usize) -> usize {
+    fn write_at(&self, buffer: &mut [u8], at: usize) -> usize {
         decimal_at(buffer, at, *self)
     }
 }
@@ -50,7 +50,7 @@ impl Piece for u128 {
     ghost joined = { λ p more. refl };
 
     #[inline(always)]
-    fn put(&self, buffer: &mut [u8], at: usize) -> usize {
+    fn write_at(&self, buffer: &mut [u8], at: usize) -> usize {
         if *self < 0x1_0000_0000_0000_0000 {
             return decimal_at(buffer, at, *self as u64);
         }

@@ -28,7 +28,7 @@ pub trait Parts {
         ensures end { text_from self.now (places self.now) ≡ [] };
 
     /// Puts the part from a place on behind the first `len` bytes of a buffer.
-    fn put_part(&self, place: usize, buffer: &mut [u8], len: usize) -> PartEnd
+    fn write_part(&self, place: usize, buffer: &mut [u8], len: usize) -> PartEnd
         requires place { place < places self.now }
         requires room { len + LINE_ROOM ≤ length buffer.old }
         ensures next { place < result.next × result.next ≤ places self.now }

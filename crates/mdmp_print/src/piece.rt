@@ -21,7 +21,7 @@ pub trait Piece {
 
     /// Puts it behind the first `at` bytes of a buffer, and answers where it ends. What stands in the
     /// buffer behind it is not stated.
-    fn put(&self, buffer: &mut [u8], at: usize) -> usize
+    fn write_at(&self, buffer: &mut [u8], at: usize) -> usize
         requires { at + most ≤ length buffer.old }
         ensures { IsPutBehind buffer.old at (text self.now) most buffer.new result };
 
@@ -39,7 +39,7 @@ impl Piece for () {
     ghost joined = { λ p more. refl };
 
     #[inline(always)]
-    fn put(&self, _buffer: &mut [u8], at: usize) -> usize {
+    fn write_at(&self, _buffer: &mut [u8], at: usize) -> usize {
         at
     }
 }
@@ -55,9 +55,9 @@ impl<A: Piece, B: Piece> Piece for (A, B) {
     ghost joined = { λ p more. joined-then (A.text p.0) (B.text p.1) (A.before p.0) (B.before p.1) (A.joined p.0) (B.joined p.1) more };
 
     #[inline(always)]
-    fn put(&self, buffer: &mut [u8], at: usize) -> usize {
-        let at = self.0.put(buffer, at);
-        self.1.put(buffer, at)
+    fn write_at(&self, buffer: &mut [u8], at: usize) -> usize {
+        let at = self.0.write_at(buffer, at);
+        self.1.write_at(buffer, at)
     }
 }
 
@@ -74,15 +74,15 @@ impl<A: Piece, B: Piece, C: Piece, D: Piece, E: Piece, F: Piece, G: Piece, H: Pi
     ghost joined = { λ p. joined-then _ _ _ _ (A.joined p.0) (joined-then _ _ _ _ (B.joined p.1) (joined-then _ _ _ _ (C.joined p.2) (joined-then _ _ _ _ (D.joined p.3) (joined-then _ _ _ _ (E.joined p.4) (joined-then _ _ _ _ (F.joined p.5) (joined-then _ _ _ _ (G.joined p.6) (H.joined p.7))))))) };
 
     #[inline(always)]
-    fn put(&self, buffer: &mut [u8], at: usize) -> usize {
-        let at = self.0.put(buffer, at);
-        let at = self.1.put(buffer, at);
-        let at = self.2.put(buffer, at);
-        let at = self.3.put(buffer, at);
-        let at = self.4.put(buffer, at);
-        let at = self.5.put(buffer, at);
-        let at = self.6.put(buffer, at);
-        self.7.put(buffer, at)
+    fn write_at(&self, buffer: &mut [u8], at: usize) -> usize {
+        let at = self.0.write_at(buffer, at);
+        let at = self.1.write_at(buffer, at);
+        let at = self.2.write_at(buffer, at);
+        let at = self.3.write_at(buffer, at);
+        let at = self.4.write_at(buffer, at);
+        let at = self.5.write_at(buffer, at);
+        let at = self.6.write_at(buffer, at);
+        self.7.write_at(buffer, at)
     }
 }
 
@@ -97,7 +97,7 @@ impl<'a, const N: usize> Piece for &'a [u8; N] {
     ghost joined = { λ p more. refl };
 
     #[inline(always)]
-    fn put(&self, buffer: &mut [u8], at: usize) -> usize {
+    fn write_at(&self, buffer: &mut [u8], at: usize) -> usize {
         text_at(buffer, at, **self)
     }
 }

@@ -35,14 +35,14 @@ impl<O: Out> Printer for O {
     #[inline(never)]
     fn print<P: Piece>(&mut self, piece: &P) -> Result<(), OutFailed> {
         let mut buffer = [0; LINE_ROOM];
-        let end = piece.put(&mut buffer, 0);
+        let end = piece.write_at(&mut buffer, 0);
         write_all(self, &buffer[..end])
     }
 
     #[inline(never)]
     fn print_part<T: Parts>(&mut self, text: &T, place: usize) -> Result<usize, OutFailed> {
         let mut buffer = [0; LINE_ROOM];
-        let end = text.put_part(place, &mut buffer, 0);
+        let end = text.write_part(place, &mut buffer, 0);
         match write_all(self, &buffer[..end.len]) {
             Ok(()) => Ok(end.next),
             Err(failed) => Err(failed),

@@ -26,11 +26,11 @@ impl Piece for Stack {
     ghost joined = { λ p more. joined-stack (hex 16 p.0) (extent_text p.1.0 p.1.1.size p.1.1.rva) more };
 
     #[inline(always)]
-    fn put(&self, buffer: &mut [u8], at: usize) -> usize {
-        let at = b"0x".put(buffer, at);
-        let at = Hex16(self.0).put(buffer, at);
-        let at = b" ".put(buffer, at);
-        self.1.put(buffer, at)
+    fn write_at(&self, buffer: &mut [u8], at: usize) -> usize {
+        let at = b"0x".write_at(buffer, at);
+        let at = Hex16(self.0).write_at(buffer, at);
+        let at = b" ".write_at(buffer, at);
+        self.1.write_at(buffer, at)
     }
 }
 
@@ -62,8 +62,8 @@ impl Piece for StackStart {
     ghost joined = { λ p more. refl };
 
     #[inline(always)]
-    fn put(&self, buffer: &mut [u8], at: usize) -> usize {
-        (b"\"start\":", InQuotes(Prefixed(Hex16(self.0)))).put(buffer, at)
+    fn write_at(&self, buffer: &mut [u8], at: usize) -> usize {
+        (b"\"start\":", InQuotes(Prefixed(Hex16(self.0)))).write_at(buffer, at)
     }
 }
 

@@ -59,8 +59,8 @@ impl Piece for Null {
 
     ghost joined = { λ p more. refl };
 
-    fn put(&self, buffer: &mut [u8], at: usize) -> usize {
-        b"null".put(buffer, at)
+    fn write_at(&self, buffer: &mut [u8], at: usize) -> usize {
+        b"null".write_at(buffer, at)
     }
 }
 
@@ -81,11 +81,11 @@ impl Piece for bool {
 
     ghost joined = { λ p more. refl };
 
-    fn put(&self, buffer: &mut [u8], at: usize) -> usize {
+    fn write_at(&self, buffer: &mut [u8], at: usize) -> usize {
         if *self {
-            return b"true".put(buffer, at);
+            return b"true".write_at(buffer, at);
         }
-        b"false".put(buffer, at)
+        b"false".write_at(buffer, at)
     }
 }
 
@@ -111,10 +111,10 @@ impl<P: PlainPiece> Piece for InQuotes<P> {
     ghost joined = { λ p more. refl };
 
     #[inline(always)]
-    fn put(&self, buffer: &mut [u8], at: usize) -> usize {
-        let at = b"\"".put(buffer, at);
-        let at = self.0.put(buffer, at);
-        b"\"".put(buffer, at)
+    fn write_at(&self, buffer: &mut [u8], at: usize) -> usize {
+        let at = b"\"".write_at(buffer, at);
+        let at = self.0.write_at(buffer, at);
+        b"\"".write_at(buffer, at)
     }
 }
 
@@ -140,10 +140,10 @@ impl<'a, const N: usize> Piece for Word<'a, N> {
     ghost joined = { λ p more. refl };
 
     #[inline(always)]
-    fn put(&self, buffer: &mut [u8], at: usize) -> usize {
-        let at = b"\"".put(buffer, at);
-        let at = self.0.put(buffer, at);
-        b"\"".put(buffer, at)
+    fn write_at(&self, buffer: &mut [u8], at: usize) -> usize {
+        let at = b"\"".write_at(buffer, at);
+        let at = self.0.write_at(buffer, at);
+        b"\"".write_at(buffer, at)
     }
 }
 
@@ -169,11 +169,11 @@ impl<'a, const N: usize, V: Json> Piece for JsonMember<'a, N, V> {
     ghost joined = { λ p more. refl };
 
     #[inline(always)]
-    fn put(&self, buffer: &mut [u8], at: usize) -> usize {
-        let at = b"\"".put(buffer, at);
-        let at = self.0.put(buffer, at);
-        let at = b"\":".put(buffer, at);
-        self.1.put(buffer, at)
+    fn write_at(&self, buffer: &mut [u8], at: usize) -> usize {
+        let at = b"\"".write_at(buffer, at);
+        let at = self.0.write_at(buffer, at);
+        let at = b"\":".write_at(buffer, at);
+        self.1.write_at(buffer, at)
     }
 }
 
@@ -249,9 +249,9 @@ impl<J: Json> Piece for NextMember<J> {
     ghost joined = { λ p more. refl };
 
     #[inline(always)]
-    fn put(&self, buffer: &mut [u8], at: usize) -> usize {
-        let at = b",".put(buffer, at);
-        self.0.put(buffer, at)
+    fn write_at(&self, buffer: &mut [u8], at: usize) -> usize {
+        let at = b",".write_at(buffer, at);
+        self.0.write_at(buffer, at)
     }
 }
 
@@ -277,11 +277,11 @@ impl<F: Json, R: Members> Piece for Object<F, R> {
     ghost joined = { λ p more. refl };
 
     #[inline(always)]
-    fn put(&self, buffer: &mut [u8], at: usize) -> usize {
-        let at = b"{".put(buffer, at);
-        let at = self.0.put(buffer, at);
-        let at = self.1.put(buffer, at);
-        b"}".put(buffer, at)
+    fn write_at(&self, buffer: &mut [u8], at: usize) -> usize {
+        let at = b"{".write_at(buffer, at);
+        let at = self.0.write_at(buffer, at);
+        let at = self.1.write_at(buffer, at);
+        b"}".write_at(buffer, at)
     }
 }
 

@@ -22,7 +22,7 @@ impl Piece for Version {
 
     ghost joined = { λ p more. joined-version p.0 p.1 more };
 
-    fn put(&self, buffer: &mut [u8], at: usize) -> usize {
+    fn write_at(&self, buffer: &mut [u8], at: usize) -> usize {
         row![
             self.0 / 65536,
             b".",
@@ -32,7 +32,7 @@ impl Piece for Version {
             b".",
             self.1 % 65536,
         ]
-        .put(buffer, at)
+        .write_at(buffer, at)
     }
 }
 
@@ -66,8 +66,8 @@ impl Piece for Build {
 
     ghost joined = { λ p more. joined-build p.0 p.1 p.2 more };
 
-    fn put(&self, buffer: &mut [u8], at: usize) -> usize {
-        row![self.0, b".", self.1, b".", self.2].put(buffer, at)
+    fn write_at(&self, buffer: &mut [u8], at: usize) -> usize {
+        row![self.0, b".", self.1, b".", self.2].write_at(buffer, at)
     }
 }
 

@@ -21,27 +21,27 @@ impl Piece for ToolWords {
 
     ghost joined = { λ p more. refl };
 
-    fn put(&self, buffer: &mut [u8], at: usize) -> usize {
+    fn write_at(&self, buffer: &mut [u8], at: usize) -> usize {
         match self.0 {
-            ToolFault::Opening(fault) => OpenWords(fault).put(buffer, at),
-            ToolFault::List(fault) => ListWords(fault).put(buffer, at),
-            ToolFault::Reading(fault) => ReadWords(fault).put(buffer, at),
-            ToolFault::Layout(fault) => LayoutWords(fault).put(buffer, at),
-            ToolFault::Source(fault) => SourceWords(fault).put(buffer, at),
-            ToolFault::Budget { offset, size } => BudgetWords { offset, size }.put(buffer, at),
-            ToolFault::Out => b"output failed".put(buffer, at),
-            ToolFault::Memory => b"out of memory".put(buffer, at),
-            ToolFault::MemoryLimit { held } => row![b"memory limit reached: ", held].put(
+            ToolFault::Opening(fault) => OpenWords(fault).write_at(buffer, at),
+            ToolFault::List(fault) => ListWords(fault).write_at(buffer, at),
+            ToolFault::Reading(fault) => ReadWords(fault).write_at(buffer, at),
+            ToolFault::Layout(fault) => LayoutWords(fault).write_at(buffer, at),
+            ToolFault::Source(fault) => SourceWords(fault).write_at(buffer, at),
+            ToolFault::Budget { offset, size } => BudgetWords { offset, size }.write_at(buffer, at),
+            ToolFault::Out => b"output failed".write_at(buffer, at),
+            ToolFault::Memory => b"out of memory".write_at(buffer, at),
+            ToolFault::MemoryLimit { held } => row![b"memory limit reached: ", held].write_at(
                 buffer, at,
             ),
             ToolFault::AsideLimit { offset, size } => {
-                row![b"aside limit reached: offset ", offset, b" size ", size].put(buffer, at)
+                row![b"aside limit reached: offset ", offset, b" size ", size].write_at(buffer, at)
             }
-            ToolFault::CopyBudget { needed } => row![b"copy needs ", needed, b" bytes"].put(
+            ToolFault::CopyBudget { needed } => row![b"copy needs ", needed, b" bytes"].write_at(
                 buffer, at,
             ),
             ToolFault::NotCopied(stream_type) => {
-                row![b"type ", stream_type, b" is not copied"].put(buffer, at)
+                row![b"type ", stream_type, b" is not copied"].write_at(buffer, at)
             }
         }
     }
@@ -60,10 +60,10 @@ impl Piece for ReadWords {
 
     ghost joined = { λ p more. refl };
 
-    fn put(&self, buffer: &mut [u8], at: usize) -> usize {
+    fn write_at(&self, buffer: &mut [u8], at: usize) -> usize {
         match self.0 {
-            ReadFault::Opening(fault) => OpenWords(fault).put(buffer, at),
-            ReadFault::List(fault) => ListWords(fault).put(buffer, at),
+            ReadFault::Opening(fault) => OpenWords(fault).write_at(buffer, at),
+            ReadFault::List(fault) => ListWords(fault).write_at(buffer, at),
             ReadFault::PartOutside {
                 entry,
                 index,
@@ -82,7 +82,7 @@ impl Piece for ReadWords {
                 b" size ",
                 size,
             ]
-            .put(buffer, at),
+            .write_at(buffer, at),
             ReadFault::NameTooLong {
                 entry,
                 index,
@@ -95,10 +95,10 @@ impl Piece for ReadWords {
                 b": name too long: ",
                 length
             ]
-            .put(buffer, at),
-            ReadFault::PartsTooLarge { .. } => LayoutWords(LayoutFault::TooLarge).put(buffer, at),
-            ReadFault::Memory => b"out of memory".put(buffer, at),
-            ReadFault::Source(fault) => SourceWords(fault).put(buffer, at),
+            .write_at(buffer, at),
+            ReadFault::PartsTooLarge { .. } => LayoutWords(LayoutFault::TooLarge).write_at(buffer, at),
+            ReadFault::Memory => b"out of memory".write_at(buffer, at),
+            ReadFault::Source(fault) => SourceWords(fault).write_at(buffer, at),
         }
     }
 }
@@ -116,13 +116,13 @@ impl Piece for PartWords {
 
     ghost joined = { λ p more. refl };
 
-    fn put(&self, buffer: &mut [u8], at: usize) -> usize {
+    fn write_at(&self, buffer: &mut [u8], at: usize) -> usize {
         match self.0 {
-            PartName::Stack => b"stack".put(buffer, at),
-            PartName::Context => b"context".put(buffer, at),
-            PartName::CodeView => b"codeview".put(buffer, at),
-            PartName::Misc => b"misc".put(buffer, at),
-            PartName::Memory => b"memory".put(buffer, at),
+            PartName::Stack => b"stack".write_at(buffer, at),
+            PartName::Context => b"context".write_at(buffer, at),
+            PartName::CodeView => b"codeview".write_at(buffer, at),
+            PartName::Misc => b"misc".write_at(buffer, at),
+            PartName::Memory => b"memory".write_at(buffer, at),
         }
     }
 }
@@ -140,12 +140,12 @@ impl Piece for LayoutWords {
 
     ghost joined = { λ p more. refl };
 
-    fn put(&self, buffer: &mut [u8], at: usize) -> usize {
+    fn write_at(&self, buffer: &mut [u8], at: usize) -> usize {
         match self.0 {
             LayoutFault::RawKnownType { stream } => {
-                row![b"stream ", stream, b" holds raw bytes of a known type"].put(buffer, at)
+                row![b"stream ", stream, b" holds raw bytes of a known type"].write_at(buffer, at)
             }
-            LayoutFault::TooLarge => b"the copy is too large".put(buffer, at),
+            LayoutFault::TooLarge => b"the copy is too large".write_at(buffer, at),
         }
     }
 }
@@ -157,7 +157,7 @@ pub(crate) struct FaultWords(pub(crate) ToolFault);
 impl Display for FaultWords {
     fn fmt<W: Write>(&self, f: &mut Formatter<W>) -> fmt::Result {
         let mut buffer = [0; LINE_ROOM];
-        let end = ToolWords(fault_as_told(self.0)).put(&mut buffer, 0);
+        let end = ToolWords(fault_as_told(self.0)).write_at(&mut buffer, 0);
         match str::from_utf8(&buffer[..end]) {
             Ok(words) => f.write_str(words),
             Err(_) => Err(fmt::Error),

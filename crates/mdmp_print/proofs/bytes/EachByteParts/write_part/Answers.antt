@@ -2,7 +2,7 @@ use Rattle.std.proofs.Common.{◌≡◌, ◌+◌, ◌-◌, ◌*◌, ◌≤◌, �
 use Rattle.std.proofs.lemmas.Nat.{mul-le}
 use Rattle.std.specs.List.{flat_map}
 use Rattle.mdmp_print.proofs.Texts.{texts_split}
-use Rattle.mdmp_print.proofs.bytes.EachByteParts.put_part.Goals as goal
+use Rattle.mdmp_print.proofs.bytes.EachByteParts.write_part.Goals as goal
 
 pub returns-clause-put : goal.returns-clause-put
 returns-clause-put g c =

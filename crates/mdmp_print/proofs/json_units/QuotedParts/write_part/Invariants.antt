@@ -2,7 +2,7 @@ use Rattle.std.proofs.Common.{◌≡◌, ◌-◌, ◌≤◌, drop, length}
 use Rattle.json.specs.Print.{escape}
 use Rattle.mdmp_wire.specs.Units.{units_in, utf8_of}
 use Rattle.mdmp_print.specs.Parts.{IsPartPut}
-use Rattle.mdmp_print.proofs.json_units.QuotedParts.put_part.Given as goal
+use Rattle.mdmp_print.proofs.json_units.QuotedParts.write_part.Given as goal
 
 abbrev pub invariant-loop-end : goal.invariant-loop-end
 invariant-loop-end l = record {

@@ -3,7 +3,7 @@ use Rattle.std.proofs.lemmas.Grind.{flat_map-append}
 use Rattle.std.proofs.lemmas.List.{drop-drop, take-append-drop}
 use Rattle.mdmp_wire.specs.Escape.{escaped, escaped_unit}
 use Rattle.mdmp_wire.specs.Units.{units_in}
-use Rattle.mdmp_print.proofs.name.EscapedParts.put_part.Goals as goal
+use Rattle.mdmp_print.proofs.name.EscapedParts.write_part.Goals as goal
 
 -- the first few of some units, and the others
 split : (units : List ℕ) (k n : ℕ) → n ≡ k → escaped units ≡ escaped (take n units) ++ escaped (drop k units)

@@ -2,7 +2,7 @@ use Rattle.std.proofs.Common.{[], ◌∷◌, arith, length-set}
 use Rattle.std.proofs.lemmas.List.{take_more_set}
 use Rattle.mdmp_wire.specs.Units.{units_in}
 use Rattle.mdmp_print.proofs.PlainUnits.{plain_next}
-use Rattle.mdmp_print.proofs.json_units.put_character.Goals as goal
+use Rattle.mdmp_print.proofs.json_units.write_character.Goals as goal
 
 pub returns-then-is_plain-clause-put : goal.returns-then-is_plain-clause-put
 returns-then-is_plain-clause-put c =

@@ -1,6 +1,6 @@
 use Rattle.std.proofs.Common.{◌≡◌, ◌∙◌, ◌+◌, ◌-◌, ◌++◌, ◌≤◌, ℕ, List, take, drop, drop-drop, length, length-take, ap, sym, arith}
 use Rattle.std.proofs.lemmas.List.{take-append-drop}
-use Rattle.mdmp_print.proofs.bytes.LongBytesParts.put_part.Goals as goal
+use Rattle.mdmp_print.proofs.bytes.LongBytesParts.write_part.Goals as goal
 
 -- the first few, and the others
 split : (xs : List ℕ) (place k n : ℕ) → n ≡ k → drop place xs ≡ take n (drop place xs) ++ drop (place + k) xs

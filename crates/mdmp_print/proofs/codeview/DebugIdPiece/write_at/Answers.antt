@@ -2,7 +2,7 @@ use Rattle.std.proofs.Common.{◌≡◌, ◌∙◌, ℕ, ap, arith, length}
 use Rattle.uuid.proofs.TextLemmas.{by_index_length}
 use Rattle.uuid.specs.Text.{simple_text, upper}
 use Rattle.mdmp_print.proofs.BufferLemmas.{IsPutBehind-as, IsPutBehind-then}
-use Rattle.mdmp_print.proofs.codeview.DebugIdPiece.put.Goals as goal
+use Rattle.mdmp_print.proofs.codeview.DebugIdPiece.write_at.Goals as goal
 
 pub slice_at-at-requires : goal.slice_at-at-requires
 slice_at-at-requires c =

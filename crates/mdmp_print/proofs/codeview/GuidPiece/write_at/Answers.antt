@@ -2,7 +2,7 @@ use Rattle.std.proofs.Common.{◌≡◌, ◌∙◌, ℕ, ap, arith, length}
 use Rattle.uuid.proofs.TextLemmas.{by_index_length}
 use Rattle.uuid.specs.Text.{hyphenated_text, lower}
 use Rattle.mdmp_print.proofs.BufferLemmas.{IsPutBehind-as}
-use Rattle.mdmp_print.proofs.codeview.GuidPiece.put.Goals as goal
+use Rattle.mdmp_print.proofs.codeview.GuidPiece.write_at.Goals as goal
 
 pub slice_at-requires : goal.slice_at-requires
 slice_at-requires c =
