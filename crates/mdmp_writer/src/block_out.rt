@@ -11,20 +11,20 @@ ghost use Rattle.mdmp_writer.specs.Passes.{block_asks, block_passes, parts_asks,
 ghost use Rattle.mdmp_writer.specs.Written.{all_padded, block_text, padded, parts_of};
 ghost use Rattle.mdmp_writer.specs.Uses.{used, Uses};
 
-use crate::body_out::put_body;
+use crate::body_out::write_body;
 use crate::fault::WriteFault;
 use crate::gather::Gather;
 use crate::layout::StreamRoom;
-use crate::pieces::{put_padded, put_padding};
+use crate::pieces::{write_padded, write_padding};
 use crate::place::StreamPlace;
-use crate::record_texts::{RecordText, put_record_texts};
+use crate::record_texts::{RecordText, write_record_texts};
 use crate::sizes::count_of;
 use mdmp_dump::{DumpView, Kind, PartSize};
 use mdmp_lister::StreamKind;
 use mdmp_source::Out;
 
 /// Writes the names and parts of a stream of so many records, by a second pass over it.
-fn put_second_pass<V: DumpView, O: Out>(
+fn write_second_pass<V: DumpView, O: Out>(
     view: &mut V,
     out: &mut O,
     gather: &mut Gather<'_>,
@@ -41,14 +41,14 @@ fn put_second_pass<V: DumpView, O: Out>(
     ensures moves { V.Moves view.old view.new }
 {
     match view.rewind(stream) {
-        Ok(()) => put_record_texts(view, out, gather, RecordText::Parts, count, 0),
+        Ok(()) => write_record_texts(view, out, gather, RecordText::Parts, count, 0),
         Err(fault) => Err(WriteFault::View(fault)),
     }
 }
 
 /// Writes what stands behind the body of a stream of so many records, its names and parts: by a second
 /// pass, where they take room there. The bytes of 64-bit memory stand behind all streams.
-fn put_stream_parts<V: DumpView, O: Out>(
+fn write_stream_parts<V: DumpView, O: Out>(
     view: &mut V,
     out: &mut O,
     gather: &mut Gather<'_>,
@@ -69,11 +69,11 @@ fn put_stream_parts<V: DumpView, O: Out>(
     if parts == 0 {
         return Ok(());
     }
-    put_second_pass(view, out, gather, stream, count)
+    write_second_pass(view, out, gather, stream, count)
 }
 
 /// Writes a stream of records of this type.
-fn put_records<V: DumpView, O: Out>(
+fn write_records<V: DumpView, O: Out>(
     view: &mut V,
     out: &mut O,
     gather: &mut Gather<'_>,
@@ -98,9 +98,9 @@ fn put_records<V: DumpView, O: Out>(
         at: place.at + room.body.next_multiple_of(4),
         far: place.far,
     };
-    match put_body(view, out, gather, stream, kind, count, behind) {
-        Ok(()) => match put_padding(out, gather, room.body) {
-            Ok(()) => put_stream_parts(view, out, gather, stream, count, room.parts),
+    match write_body(view, out, gather, stream, kind, count, behind) {
+        Ok(()) => match write_padding(out, gather, room.body) {
+            Ok(()) => write_stream_parts(view, out, gather, stream, count, room.parts),
             Err(fault) => Err(fault),
         },
         Err(fault) => Err(fault),
@@ -108,7 +108,7 @@ fn put_records<V: DumpView, O: Out>(
 }
 
 /// Writes a stream of raw bytes, so many, and the zeros behind them.
-fn put_raw<V: DumpView, O: Out>(
+fn write_raw<V: DumpView, O: Out>(
     view: &mut V,
     out: &mut O,
     gather: &mut Gather<'_>,
@@ -124,13 +124,13 @@ fn put_raw<V: DumpView, O: Out>(
     ensures moves { V.Moves view.old view.new }
 {
     match view.rewind(stream) {
-        Ok(()) => put_padded(view, out, gather, 0, PartSize::Size(size)),
+        Ok(()) => write_padded(view, out, gather, 0, PartSize::Size(size)),
         Err(fault) => Err(WriteFault::View(fault)),
     }
 }
 
 /// Writes a stream that takes this room: its block begins at a place, and its 64-bit memory at another.
-pub(crate) fn put_block<V: DumpView, O: Out>(
+pub(crate) fn write_block<V: DumpView, O: Out>(
     view: &mut V,
     out: &mut O,
     gather: &mut Gather<'_>,
@@ -150,8 +150,8 @@ pub(crate) fn put_block<V: DumpView, O: Out>(
     match room.kind {
         Kind::Unused => Ok(()),
         Kind::Known(stream_type) => {
-            put_records(view, out, gather, stream, stream_type, room, place)
+            write_records(view, out, gather, stream, stream_type, room, place)
         },
-        Kind::Raw(_) => put_raw(view, out, gather, stream, room.body),
+        Kind::Raw(_) => write_raw(view, out, gather, stream, room.body),
     }
 }

@@ -12,8 +12,8 @@ ghost use Rattle.mdmp_writer.specs.Uses.{used, Uses};
 use crate::fault::WriteFault;
 use crate::gather::Gather;
 use crate::place::StreamPlace;
-use crate::record_bytes::put_record;
-use crate::record_texts::{RecordText, put_record_texts};
+use crate::record_bytes::write_record;
+use crate::record_texts::{RecordText, write_record_texts};
 use mdmp_dump::DumpView;
 use mdmp_lister::{Form, StreamKind};
 use mdmp_source::Out;
@@ -21,7 +21,7 @@ use mdmp_wire::{Memory64List, MemoryInfoList, UnloadedList};
 
 /// Writes what stands before the records of a stream of this kind, so many, whose 64-bit memory
 /// begins at a place.
-fn put_head<O: Out>(
+fn write_head<O: Out>(
     out: &mut O,
     gather: &mut Gather<'_>,
     kind: Option<StreamKind>,
@@ -36,9 +36,9 @@ fn put_head<O: Out>(
     let Some(kind) = kind else { return Ok(()) };
     let form = kind.form();
     match form {
-        Form::Counted => put_record(out, gather, &(count as u32)),
+        Form::Counted => write_record(out, gather, &(count as u32)),
         Form::Single => Ok(()),
-        Form::Ranges64 => put_record(
+        Form::Ranges64 => write_record(
             out,
             gather,
             &Memory64List {
@@ -46,7 +46,7 @@ fn put_head<O: Out>(
                 base_rva: far,
             },
         ),
-        Form::Sized32 => put_record(
+        Form::Sized32 => write_record(
             out,
             gather,
             &UnloadedList {
@@ -55,7 +55,7 @@ fn put_head<O: Out>(
                 number_of_entries: count as u32,
             },
         ),
-        Form::Sized64 => put_record(
+        Form::Sized64 => write_record(
             out,
             gather,
             &MemoryInfoList {
@@ -69,7 +69,7 @@ fn put_head<O: Out>(
 
 /// Writes the body of a stream of this kind, with so many records, whose names and parts begin at
 /// `place.at`.
-pub(crate) fn put_body<V: DumpView, O: Out>(
+pub(crate) fn write_body<V: DumpView, O: Out>(
     view: &mut V,
     out: &mut O,
     gather: &mut Gather<'_>,
@@ -91,8 +91,8 @@ pub(crate) fn put_body<V: DumpView, O: Out>(
     ensures moves { V.Moves view.old view.new }
 {
     match view.rewind(stream) {
-        Ok(()) => match put_head(out, gather, kind, count, place.far) {
-            Ok(()) => put_record_texts(view, out, gather, RecordText::Row, count, place.at),
+        Ok(()) => match write_head(out, gather, kind, count, place.far) {
+            Ok(()) => write_record_texts(view, out, gather, RecordText::Row, count, place.at),
             Err(fault) => Err(fault),
         },
         Err(fault) => Err(WriteFault::View(fault)),

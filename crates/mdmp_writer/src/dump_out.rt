@@ -14,10 +14,10 @@ ghost use Rattle.mdmp_writer.specs.Uses.{used, Uses};
 
 use crate::fault::WriteFault;
 use crate::gather::Gather;
-use crate::head_out::{put_directory, put_header};
+use crate::head_out::{write_directory, write_header};
 use crate::layout::{LayoutEnds, layout};
 use crate::place::StreamPlace;
-use crate::streams_out::{put_blocks, put_fars};
+use crate::streams_out::{write_blocks, write_fars};
 use mdmp_dump::DumpView;
 use mdmp_source::Out;
 
@@ -50,7 +50,7 @@ pub fn write_dump<V: DumpView, O: Out>(
         Err(fault) => return Err(WriteFault::Layout(fault)),
     };
     let mut gather = Gather::new(buffer);
-    match put_dump(view, out, &mut gather, ends) {
+    match write_gathered(view, out, &mut gather, ends) {
         Ok(()) => match gather.flush(out) {
             Ok(()) => Ok(ends.file),
             Err(fault) => Err(fault),
@@ -60,7 +60,7 @@ pub fn write_dump<V: DumpView, O: Out>(
 }
 
 /// Writes a dump that can be written, and that ends here.
-fn put_dump<V: DumpView, O: Out>(
+fn write_gathered<V: DumpView, O: Out>(
     view: &mut V,
     out: &mut O,
     gather: &mut Gather<'_>,
@@ -77,14 +77,14 @@ fn put_dump<V: DumpView, O: Out>(
     let header = view.header();
     let streams = view.streams();
     let first = 32 + 12 * streams;
-    match put_header(out, gather, header, streams) {
-        Ok(()) => match put_directory(view, out, gather, first) {
+    match write_header(out, gather, header, streams) {
+        Ok(()) => match write_directory(view, out, gather, first) {
             Ok(()) => {
                 let place = StreamPlace {
                     at: first,
                     far: ends.blocks,
                 };
-                put_streams(view, out, gather, place)
+                write_streams(view, out, gather, place)
             },
             Err(fault) => Err(fault),
         },
@@ -93,7 +93,7 @@ fn put_dump<V: DumpView, O: Out>(
 }
 
 /// Writes all streams, and their 64-bit memory behind them.
-fn put_streams<V: DumpView, O: Out>(
+fn write_streams<V: DumpView, O: Out>(
     view: &mut V,
     out: &mut O,
     gather: &mut Gather<'_>,
@@ -108,8 +108,8 @@ fn put_streams<V: DumpView, O: Out>(
     ensures uses { Uses result (used (V.shape view.old) (V.spent view.old) (O.state out.old)) (2 * all_costs (V.shape view.old)) (all_asks (V.shape view.old)) (used (V.shape view.new) (V.spent view.new) (O.state out.new)) }
     ensures moves { V.Moves view.old view.new }
 {
-    match put_blocks(view, out, gather, first) {
-        Ok(()) => put_fars(view, out, gather),
+    match write_blocks(view, out, gather, first) {
+        Ok(()) => write_fars(view, out, gather),
         Err(fault) => Err(fault),
     }
 }

@@ -11,8 +11,8 @@ ghost use Rattle.mdmp_writer.specs.Uses.{used, Uses};
 use crate::fault::WriteFault;
 use crate::gather::Gather;
 use crate::layout::is_far;
-use crate::pieces::put_padding;
-use crate::record_texts::{RecordText, put_record_texts};
+use crate::pieces::write_padding;
+use crate::record_texts::{RecordText, write_record_texts};
 use crate::sizes::count_of;
 use mdmp_dump::DumpView;
 use mdmp_lister::StreamKind;
@@ -20,7 +20,7 @@ use mdmp_source::Out;
 
 /// Writes the bytes of the ranges of a stream of 64-bit memory, so many, and the zeros behind them:
 /// they have so many bytes.
-fn put_memory<V: DumpView, O: Out>(
+fn write_memory<V: DumpView, O: Out>(
     view: &mut V,
     out: &mut O,
     gather: &mut Gather<'_>,
@@ -40,8 +40,8 @@ fn put_memory<V: DumpView, O: Out>(
     ensures moves { V.Moves view.old view.new }
 {
     match view.rewind(stream) {
-        Ok(()) => match put_record_texts(view, out, gather, RecordText::Memory, count, 0) {
-            Ok(()) => put_padding(out, gather, size),
+        Ok(()) => match write_record_texts(view, out, gather, RecordText::Memory, count, 0) {
+            Ok(()) => write_padding(out, gather, size),
             Err(fault) => Err(fault),
         },
         Err(fault) => Err(WriteFault::View(fault)),
@@ -49,7 +49,7 @@ fn put_memory<V: DumpView, O: Out>(
 }
 
 /// Writes the 64-bit memory of a stream and the zeros behind it: nothing of a stream of another kind.
-pub(crate) fn put_far<V: DumpView, O: Out>(
+pub(crate) fn write_far<V: DumpView, O: Out>(
     view: &mut V,
     out: &mut O,
     gather: &mut Gather<'_>,
@@ -67,7 +67,7 @@ pub(crate) fn put_far<V: DumpView, O: Out>(
     if is_far(view.kind(stream)) {
         let count = count_of(Some(StreamKind::Memory64), view.body_size(stream));
         let size = view.parts_size(stream);
-        return put_memory(view, out, gather, stream, count, size);
+        return write_memory(view, out, gather, stream, count, size);
     }
     Ok(())
 }

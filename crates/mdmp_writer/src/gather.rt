@@ -53,7 +53,7 @@ impl<'b> Gather<'b> {
     }
 
     /// Puts bytes behind those that are held.
-    pub(crate) fn put<O: Out>(&mut self, out: &mut O, bytes: &[u8]) -> Result<(), WriteFault>
+    pub(crate) fn write<O: Out>(&mut self, out: &mut O, bytes: &[u8]) -> Result<(), WriteFault>
         ensures writes { Writes result (gathered (O.state out.old) self.old) bytes.now (gathered (O.state out.new) self.new) }
         ensures cause { StopsAtOutput result (O.state out.old) (O.state out.new) }
     {

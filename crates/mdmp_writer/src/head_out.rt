@@ -9,13 +9,13 @@ ghost use Rattle.mdmp_writer.specs.Written.{directory, entry_by, header_of, type
 use crate::fault::WriteFault;
 use crate::gather::Gather;
 use crate::layout::{StreamRoom, room_for};
-use crate::record_bytes::put_record;
+use crate::record_bytes::write_record;
 use mdmp_dump::{DumpView, HeaderFields, Kind};
 use mdmp_source::{Location, Out};
 use mdmp_wire::{Entry, Header};
 
 /// Writes the header of a dump of so many streams.
-pub(crate) fn put_header<O: Out>(
+pub(crate) fn write_header<O: Out>(
     out: &mut O,
     gather: &mut Gather<'_>,
     header: HeaderFields,
@@ -34,7 +34,7 @@ pub(crate) fn put_header<O: Out>(
         time_date_stamp: header.time,
         flags: header.flags,
     };
-    put_record(out, gather, &header)
+    write_record(out, gather, &header)
 }
 
 /// The type that a stream has in the directory.
@@ -65,7 +65,7 @@ fn entry_at(room: StreamRoom, at: u64) -> Entry
 }
 
 /// Writes the directory of all streams, of which the first stands at a place.
-pub(crate) fn put_directory<V: DumpView, O: Out>(
+pub(crate) fn write_directory<V: DumpView, O: Out>(
     view: &mut V,
     out: &mut O,
     gather: &mut Gather<'_>,
@@ -83,7 +83,7 @@ pub(crate) fn put_directory<V: DumpView, O: Out>(
     let mut at = first;
     for stream in 0..view.streams() {
         let room = room_for(view, stream);
-        match put_record(out, gather, &entry_at(room, at)) {
+        match write_record(out, gather, &entry_at(room, at)) {
             Ok(()) => at += room.block(),
             Err(fault) => return Err(fault),
         }

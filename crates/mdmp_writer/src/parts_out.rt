@@ -11,15 +11,15 @@ ghost use Rattle.mdmp_writer.specs.Uses.{used, Uses};
 
 use crate::fault::WriteFault;
 use crate::gather::Gather;
-use crate::pieces::{put_padded, put_padding, put_part};
-use crate::record_bytes::put_record;
+use crate::pieces::{write_padded, write_padding, write_part};
+use crate::record_bytes::write_record;
 use mdmp_dump::{DumpView, Fields, PartSize};
 use mdmp_source::Out;
 use mdmp_wire::Slot;
 
 /// Writes the units of a name, of so many bytes, and the zeros behind them: two, and those up to a
 /// multiple of 4.
-fn put_units<V: DumpView, O: Out>(
+fn write_units<V: DumpView, O: Out>(
     view: &mut V,
     out: &mut O,
     gather: &mut Gather<'_>,
@@ -36,9 +36,9 @@ fn put_units<V: DumpView, O: Out>(
     ensures uses { Uses result (used (V.shape view.old) (V.spent view.old) (O.state out.old)) 0 size (used (V.shape view.new) (V.spent view.new) (O.state out.new)) }
     ensures moves { V.Moves view.old view.new }
 {
-    match put_part(view, out, gather, which, size) {
-        Ok(()) => match put_record(out, gather, &0u16) {
-            Ok(()) => put_padding(out, gather, 4 + size + 2),
+    match write_part(view, out, gather, which, size) {
+        Ok(()) => match write_record(out, gather, &0u16) {
+            Ok(()) => write_padding(out, gather, 4 + size + 2),
             Err(fault) => Err(fault),
         },
         Err(fault) => Err(fault),
@@ -46,7 +46,7 @@ fn put_units<V: DumpView, O: Out>(
 }
 
 /// Writes a name with its length, and the zeros behind it.
-fn put_name<V: DumpView, O: Out>(
+fn write_name<V: DumpView, O: Out>(
     view: &mut V,
     out: &mut O,
     gather: &mut Gather<'_>,
@@ -64,8 +64,8 @@ fn put_name<V: DumpView, O: Out>(
 {
     match name {
         PartSize::NoPart => Ok(()),
-        PartSize::Size(size) => match put_record(out, gather, &(size as u32)) {
-            Ok(()) => put_units(view, out, gather, which, size),
+        PartSize::Size(size) => match write_record(out, gather, &(size as u32)) {
+            Ok(()) => write_units(view, out, gather, which, size),
             Err(fault) => Err(fault),
         },
         PartSize::Absent(_) => Ok(()),
@@ -73,7 +73,7 @@ fn put_name<V: DumpView, O: Out>(
 }
 
 /// Writes what a slot is for, of this size: a name with its length, or a part, and the zeros behind it.
-fn put_slot<V: DumpView, O: Out>(
+fn write_slot<V: DumpView, O: Out>(
     view: &mut V,
     out: &mut O,
     gather: &mut Gather<'_>,
@@ -92,13 +92,13 @@ fn put_slot<V: DumpView, O: Out>(
 {
     match slot {
         Slot::Empty => Ok(()),
-        Slot::Name(_) => put_name(view, out, gather, which, part),
-        Slot::Part(_) => put_padded(view, out, gather, which, part),
+        Slot::Name(_) => write_name(view, out, gather, which, part),
+        Slot::Part(_) => write_padded(view, out, gather, which, part),
     }
 }
 
 /// Writes the names and parts of the record given last.
-pub(crate) fn put_fields_parts<V: DumpView, O: Out>(
+pub(crate) fn write_fields_parts<V: DumpView, O: Out>(
     view: &mut V,
     out: &mut O,
     gather: &mut Gather<'_>,
@@ -115,9 +115,9 @@ pub(crate) fn put_fields_parts<V: DumpView, O: Out>(
 {
     let [first, second, third] = fields.parts;
     let [one, two, three] = fields.wire.slots();
-    match put_slot(view, out, gather, 0, one, first) {
-        Ok(()) => match put_slot(view, out, gather, 1, two, second) {
-            Ok(()) => put_slot(view, out, gather, 2, three, third),
+    match write_slot(view, out, gather, 0, one, first) {
+        Ok(()) => match write_slot(view, out, gather, 1, two, second) {
+            Ok(()) => write_slot(view, out, gather, 2, three, third),
             Err(fault) => Err(fault),
         },
         Err(fault) => Err(fault),

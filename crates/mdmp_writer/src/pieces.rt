@@ -43,7 +43,7 @@ fn fetch_more<V: DumpView, O: Out>(
 }
 
 /// Writes the bytes of a part, a bufferful at a time.
-pub(crate) fn put_part<V: DumpView, O: Out>(
+pub(crate) fn write_part<V: DumpView, O: Out>(
     view: &mut V,
     out: &mut O,
     gather: &mut Gather<'_>,
@@ -72,7 +72,7 @@ pub(crate) fn put_part<V: DumpView, O: Out>(
 }
 
 /// Writes the zeros behind so many bytes.
-pub(crate) fn put_padding<O: Out>(
+pub(crate) fn write_padding<O: Out>(
     out: &mut O,
     gather: &mut Gather<'_>,
     size: u64,
@@ -82,11 +82,11 @@ pub(crate) fn put_padding<O: Out>(
 {
     let zeros = [0u8; 3];
     let count = ((4 - size % 4) % 4) as usize;
-    gather.put(out, &zeros[..count])
+    gather.write(out, &zeros[..count])
 }
 
 /// Writes a part and the zeros behind it.
-pub(crate) fn put_padded<V: DumpView, O: Out>(
+pub(crate) fn write_padded<V: DumpView, O: Out>(
     view: &mut V,
     out: &mut O,
     gather: &mut Gather<'_>,
@@ -102,8 +102,8 @@ pub(crate) fn put_padded<V: DumpView, O: Out>(
     ensures moves { V.Moves view.old view.new }
 {
     let size = part.size();
-    match put_part(view, out, gather, which, size) {
-        Ok(()) => put_padding(out, gather, size),
+    match write_part(view, out, gather, which, size) {
+        Ok(()) => write_padding(out, gather, size),
         Err(fault) => Err(fault),
     }
 }

@@ -11,7 +11,7 @@ use mdmp_source::Out;
 use mdmp_wire::{AnyRecord, Record};
 
 /// Writes a record of at most 168 bytes, which the longest has.
-pub(crate) fn put_record<R: Record, O: Out>(
+pub(crate) fn write_record<R: Record, O: Out>(
     out: &mut O,
     gather: &mut Gather<'_>,
     value: &R,
@@ -24,11 +24,11 @@ pub(crate) fn put_record<R: Record, O: Out>(
     let mut buffer = [0; 168];
     let bytes = &mut buffer[..R::SIZE];
     value.write(bytes);
-    gather.put(out, bytes)
+    gather.write(out, bytes)
 }
 
 /// Writes a record of any kind.
-pub(crate) fn put_any<O: Out>(
+pub(crate) fn write_any<O: Out>(
     out: &mut O,
     gather: &mut Gather<'_>,
     row: &AnyRecord,
@@ -38,14 +38,14 @@ pub(crate) fn put_any<O: Out>(
     ensures cause { StopsAtOutput result (O.state out.old) (O.state out.new) }
 {
     match row {
-        AnyRecord::Thread(thread) => put_record(out, gather, thread),
-        AnyRecord::Module(module) => put_record(out, gather, module),
-        AnyRecord::Memory(range) => put_record(out, gather, range),
-        AnyRecord::Exception(exception) => put_record(out, gather, exception),
-        AnyRecord::System(system) => put_record(out, gather, system),
-        AnyRecord::Memory64(range) => put_record(out, gather, range),
-        AnyRecord::Unloaded(module) => put_record(out, gather, module),
-        AnyRecord::MemoryInfo(region) => put_record(out, gather, region),
-        AnyRecord::ThreadName(thread) => put_record(out, gather, thread),
+        AnyRecord::Thread(thread) => write_record(out, gather, thread),
+        AnyRecord::Module(module) => write_record(out, gather, module),
+        AnyRecord::Memory(range) => write_record(out, gather, range),
+        AnyRecord::Exception(exception) => write_record(out, gather, exception),
+        AnyRecord::System(system) => write_record(out, gather, system),
+        AnyRecord::Memory64(range) => write_record(out, gather, range),
+        AnyRecord::Unloaded(module) => write_record(out, gather, module),
+        AnyRecord::MemoryInfo(region) => write_record(out, gather, region),
+        AnyRecord::ThreadName(thread) => write_record(out, gather, thread),
     }
 }

@@ -10,9 +10,9 @@ ghost use Rattle.mdmp_writer.specs.Uses.{used, Uses};
 
 use crate::fault::WriteFault;
 use crate::gather::Gather;
-use crate::parts_out::put_fields_parts;
-use crate::pieces::put_part;
-use crate::record_bytes::put_any;
+use crate::parts_out::write_fields_parts;
+use crate::pieces::write_part;
+use crate::record_bytes::write_any;
 use mdmp_dump::{DumpView, Fields};
 use mdmp_source::Out;
 
@@ -28,7 +28,7 @@ pub(crate) enum RecordText {
 }
 
 /// Writes this of the record given last, whose name and parts begin at a place.
-fn put_record_text<V: DumpView, O: Out>(
+fn write_record_text<V: DumpView, O: Out>(
     view: &mut V,
     out: &mut O,
     gather: &mut Gather<'_>,
@@ -47,18 +47,18 @@ fn put_record_text<V: DumpView, O: Out>(
     ensures moves { V.Moves view.old view.new }
 {
     match text {
-        RecordText::Row => put_any(out, gather, &fields.placed(at)),
-        RecordText::Parts => put_fields_parts(view, out, gather, fields),
+        RecordText::Row => write_any(out, gather, &fields.placed(at)),
+        RecordText::Parts => write_fields_parts(view, out, gather, fields),
         RecordText::Memory => {
             let [range, _, _] = fields.parts;
-            put_part(view, out, gather, 0, range.size())
+            write_part(view, out, gather, 0, range.size())
         },
     }
 }
 
 /// Writes this of all records that are left of a stream, so many. The names and parts of the first one
 /// begin at a place, which rows alone tell.
-pub(crate) fn put_record_texts<V: DumpView, O: Out>(
+pub(crate) fn write_record_texts<V: DumpView, O: Out>(
     view: &mut V,
     out: &mut O,
     gather: &mut Gather<'_>,
@@ -80,7 +80,7 @@ pub(crate) fn put_record_texts<V: DumpView, O: Out>(
     let mut left = count;
     while left > 0 {
         match view.next_record() {
-            Ok(fields) => match put_record_text(view, out, gather, text, &fields, place) {
+            Ok(fields) => match write_record_text(view, out, gather, text, &fields, place) {
                 Ok(()) => {
                     place += fields.room() as u64;
                     left -= 1;

@@ -8,8 +8,8 @@ ghost use Rattle.mdmp_writer.specs.Passes.{all_block_asks, all_block_passes, all
 ghost use Rattle.mdmp_writer.specs.Written.{blocks, far_texts};
 ghost use Rattle.mdmp_writer.specs.Uses.{used, Uses};
 
-use crate::block_out::put_block;
-use crate::far_out::put_far;
+use crate::block_out::write_block;
+use crate::far_out::write_far;
 use crate::fault::WriteFault;
 use crate::gather::Gather;
 use crate::layout::room_for;
@@ -18,7 +18,7 @@ use mdmp_dump::DumpView;
 use mdmp_source::Out;
 
 /// Writes all streams, from the place of the first.
-pub(crate) fn put_blocks<V: DumpView, O: Out>(
+pub(crate) fn write_blocks<V: DumpView, O: Out>(
     view: &mut V,
     out: &mut O,
     gather: &mut Gather<'_>,
@@ -38,7 +38,7 @@ pub(crate) fn put_blocks<V: DumpView, O: Out>(
     let mut far = first.far;
     for stream in 0..view.streams() {
         let room = room_for(view, stream);
-        match put_block(view, out, gather, stream, room, StreamPlace { at, far }) {
+        match write_block(view, out, gather, stream, room, StreamPlace { at, far }) {
             Ok(()) => {
                 at += room.block();
                 far += room.far;
@@ -50,7 +50,7 @@ pub(crate) fn put_blocks<V: DumpView, O: Out>(
 }
 
 /// Writes the 64-bit memory of all streams.
-pub(crate) fn put_fars<V: DumpView, O: Out>(
+pub(crate) fn write_fars<V: DumpView, O: Out>(
     view: &mut V,
     out: &mut O,
     gather: &mut Gather<'_>,
@@ -64,7 +64,7 @@ pub(crate) fn put_fars<V: DumpView, O: Out>(
     ensures moves { V.Moves view.old view.new }
 {
     for stream in 0..view.streams() {
-        match put_far(view, out, gather, stream) {
+        match write_far(view, out, gather, stream) {
             Ok(()) => {},
             Err(fault) => return Err(fault),
         }
