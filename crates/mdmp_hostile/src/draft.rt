@@ -71,51 +71,51 @@ impl Draft {
     }
 
     /// Puts bytes.
-    pub fn add_bytes(&mut self, bytes: &[u8]) {
+    pub fn put_bytes(&mut self, bytes: &[u8]) {
         if self.bytes.extend_from_slice(bytes).is_err() {
             self.lacks_memory = true;
         }
     }
 
     /// Puts a number of four bytes.
-    pub fn add_word(&mut self, value: u32) {
-        self.add_bytes(&value.to_le_bytes());
+    pub fn put_word(&mut self, value: u32) {
+        self.put_bytes(&value.to_le_bytes());
     }
 
     /// Puts numbers of four bytes.
-    pub fn add_words(&mut self, values: &[u32]) {
+    pub fn put_words(&mut self, values: &[u32]) {
         for value in values {
-            self.add_word(*value);
+            self.put_word(*value);
         }
     }
 
     /// Puts a number of four bytes that a reader goes by.
-    pub fn add_number(&mut self, belongs: Belongs, value: u32) {
+    pub fn put_number(&mut self, belongs: Belongs, value: u32) {
         self.mark(belongs, 4);
-        self.add_word(value);
+        self.put_word(value);
     }
 
     /// Puts a number of eight bytes that a reader goes by.
-    pub fn add_wide_number(&mut self, belongs: Belongs, value: u64) {
+    pub fn put_wide_number(&mut self, belongs: Belongs, value: u64) {
         self.mark(belongs, 8);
-        self.add_bytes(&value.to_le_bytes());
+        self.put_bytes(&value.to_le_bytes());
     }
 
     /// Puts any bytes.
-    pub fn add_noise(&mut self, chance: &mut Chance, size: u32) {
+    pub fn put_noise(&mut self, chance: &mut Chance, size: u32) {
         for _ in 0..size {
-            self.add_bytes(&[chance.byte()]);
+            self.put_bytes(&[chance.byte()]);
         }
     }
 
     /// Puts bytes so that what follows begins at a multiple of 4, or does not.
-    pub fn add_gap(&mut self, chance: &mut Chance) {
+    pub fn put_gap(&mut self, chance: &mut Chance) {
         let gap = if chance.once_in(2) {
             3 - (self.end().wrapping_sub(1) & 3)
         } else {
             chance.below(4)
         };
-        self.add_noise(chance, gap);
+        self.put_noise(chance, gap);
     }
 
     /// Adds an entry, which is not written yet.

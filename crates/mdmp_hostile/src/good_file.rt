@@ -3,18 +3,18 @@
 use crate::chance::Chance;
 use crate::draft::{Belongs, Draft, DraftEntry};
 use crate::pool::DraftNames;
-use crate::streams::add_stream;
+use crate::streams::put_stream;
 use std::alloc::Global;
 
 /// A file of any streams, whose directory stands behind the header or behind all else.
 pub fn make_good_file(alloc: Global, chance: &mut Chance) -> Draft {
     let mut draft = Draft::new(alloc);
     let count = chance.below(13);
-    add_header(&mut draft, chance, count);
+    put_header(&mut draft, chance, count);
     let in_front = chance.once_in(2);
     let mut place = 0;
     if in_front {
-        place = add_directory(&mut draft, chance, count);
+        place = put_directory(&mut draft, chance, count);
     }
     let names = DraftNames::put(&mut draft, chance);
     for _ in 0..count {
@@ -22,7 +22,7 @@ pub fn make_good_file(alloc: Global, chance: &mut Chance) -> Draft {
         draft.add_entry(entry);
     }
     if !in_front {
-        place = add_directory(&mut draft, chance, count);
+        place = put_directory(&mut draft, chance, count);
     }
     if chance.once_in(2) {
         draft.entries.reverse();
@@ -32,21 +32,21 @@ pub fn make_good_file(alloc: Global, chance: &mut Chance) -> Draft {
 }
 
 /// Puts a header, whose directory stands anywhere.
-fn add_header(draft: &mut Draft, chance: &mut Chance, count: u32) {
-    draft.add_number(Belongs::Header, 0x504d_444d);
+fn put_header(draft: &mut Draft, chance: &mut Chance, count: u32) {
+    draft.put_number(Belongs::Header, 0x504d_444d);
     let version = u32::from(chance.unit()) << 16 | 0xa793;
-    draft.add_number(Belongs::Header, version);
-    draft.add_number(Belongs::Header, count);
-    draft.add_number(Belongs::Header, chance.word());
-    draft.add_noise(chance, 16);
+    draft.put_number(Belongs::Header, version);
+    draft.put_number(Belongs::Header, count);
+    draft.put_number(Belongs::Header, chance.word());
+    draft.put_noise(chance, 16);
 }
 
 /// Puts a directory of so many entries, any bytes as yet, and gives its place.
-fn add_directory(draft: &mut Draft, chance: &mut Chance, count: u32) -> usize {
-    draft.add_gap(chance);
+fn put_directory(draft: &mut Draft, chance: &mut Chance, count: u32) -> usize {
+    draft.put_gap(chance);
     let place = draft.bytes.len();
     for _ in 0..count.saturating_mul(3) {
-        draft.add_number(Belongs::Directory, 0);
+        draft.put_number(Belongs::Directory, 0);
     }
     place
 }
@@ -58,7 +58,7 @@ fn any_entry(draft: &mut Draft, names: &DraftNames, chance: &mut Chance) -> Draf
             return *entry;
         }
     }
-    add_stream(draft, names, chance)
+    put_stream(draft, names, chance)
 }
 
 /// Writes the entries over what stands at a place, and the place into the header. With no entry it is

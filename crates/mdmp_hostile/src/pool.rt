@@ -20,11 +20,11 @@ impl DraftNames {
         let mut rvas = [0; 4];
         let count = chance.index(5);
         for k in 0..count {
-            draft.add_gap(chance);
+            draft.put_gap(chance);
             if let Some(rva) = rvas.get_mut(k) {
                 *rva = draft.end();
             }
-            add_name(draft, chance);
+            put_name(draft, chance);
         }
         DraftNames { rvas, count }
     }
@@ -42,13 +42,13 @@ impl DraftNames {
 }
 
 /// Puts a name of any units.
-fn add_name(draft: &mut Draft, chance: &mut Chance) {
+fn put_name(draft: &mut Draft, chance: &mut Chance) {
     let units = unit_count(chance);
-    draft.add_number(Belongs::Name, units.saturating_mul(2));
+    draft.put_number(Belongs::Name, units.saturating_mul(2));
     for _ in 0..units {
-        draft.add_bytes(&chance.unit().to_le_bytes());
+        draft.put_bytes(&chance.unit().to_le_bytes());
     }
-    draft.add_bytes(&[0, 0]);
+    draft.put_bytes(&[0, 0]);
 }
 
 /// How many units a name has: mostly as many as are read, at times none, the most, or too many.

@@ -37,63 +37,63 @@ impl ListedRecord {
     /// Puts one into a file.
     pub fn put(self, draft: &mut Draft, names: &DraftNames, chance: &mut Chance) {
         match self {
-            ListedRecord::Thread => add_thread(draft, chance),
-            ListedRecord::Module => add_module(draft, names, chance),
-            ListedRecord::Range => add_range(draft, chance),
-            ListedRecord::Unloaded => add_unloaded(draft, names, chance),
-            ListedRecord::MemoryInfo => draft.add_noise(chance, 48),
-            ListedRecord::ThreadName => add_thread_name(draft, names, chance),
+            ListedRecord::Thread => put_thread(draft, chance),
+            ListedRecord::Module => put_module(draft, names, chance),
+            ListedRecord::Range => put_range(draft, chance),
+            ListedRecord::Unloaded => put_unloaded(draft, names, chance),
+            ListedRecord::MemoryInfo => draft.put_noise(chance, 48),
+            ListedRecord::ThreadName => put_thread_name(draft, names, chance),
         }
     }
 }
 
-fn add_thread(draft: &mut Draft, chance: &mut Chance) {
-    draft.add_noise(chance, 32);
-    add_part(draft, chance);
-    add_part(draft, chance)
+fn put_thread(draft: &mut Draft, chance: &mut Chance) {
+    draft.put_noise(chance, 32);
+    put_part(draft, chance);
+    put_part(draft, chance)
 }
 
-fn add_module(draft: &mut Draft, names: &DraftNames, chance: &mut Chance) {
-    draft.add_noise(chance, 20);
-    draft.add_number(Belongs::Record, names.any(chance));
-    draft.add_noise(chance, 52);
-    add_part(draft, chance);
-    add_part(draft, chance);
-    draft.add_noise(chance, 16)
+fn put_module(draft: &mut Draft, names: &DraftNames, chance: &mut Chance) {
+    draft.put_noise(chance, 20);
+    draft.put_number(Belongs::Record, names.any(chance));
+    draft.put_noise(chance, 52);
+    put_part(draft, chance);
+    put_part(draft, chance);
+    draft.put_noise(chance, 16)
 }
 
-fn add_range(draft: &mut Draft, chance: &mut Chance) {
-    draft.add_noise(chance, 8);
-    add_part(draft, chance)
+fn put_range(draft: &mut Draft, chance: &mut Chance) {
+    draft.put_noise(chance, 8);
+    put_part(draft, chance)
 }
 
-fn add_unloaded(draft: &mut Draft, names: &DraftNames, chance: &mut Chance) {
-    draft.add_noise(chance, 20);
-    draft.add_number(Belongs::Record, names.any(chance))
+fn put_unloaded(draft: &mut Draft, names: &DraftNames, chance: &mut Chance) {
+    draft.put_noise(chance, 20);
+    draft.put_number(Belongs::Record, names.any(chance))
 }
 
-fn add_thread_name(draft: &mut Draft, names: &DraftNames, chance: &mut Chance) {
-    draft.add_noise(chance, 4);
-    draft.add_wide_number(Belongs::Record, u64::from(names.any(chance)))
+fn put_thread_name(draft: &mut Draft, names: &DraftNames, chance: &mut Chance) {
+    draft.put_noise(chance, 4);
+    draft.put_wide_number(Belongs::Record, u64::from(names.any(chance)))
 }
 
 /// Puts a `MINIDUMP_EXCEPTION_STREAM`.
-pub fn add_exception(draft: &mut Draft, chance: &mut Chance) {
-    draft.add_noise(chance, 32);
-    draft.add_number(Belongs::Record, chance.below(20));
-    draft.add_noise(chance, 124);
-    add_part(draft, chance)
+pub fn put_exception(draft: &mut Draft, chance: &mut Chance) {
+    draft.put_noise(chance, 32);
+    draft.put_number(Belongs::Record, chance.below(20));
+    draft.put_noise(chance, 124);
+    put_part(draft, chance)
 }
 
 /// Puts a `MINIDUMP_SYSTEM_INFO`.
-pub fn add_system(draft: &mut Draft, names: &DraftNames, chance: &mut Chance) {
-    draft.add_noise(chance, 24);
-    draft.add_number(Belongs::Record, names.any(chance));
-    draft.add_noise(chance, 28)
+pub fn put_system(draft: &mut Draft, names: &DraftNames, chance: &mut Chance) {
+    draft.put_noise(chance, 24);
+    draft.put_number(Belongs::Record, names.any(chance));
+    draft.put_noise(chance, 28)
 }
 
-fn add_part(draft: &mut Draft, chance: &mut Chance) {
+fn put_part(draft: &mut Draft, chance: &mut Chance) {
     let part = any_part(draft, chance);
-    draft.add_number(Belongs::Record, part.size);
-    draft.add_number(Belongs::Record, part.rva);
+    draft.put_number(Belongs::Record, part.size);
+    draft.put_number(Belongs::Record, part.rva);
 }

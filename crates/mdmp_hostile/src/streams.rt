@@ -3,24 +3,24 @@
 use crate::chance::Chance;
 use crate::draft::{Belongs, Draft, DraftEntry};
 use crate::pool::{DraftNames, stretch};
-use crate::records::{ListedRecord, add_exception, add_system};
+use crate::records::{ListedRecord, put_exception, put_system};
 use mdmp_lister::StreamKind;
 use mdmp_source::Location;
 
 /// Puts a stream of any type into a file, and gives its entry.
-pub fn add_stream(draft: &mut Draft, names: &DraftNames, chance: &mut Chance) -> DraftEntry {
-    draft.add_gap(chance);
+pub fn put_stream(draft: &mut Draft, names: &DraftNames, chance: &mut Chance) -> DraftEntry {
+    draft.put_gap(chance);
     match chance.below(13) {
         0 => unused(chance),
-        1 => add_list(draft, names, chance, 3, ListedRecord::Thread),
-        2 | 3 => add_list(draft, names, chance, 4, ListedRecord::Module),
-        4 => add_list(draft, names, chance, 5, ListedRecord::Range),
-        5 => add_single(draft, names, chance, 6),
-        6 => add_single(draft, names, chance, 7),
-        7 => add_wide_ranges(draft, chance),
-        8 | 9 => add_strided_list(draft, names, chance, ListedRecord::Unloaded),
-        10 => add_strided_list(draft, names, chance, ListedRecord::MemoryInfo),
-        11 => add_list(draft, names, chance, 24, ListedRecord::ThreadName),
+        1 => put_list(draft, names, chance, 3, ListedRecord::Thread),
+        2 | 3 => put_list(draft, names, chance, 4, ListedRecord::Module),
+        4 => put_list(draft, names, chance, 5, ListedRecord::Range),
+        5 => put_single(draft, names, chance, 6),
+        6 => put_single(draft, names, chance, 7),
+        7 => put_wide_ranges(draft, chance),
+        8 | 9 => put_strided_list(draft, names, chance, ListedRecord::Unloaded),
+        10 => put_strided_list(draft, names, chance, ListedRecord::MemoryInfo),
+        11 => put_list(draft, names, chance, 24, ListedRecord::ThreadName),
         _ => opaque(draft, chance),
     }
 }
@@ -69,7 +69,7 @@ fn opaque_type(chance: &mut Chance) -> u32 {
 }
 
 /// A list of type 3, 4, 5 or 24: behind its count, or behind four bytes more.
-fn add_list(
+fn put_list(
     draft: &mut Draft,
     names: &DraftNames,
     chance: &mut Chance,
@@ -78,22 +78,22 @@ fn add_list(
 ) -> DraftEntry {
     let rva = draft.end();
     let count = chance.below(6);
-    draft.add_number(Belongs::Head, count);
+    draft.put_number(Belongs::Head, count);
     let padded = chance.once_in(3);
     if padded {
-        draft.add_noise(chance, 4);
+        draft.put_noise(chance, 4);
     }
     for _ in 0..count {
         record.put(draft, names, chance);
     }
     if !padded {
-        add_slack(draft, chance);
+        put_slack(draft, chance);
     }
     entry_from(draft, stream_type, rva, count)
 }
 
 /// Type 6 or 7: one record.
-fn add_single(
+fn put_single(
     draft: &mut Draft,
     names: &DraftNames,
     chance: &mut Chance,
@@ -101,34 +101,34 @@ fn add_single(
 ) -> DraftEntry {
     let rva = draft.end();
     if stream_type == 6 {
-        add_exception(draft, chance);
+        put_exception(draft, chance);
     } else {
-        add_system(draft, names, chance);
+        put_system(draft, names, chance);
     }
-    add_slack(draft, chance);
+    put_slack(draft, chance);
     entry_from(draft, stream_type, rva, 1)
 }
 
 /// Type 9: ranges whose bytes stand behind each other, anywhere in the file so far.
-fn add_wide_ranges(draft: &mut Draft, chance: &mut Chance) -> DraftEntry {
+fn put_wide_ranges(draft: &mut Draft, chance: &mut Chance) -> DraftEntry {
     let rva = draft.end();
     let count = chance.below(6);
     let base = chance.below(rva);
     let mut left = rva.saturating_sub(base);
-    draft.add_wide_number(Belongs::Head, u64::from(count));
-    draft.add_wide_number(Belongs::Head, u64::from(base));
+    draft.put_wide_number(Belongs::Head, u64::from(count));
+    draft.put_wide_number(Belongs::Head, u64::from(base));
     for _ in 0..count {
         let size = chance.below(left.saturating_add(1).min(80));
         left = left.saturating_sub(size);
-        draft.add_noise(chance, 8);
-        draft.add_wide_number(Belongs::Record, u64::from(size));
+        draft.put_noise(chance, 8);
+        draft.put_wide_number(Belongs::Record, u64::from(size));
     }
-    add_slack(draft, chance);
+    put_slack(draft, chance);
     entry_from(draft, 9, rva, count)
 }
 
 /// Type 14 or 16: records that may be larger than they are known, behind a head that may be.
-fn add_strided_list(
+fn put_strided_list(
     draft: &mut Draft,
     names: &DraftNames,
     chance: &mut Chance,
@@ -140,19 +140,19 @@ fn add_strided_list(
     let more_head = any_growth(chance);
     let more_record = any_growth(chance);
     let head_size: u32 = if wide { 16 } else { 12 };
-    draft.add_number(Belongs::Head, head_size.saturating_add(more_head));
-    draft.add_number(Belongs::Head, stride_of(record, count, more_record, chance));
+    draft.put_number(Belongs::Head, head_size.saturating_add(more_head));
+    draft.put_number(Belongs::Head, stride_of(record, count, more_record, chance));
     if wide {
-        draft.add_wide_number(Belongs::Head, u64::from(count));
+        draft.put_wide_number(Belongs::Head, u64::from(count));
     } else {
-        draft.add_number(Belongs::Head, count);
+        draft.put_number(Belongs::Head, count);
     }
-    draft.add_noise(chance, more_head);
+    draft.put_noise(chance, more_head);
     for _ in 0..count {
         record.put(draft, names, chance);
-        draft.add_noise(chance, more_record);
+        draft.put_noise(chance, more_record);
     }
-    add_slack(draft, chance);
+    put_slack(draft, chance);
     entry_from(draft, if wide { 16 } else { 14 }, rva, count)
 }
 
@@ -175,13 +175,13 @@ fn any_growth(chance: &mut Chance) -> u32 {
 }
 
 /// Puts bytes behind the records that are not looked at: any number but four, which would be padding.
-fn add_slack(draft: &mut Draft, chance: &mut Chance) {
+fn put_slack(draft: &mut Draft, chance: &mut Chance) {
     let slack = match chance.below(6) {
         0 => chance.below(4),
         1 => chance.below(60).saturating_add(5),
         _ => 0,
     };
-    draft.add_noise(chance, slack)
+    draft.put_noise(chance, slack)
 }
 
 /// The entry of a stream that stands from here to the end of the file so far.
