@@ -9,7 +9,7 @@ ghost use Rattle.mdmp_lister.specs.Format.Listing.{Run};
 ghost use Rattle.mdmp_lister.specs.Sink.{names_of_all};
 ghost use Rattle.mdmp_source.specs.Store.{IsGood};
 ghost use Rattle.mdmp_print.specs.Forms.{dump_line_in};
-ghost use Rattle.mdmp_tool.specs.Text.{run_text};
+ghost use Rattle.mdmp_engines.specs.Text.{run_text};
 ghost use Rattle.mdmp_print.specs.declared.form.LineForm.TheVariants.{Text};
 
 use crate::fault::{PlainFault, of_kind, open_fault};
@@ -17,9 +17,9 @@ use crate::giving::refuse;
 use crate::limits::{PlainLimits, limits_of};
 use crate::text_part::TextPart;
 use crate::tool_fault::list_answer;
+use mdmp_engines::{LineForm, ToolFault, list_next, print_dump};
 use mdmp_lister::{Choice, Lister};
 use mdmp_source::{MemoryStore, OutFailed, Source, Store, WriteOut};
-use mdmp_tool::{LineForm, ToolFault, list_next, print_dump};
 use std::alloc::{AllocError, Allocator, Global};
 
 /// Gives what follows the first `skip` bytes of the text of `list`, as [`mdmp_list_`](crate::mdmp_list_)

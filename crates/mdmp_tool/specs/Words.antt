@@ -7,11 +7,11 @@ use Rattle.mdmp_source.specs.Source.{SourceState}
 use Rattle.mdmp_disk.specs.Disk.{DiskState, FileAt, FileState, IsOpenedFile, IsPresent, KeepsOthers, bytes_of_file, make_counted, open_counted, opened_once, present, open_refused}
 use Rattle.mdmp_lister.specs.declared.limits.Limits.{Limits}
 use Rattle.mdmp_tool.specs.Commands.{HasCopied, HasPrinted, IsLineTold}
-use Rattle.mdmp_tool.specs.Copying.{first_not_copied}
-use Rattle.mdmp_tool.specs.Faults.{fault_text, exit_status}
+use Rattle.mdmp_engines.specs.Copying.{first_not_copied}
+use Rattle.mdmp_engines.specs.Faults.{fault_text, exit_status}
 use Rattle.mdmp_words.specs.Requests.{AsksFor, AsksNothing, IsValid}
-use Rattle.mdmp_tool.specs.declared.fault.ToolFault.{ToolFault}
-use Rattle.mdmp_tool.specs.declared.fault.ToolFault.TheVariants.{Memory, NotCopied, Out}
+use Rattle.mdmp_engines.specs.declared.fault.ToolFault.{ToolFault}
+use Rattle.mdmp_engines.specs.declared.fault.ToolFault.TheVariants.{Memory, NotCopied, Out}
 use Rattle.mdmp_words.specs.declared.request.Asked.{Asked}
 use Rattle.mdmp_words.specs.declared.request.Asked.TheVariants as asks
 use Rattle.mdmp_words.specs.declared.request.Command.{Command}

@@ -3,11 +3,10 @@ ghost use Rattle.std.specs.Prelude.{◌≡◌, []};
 ghost use Rattle.mdmp_tool.specs.Commands.{HasCopied, HasPrinted, IsCheckEnd, IsEnd};
 ghost use Rattle.mdmp_words.specs.Requests.{IsPrintable};
 
-use crate::blocks::{check_in_blocks, hex_in_blocks, list_in_blocks};
-use crate::copy::copy_source;
-use crate::engine::RunAnswered;
-use crate::fault::{ToolFault, status};
-use crate::fault_lines::fault_line;
+use mdmp_engines::{
+    RunAnswered, ToolFault, check_in_blocks, copy_source, fault_line, hex_in_blocks,
+    list_in_blocks, status,
+};
 use mdmp_lister::{Limits, TypeSet};
 use mdmp_print::{LineOut, print_error, row};
 use mdmp_source::{Out, Source, Store};

@@ -8,10 +8,9 @@ ghost use Rattle.mdmp_disk.specs.System.{no_requests, system};
 ghost use Rattle.mdmp_disk.specs.declared.disk.Requests.{Requests};
 ghost use Rattle.mdmp_tool.specs.Words.{EndsAsked, EndsCommand, EndsCopy, EndsPrint, EndsWords, Helps, HelpsInPart};
 
-use crate::copy::first_not_copied;
-use crate::fault::ToolFault;
 use crate::running::{copy_told, print_told, tell};
 use mdmp_disk::{Disk, SystemDisk};
+use mdmp_engines::{ToolFault, first_not_copied};
 use mdmp_lister::{Limits, TypeSet};
 use mdmp_print::{LineOut, print_error, print_error_named};
 use mdmp_source::{Out, OutFailed, Source, write_all};

@@ -8,7 +8,8 @@ use Rattle.clap.specs.declared.error.kind.ErrorKind.{ErrorKind}
 use Rattle.clap.specs.declared.error.kind.ErrorKind.TheVariants.{DisplayHelp, DisplayVersion, OutOfMemory}
 use Rattle.mdmp_map.specs.Ranges.{address_end}
 use Rattle.mdmp_words.specs.CommandLine.{commands}
-use Rattle.mdmp_words.specs.NumberWords.{length_limit, span_named}
+use Rattle.mdmp_print.specs.HexText.{length_limit}
+use Rattle.mdmp_words.specs.NumberWords.{span_named}
 use Rattle.mdmp_words.specs.OptionWords.{LimitTexts, Sizes, limits_named, sizes_in_limits, types_named}
 use Rattle.mdmp_words.specs.declared.number_words.Span.{Span}
 use Rattle.mdmp_words.specs.declared.request.Asked.{Asked}

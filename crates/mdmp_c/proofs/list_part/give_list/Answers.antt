@@ -9,9 +9,9 @@ use Rattle.mdmp_c.specs.Limits.{AreLimits, EndsText, KeepsMemory, ends_text, mos
 use Rattle.mdmp_lister.specs.Sink.{names_of_all}
 use Rattle.mdmp_c.specs.TextPart.{EndsTextAt, IsListPart, IsPartOf, PutsRun}
 use Rattle.mdmp_c.specs.ToolFault.{list_answer}
-use Rattle.mdmp_tool.specs.declared.fault.ToolFault.{ToolFault}
+use Rattle.mdmp_engines.specs.declared.fault.ToolFault.{ToolFault}
 use Rattle.mdmp_print.specs.Forms.{dump_line_in}
-use Rattle.mdmp_tool.specs.Text.{run_text}
+use Rattle.mdmp_engines.specs.Text.{run_text}
 use Rattle.mdmp_wire.specs.declared.header.Header.{Header}
 use Rattle.mdmp_c.proofs.Ending.{Ends-refused, keeps_memory}
 use Rattle.mdmp_c.proofs.Listed.{Ends-part, all_parts, no_part}

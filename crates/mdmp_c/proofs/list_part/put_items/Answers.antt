@@ -4,14 +4,14 @@ use Rattle.mdmp_source.specs.Output.{OutState}
 use Rattle.mdmp_source.specs.Store.{IsGood}
 use Rattle.mdmp_lister.proofs.Fetches.{IsGood-later}
 use Rattle.mdmp_lister.specs.Lister.{tail}
-use Rattle.mdmp_tool.proofs.Printing.{next_told, next_within}
-use Rattle.mdmp_tool.specs.Text.{next_lines}
-use Rattle.mdmp_tool.proofs.SameRuns.{run_then}
+use Rattle.mdmp_engines.proofs.Printing.{next_told, next_within}
+use Rattle.mdmp_engines.specs.Text.{next_lines}
+use Rattle.mdmp_engines.proofs.SameRuns.{run_then}
 use Rattle.mdmp_c.proofs.Listed.{HasGiven-next, among_given, PutsRun-end, PutsRun-ended, lines_taken}
 use Rattle.mdmp_c.specs.Limits.{most_read}
 use Rattle.mdmp_c.specs.TextPart.{EndsTextAt}
 use Rattle.mdmp_lister.specs.Sink.{names_of_all}
-use Rattle.mdmp_tool.proofs.Reached.{HasNamed-fault, HasNamed-next}
+use Rattle.mdmp_engines.proofs.Reached.{HasNamed-fault, HasNamed-next}
 use Rattle.mdmp_c.proofs.Stopping.{text_over}
 use Rattle.mdmp_c.proofs.list_part.put_items.Goals as goal
 

@@ -3,8 +3,8 @@ use Rattle.mdmp_lister.specs.Memory.{is_within}
 use Rattle.mdmp_source.specs.Source.{FetchesSome}
 use Rattle.mdmp_source.specs.Store.{IsGood}
 use Rattle.mdmp_lister.specs.Format.Listing.{Run}
-use Rattle.mdmp_tool.proofs.Reached.{HasNamed}
-use Rattle.mdmp_tool.specs.Engines.{IsSameRun}
+use Rattle.mdmp_engines.proofs.Reached.{HasNamed}
+use Rattle.mdmp_engines.specs.Engines.{IsSameRun}
 use Rattle.mdmp_c.specs.TextPart.{IsPartOf}
 use Rattle.mdmp_c.proofs.Listed.{HasGiven}
 use Rattle.mdmp_c.proofs.list_part.put_items.Given as goal

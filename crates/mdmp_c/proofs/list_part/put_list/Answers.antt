@@ -3,7 +3,7 @@ use Rattle.mdmp_lister.specs.Sink.{names_of_all}
 use Rattle.mdmp_source.specs.Output.{OutState}
 use Rattle.mdmp_wire.specs.declared.header.Header.{Header}
 use Rattle.mdmp_print.specs.Forms.{dump_line_in}
-use Rattle.mdmp_tool.specs.Text.{run_text}
+use Rattle.mdmp_engines.specs.Text.{run_text}
 use Rattle.mdmp_c.specs.Limits.{most_read}
 use Rattle.mdmp_c.specs.TextPart.{EndsTextAt, IsPartOf, PutsRun}
 use Rattle.mdmp_c.proofs.Listed.{lines_taken}

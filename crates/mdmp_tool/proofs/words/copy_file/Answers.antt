@@ -1,6 +1,6 @@
 use Rattle.std.proofs.Common.{◌∙◌, ap, refl, rules, sym}
 use Rattle.mdmp_tool.proofs.CopyEnds.{copy_ends}
-use Rattle.mdmp_tool.specs.Copying.{first_not_copied}
+use Rattle.mdmp_engines.specs.Copying.{first_not_copied}
 use Rattle.mdmp_tool.specs.Words.{refused}
 use Rattle.mdmp_tool.proofs.words.copy_file.Goals as goal
 
