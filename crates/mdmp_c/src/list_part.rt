@@ -76,12 +76,12 @@ pub(crate) fn give_list(
         Err(refused) => return refuse(open_fault(refused.fault), size, fault),
     };
     let mut part = TextPart::new(alloc, skip, out.len());
-    let answer = put_list(alloc, &mut lister, form, pdb, limits.aside, &mut part);
+    let answer = gather_list(alloc, &mut lister, form, pdb, limits.aside, &mut part);
     part.give(list_answer(answer), out, size, fault)
 }
 
 /// Puts the line of the header and those of the items that are left into a part of their text.
-fn put_list<S: Store + Drop, A: Allocator + Copy>(
+fn gather_list<S: Store + Drop, A: Allocator + Copy>(
     alloc: Global,
     lister: &mut Lister<S, A>,
     form: LineForm,
@@ -104,11 +104,11 @@ fn put_list<S: Store + Drop, A: Allocator + Copy>(
     if let Err(AllocError) = part.take(&line) {
         return Err(ToolFault::Memory);
     }
-    put_items(lister, form, pdb, aside, line, part)
+    gather_items(lister, form, pdb, aside, line, part)
 }
 
 /// Puts the lines of the items that are left into a part of their text, those of one at a time.
-fn put_items<S: Store + Drop, A: Allocator + Copy>(
+fn gather_items<S: Store + Drop, A: Allocator + Copy>(
     lister: &mut Lister<S, A>,
     form: LineForm,
     pdb: bool,

@@ -8,9 +8,11 @@ ghost use Rattle.mdmp_print.specs.HexText.{length_limit};
 ghost use Rattle.mdmp_engines.specs.Runs.{ListsThrough};
 
 use crate::check::CheckEngine;
-use crate::engine::{RunAnswered, run_in_blocks};
+use crate::engine::run_in_blocks;
+use crate::fault::ToolFault;
 use crate::hex::HexEngine;
 use crate::list::ListEngine;
+use crate::outcome::Outcome;
 use mdmp_lister::Limits;
 use mdmp_print::{LineForm, LineOut};
 use mdmp_source::{Out, Source, Store};
@@ -25,7 +27,7 @@ pub fn check_in_blocks<S: Store + Drop, A: Allocator + Copy, O: Out>(
     limits: Limits,
     form: LineForm,
     blocks: &mut LineOut<'_, O>,
-) -> RunAnswered<u64, S>
+) -> Outcome<Result<u64, ToolFault>, S>
     requires { blocks.old.pending ≡ [] }
     ensures checks { (file : List ℕ) → source.store.content ≡ Some file → ChecksThrough form file limits.name blocks.old.inner result.answer blocks.new.inner }
     ensures flushed { IsFlushed result.answer blocks.new.pending }
@@ -46,7 +48,7 @@ pub fn list_in_blocks<S: Store + Drop, A: Allocator + Copy, O: Out>(
     form: LineForm,
     pdb: bool,
     blocks: &mut LineOut<'_, O>,
-) -> RunAnswered<(), S>
+) -> Outcome<Result<(), ToolFault>, S>
     requires { blocks.old.pending ≡ [] }
     ensures lists { (file : List ℕ) → source.store.content ≡ Some file → ListsThrough form pdb file limits.name blocks.old.inner result.answer blocks.new.inner }
     ensures flushed { IsFlushed result.answer blocks.new.pending }
@@ -74,7 +76,7 @@ pub fn hex_in_blocks<S: Store + Drop, A: Allocator + Copy, O: Out>(
     address: u64,
     length: u32,
     blocks: &mut LineOut<'_, O>,
-) -> RunAnswered<(), S>
+) -> Outcome<Result<(), ToolFault>, S>
     requires none { blocks.old.pending ≡ [] }
     requires within { address + length ≤ address_end }
     requires limited { length ≤ length_limit }

@@ -7,8 +7,9 @@ ghost use Rattle.mdmp_engines.specs.CheckText.{verdict_lines};
 ghost use Rattle.mdmp_engines.specs.Causes.{HasBudgetCause, KeepsAside, MayReachAside, MayReachBudget, MayReachMemory};
 ghost use Rattle.mdmp_engines.specs.Engines.{IsOpened, IsSameRun, IsReadThrough, KeepsReads, Leaves, ReadsSource, ReadsStore, Tells, WritesText, at_most, directly, past_faults, check_access};
 
-use crate::engine::{Engine, RunAnswered, run, run_source};
+use crate::engine::{Engine, run, run_source};
 use crate::fault::{ToolFault, told_list};
+use crate::outcome::Outcome;
 use mdmp_lister::{Choice, Limits, Lister, RunFault, Stopped, Verdict, VerdictSink};
 use mdmp_print::{LineForm, Printer, print_verdict};
 use mdmp_source::{Out, OutFailed, Source, Store};
@@ -44,7 +45,7 @@ pub fn check_source<S: Store + Drop, A: Allocator + Copy, O: Out>(
     limits: Limits,
     form: LineForm,
     out: &mut O,
-) -> RunAnswered<u64, S>
+) -> Outcome<Result<u64, ToolFault>, S>
     ensures checks { (file : List ℕ) → source.store.content ≡ Some file → Checks form file limits.name (O.state out.old) result.answer (O.state out.new) }
     ensures tells { Tells directly past_faults source.store source.size (O.state out.old) result.answer (O.state out.new) }
     ensures reads { ReadsSource source result.answer result.source }
@@ -73,7 +74,7 @@ impl Engine for CheckEngine {
 
     ghost pace = { past_faults };
 
-    ghost can_put = { λ _. Unit {0} };
+    ghost can_print = { λ _. Unit {0} };
 
     ghost aside = { λ _. None };
 
@@ -93,7 +94,7 @@ impl Engine for CheckEngine {
         0
     }
 
-    fn put<S: Store + Drop, A: Allocator + Copy, O: Printer>(
+    fn print<S: Store + Drop, A: Allocator + Copy, O: Printer>(
         &self,
         alloc: A,
         lister: &mut Lister<S, A>,

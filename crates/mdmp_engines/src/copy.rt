@@ -19,8 +19,8 @@ ghost use Rattle.mdmp_engines.specs.Causes.{IsNoSourceFault};
 ghost use Rattle.mdmp_engines.specs.Copying.{Copies, IsDumpCopied, IsShapeCopied, IsToldByView, SpendsCopy, SpendsWithin, TellsCopyBudget, TellsCopyMemory, first_not_copied, is_copied};
 ghost use Rattle.mdmp_engines.specs.Engines.{ReadsSource};
 
-use crate::engine::RunAnswered;
 use crate::fault::{ToolFault, told_reading};
+use crate::outcome::Outcome;
 use mdmp_dump::{DumpView, FileView, ReadFault, ViewFault, ViewRefused};
 use mdmp_lister::{Choice, Limits, StreamKind, TypeSet};
 use mdmp_source::{Out, Source, Store};
@@ -89,7 +89,7 @@ pub fn copy_source<S: Store + Drop, A: Allocator + Copy, O: Out>(
     limits: Limits,
     types: TypeSet,
     out: &mut O,
-) -> RunAnswered<u64, S>
+) -> Outcome<Result<u64, ToolFault>, S>
     ensures copies { Copies A source.store.content source.size types limits.name (O.state out.old) result.answer (O.state out.new) }
     ensures good { (file : List ℕ) → IsGood source.store file → IsNoSourceFault result.answer }
     ensures reads { ReadsSource source result.answer result.source }
@@ -100,7 +100,7 @@ pub fn copy_source<S: Store + Drop, A: Allocator + Copy, O: Out>(
     ensures memory { TellsCopyMemory limits source.store.content result.answer }
 {
     if let Some(stream_type) = first_not_copied(types.types()) {
-        return RunAnswered {
+        return Outcome {
             answer: Err(ToolFault::NotCopied(stream_type)),
             source,
         };
@@ -114,17 +114,17 @@ pub fn copy_source<S: Store + Drop, A: Allocator + Copy, O: Out>(
         ) => {
             let needed = view.needed();
             if is_over(limits.budget, needed) {
-                return RunAnswered {
+                return Outcome {
                     answer: Err(ToolFault::CopyBudget { needed }),
                     source: view.into_source(),
                 };
             }
-            RunAnswered {
+            Outcome {
                 answer: write_copy(&mut view, out, &mut buffer),
                 source: view.into_source(),
             }
         },
-        Err(ViewRefused { fault, source }) => RunAnswered {
+        Err(ViewRefused { fault, source }) => Outcome {
             answer: Err(told_reading(fault)),
             source,
         },

@@ -7,19 +7,11 @@ ghost use Rattle.mdmp_engines.specs.Telling.{opening_beside};
 ghost use Rattle.mdmp_engines.specs.Engines.{EndsFlushed, IsFlushed, IsReadThrough, ReadsSource, ReadsStore, Runs, RunsThrough, Tells, directly, in_blocks, unless_refused};
 
 use crate::fault::{ToolFault, told_opening};
+use crate::outcome::Outcome;
 use mdmp_lister::{Choice, Limits, Lister, OpenFault};
 use mdmp_print::{LineOut, Printer};
 use mdmp_source::{Out, OutFailed, Source, Store};
 use std::alloc::Allocator;
-
-/// What a run answered, and the source that it read.
-#[derive(Drop)]
-pub struct RunAnswered<T: Copy, S: Store + Drop> {
-    /// What the run comes to where all was written, or why not.
-    pub answer: Result<T, ToolFault>,
-    /// The source, whose counts tell the cause of its faults.
-    pub source: Source<S>,
-}
 
 /// A command over the listing of a file.
 pub(crate) trait Engine: Copy {
@@ -39,7 +31,7 @@ pub(crate) trait Engine: Copy {
     ghost pace: { Pace };
 
     // What may be asked.
-    ghost can_put: { Self → Type 0 };
+    ghost can_print: { Self → Type 0 };
 
     // What may end it over a file that can be opened, with names up to a limit.
     ghost Ends: { Self → List ℕ → ℕ → Result Self.Answer ToolFault → Type 0 };
@@ -65,13 +57,13 @@ pub(crate) trait Engine: Copy {
         ensures { result ≡ held self.now };
 
     /// Prints what there is to print of a file that was opened.
-    fn put<S: Store + Drop, A: Allocator + Copy, O: Printer>(
+    fn print<S: Store + Drop, A: Allocator + Copy, O: Printer>(
         &self,
         alloc: A,
         lister: &mut Lister<S, A>,
         out: &mut O,
     ) -> Result<Self::Answer, ToolFault>
-        requires can { can_put self.now }
+        requires can { can_print self.now }
         requires opened { IsOpened choice lister.old }
         ensures ends { (file : List ℕ) → lister.old.source.store.content ≡ Some file → Ends self.now file lister.old.limit result }
         ensures writes { (file : List ℕ) → lister.old.source.store.content ≡ Some file
@@ -92,7 +84,7 @@ pub(crate) fn run<E: Engine, S: Store + Drop, A: Allocator + Copy, O: Printer>(
     limits: Limits,
     out: &mut O,
 ) -> Result<E::Answer, ToolFault>
-    requires { E.can_put engine }
+    requires { E.can_print engine }
     ensures runs { (file : List ℕ) → (S.state store).content ≡ Some file
         → Runs file E.choice (E.Ends engine file limits.name) E.pace (unless_refused (opening_fault file E.choice) (E.text engine file limits.name))
         (O.state out.old) result (O.state out.new) }
@@ -102,13 +94,7 @@ pub(crate) fn run<E: Engine, S: Store + Drop, A: Allocator + Copy, O: Printer>(
     ensures aside { MayReachAside (E.aside engine) limits (S.state store).size result }
     ensures read { ReadsStore (record { limits = limits; choice = E.choice; pace = E.pace; held = E.held engine; aside = E.aside engine; beside = E.reads engine }) (S.state store) result }
 {
-    let RunAnswered { answer, source: _ } = run_source(
-        engine,
-        alloc,
-        Source::new(store),
-        limits,
-        out,
-    );
+    let Outcome { answer, source: _ } = run_source(engine, alloc, Source::new(store), limits, out);
     answer
 }
 
@@ -121,8 +107,8 @@ pub(crate) fn run_source<E: Engine, S: Store + Drop, A: Allocator + Copy, O: Pri
     source: Source<S>,
     limits: Limits,
     out: &mut O,
-) -> RunAnswered<E::Answer, S>
-    requires { E.can_put engine }
+) -> Outcome<Result<E::Answer, ToolFault>, S>
+    requires { E.can_print engine }
     ensures runs { (file : List ℕ) → source.store.content ≡ Some file
         → Runs file E.choice (E.Ends engine file limits.name) E.pace (unless_refused (opening_fault file E.choice) (E.text engine file limits.name))
         (O.state out.old) result.answer (O.state out.new) }
@@ -141,16 +127,16 @@ pub(crate) fn run_source<E: Engine, S: Store + Drop, A: Allocator + Copy, O: Pri
     ) {
         Ok(lister) => lister,
         Err(refused) => {
-            return RunAnswered {
+            return Outcome {
                 answer: Err(refused_beside(refused.fault, beside)),
                 source: refused.source,
             };
         }
     };
-    let answer = engine.put(alloc, &mut lister, out);
+    let answer = engine.print(alloc, &mut lister, out);
     // The proof learns here within which bounds the lister stayed.
     let _counts = lister.counts();
-    RunAnswered {
+    Outcome {
         answer,
         source: lister.into_source(),
     }
@@ -175,8 +161,8 @@ pub(crate) fn run_in_blocks<E: Engine, S: Store + Drop, A: Allocator + Copy, O: 
     source: Source<S>,
     limits: Limits,
     blocks: &mut LineOut<'_, O>,
-) -> RunAnswered<E::Answer, S>
-    requires can { E.can_put engine }
+) -> Outcome<Result<E::Answer, ToolFault>, S>
+    requires can { E.can_print engine }
     requires none { blocks.old.pending ≡ [] }
     ensures runs { (file : List ℕ) → source.store.content ≡ Some file
         → RunsThrough file E.choice (E.Ends engine file limits.name) E.pace (unless_refused (opening_fault file E.choice) (E.text engine file limits.name))
@@ -193,21 +179,21 @@ pub(crate) fn run_in_blocks<E: Engine, S: Store + Drop, A: Allocator + Copy, O: 
 /// Writes what is pending after a run, and answers what the run did, or the output's fault where the
 /// inner output refuses.
 fn flushed<T: Copy, S: Store + Drop, O: Out>(
-    answered: RunAnswered<T, S>,
+    answered: Outcome<Result<T, ToolFault>, S>,
     blocks: &mut LineOut<'_, O>,
-) -> RunAnswered<T, S>
+) -> Outcome<Result<T, ToolFault>, S>
     ensures ends { EndsFlushed answered.answer result.answer blocks.old.inner blocks.new.inner }
     ensures moved { MovesFront blocks.old.inner blocks.old.pending blocks.new.inner blocks.new.pending }
     ensures flushed { IsFlushed result.answer blocks.new.pending }
     ensures source { result.source ≡ answered.source }
 {
-    let RunAnswered { answer, source } = answered;
+    let Outcome { answer, source } = answered;
     if let Err(ToolFault::Out) = answer {
-        return RunAnswered { answer, source };
+        return Outcome { answer, source };
     }
     match blocks.flush() {
-        Ok(()) => RunAnswered { answer, source },
-        Err(OutFailed) => RunAnswered {
+        Ok(()) => Outcome { answer, source },
+        Err(OutFailed) => Outcome {
             answer: Err(ToolFault::Out),
             source,
         },

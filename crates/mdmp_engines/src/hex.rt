@@ -7,8 +7,9 @@ ghost use Rattle.mdmp_engines.specs.Engines.{IsSameRun, IsReadThrough, Leaves, R
 ghost use Rattle.mdmp_engines.specs.HexRuns.{Hexes, HexesMemory, HexesRun};
 ghost use Rattle.mdmp_print.specs.HexText.{length_limit};
 
-use crate::engine::{Engine, RunAnswered, run, run_source};
+use crate::engine::{Engine, run, run_source};
 use crate::fault::{ToolFault, told_list};
+use crate::outcome::Outcome;
 use mdmp_lister::{Choice, Limits, Lister};
 use mdmp_print::{Printer, print_hex_lines};
 use mdmp_source::{Out, OutFailed, Source, Store};
@@ -48,7 +49,7 @@ pub fn hex_source<S: Store + Drop, A: Allocator + Copy, O: Out>(
     address: u64,
     length: u32,
     out: &mut O,
-) -> RunAnswered<(), S>
+) -> Outcome<Result<(), ToolFault>, S>
     requires within { address + length ≤ address_end }
     requires limited { length ≤ length_limit }
     ensures hexes { (file : List ℕ) → source.store.content ≡ Some file → Hexes file limits.name address length (O.state out.old) result.answer (O.state out.new) }
@@ -79,7 +80,7 @@ impl Engine for HexEngine {
 
     ghost pace = { at_the_end };
 
-    ghost can_put = { λ hex. hex.address + hex.length ≤ address_end };
+    ghost can_print = { λ hex. hex.address + hex.length ≤ address_end };
 
     ghost aside = { λ _. None };
 
@@ -99,7 +100,7 @@ impl Engine for HexEngine {
         2 * u64::from(self.length)
     }
 
-    fn put<S: Store + Drop, A: Allocator + Copy, O: Printer>(
+    fn print<S: Store + Drop, A: Allocator + Copy, O: Printer>(
         &self,
         alloc: A,
         lister: &mut Lister<S, A>,
@@ -138,11 +139,11 @@ fn hex_listed<S: Store + Drop, A: Allocator + Copy, O: Printer>(
     let Ok(mut known) = vec![in alloc; false; length as usize] else {
         return Err(ToolFault::Memory);
     };
-    put_memory(lister, address, &mut bytes, &mut known, out)
+    print_memory(lister, address, &mut bytes, &mut known, out)
 }
 
 /// Reads memory by the ranges that were listed into two buffers, and prints it.
-fn put_memory<S: Store + Drop, A: Allocator + Copy, O: Printer>(
+fn print_memory<S: Store + Drop, A: Allocator + Copy, O: Printer>(
     lister: &mut Lister<S, A>,
     address: u64,
     bytes: &mut [u8],

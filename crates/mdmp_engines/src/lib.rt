@@ -26,16 +26,17 @@ mod fault_words;
 mod hex;
 mod json_law;
 mod list;
+mod outcome;
 
 pub use crate::blocks::{check_in_blocks, hex_in_blocks, list_in_blocks};
 pub use crate::check::{check_source, run_check};
 pub use crate::copy::{copied, copy_source, first_not_copied, run_copy};
-pub use crate::engine::RunAnswered;
 pub use crate::fault::{ToolFault, status};
 pub use crate::fault_lines::fault_line;
 pub use crate::hex::{hex_source, run_hex};
 pub use crate::json_law::objects_are_json_texts;
 pub use crate::list::{list_next, list_source, run_list};
+pub use crate::outcome::Outcome;
 pub use mdmp_dump::{PartName, ReadFault};
 pub use mdmp_lister::{FaultKind, Limits, ListFault, OpenFault, TypeSet};
 pub use mdmp_print::{LINE_ROOM, LineForm, LineOut, Printer, print_dump};

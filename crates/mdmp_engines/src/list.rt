@@ -10,8 +10,9 @@ ghost use Rattle.mdmp_engines.specs.Runs.{IsBehindNext, Lists, ListsFile, ListsN
 ghost use Rattle.mdmp_engines.specs.Symbols.{symbols_of, symbols_read};
 ghost use Rattle.mdmp_engines.specs.Text.{symbols_text};
 
-use crate::engine::{Engine, RunAnswered, run, run_source};
+use crate::engine::{Engine, run, run_source};
 use crate::fault::{ToolFault, told_list};
+use crate::outcome::Outcome;
 use mdmp_lister::{Choice, Item, Limits, Lister};
 use mdmp_print::{LineForm, ModulePlace, Printer, print_dump, print_item, print_symbols};
 use mdmp_source::{Extent, Location, Out, OutFailed, Source, Store};
@@ -52,7 +53,7 @@ pub fn list_source<S: Store + Drop, A: Allocator + Copy, O: Out>(
     form: LineForm,
     pdb: bool,
     out: &mut O,
-) -> RunAnswered<(), S>
+) -> Outcome<Result<(), ToolFault>, S>
     ensures lists { (file : List ℕ) → source.store.content ≡ Some file → Lists form pdb file limits.name (O.state out.old) result.answer (O.state out.new) }
     ensures tells { Tells directly up_to_a_fault source.store source.size (O.state out.old) result.answer (O.state out.new) }
     ensures reads { ReadsSource source result.answer result.source }
@@ -89,7 +90,7 @@ impl Engine for ListEngine {
 
     ghost pace = { up_to_a_fault };
 
-    ghost can_put = { λ _. Unit {0} };
+    ghost can_print = { λ _. Unit {0} };
 
     ghost aside = { λ e. e.aside };
 
@@ -109,19 +110,19 @@ impl Engine for ListEngine {
         0
     }
 
-    fn put<S: Store + Drop, A: Allocator + Copy, O: Printer>(
+    fn print<S: Store + Drop, A: Allocator + Copy, O: Printer>(
         &self,
         alloc: A,
         lister: &mut Lister<S, A>,
         out: &mut O,
     ) -> Result<(), ToolFault> {
         let _ = alloc;
-        put_listing(lister, self.form, self.pdb, self.aside, out)
+        print_listing(lister, self.form, self.pdb, self.aside, out)
     }
 }
 
 /// Prints the line of the header, and those of the items that are left.
-fn put_listing<S: Store + Drop, A: Allocator + Copy, O: Printer>(
+fn print_listing<S: Store + Drop, A: Allocator + Copy, O: Printer>(
     lister: &mut Lister<S, A>,
     form: LineForm,
     pdb: bool,

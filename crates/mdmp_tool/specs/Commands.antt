@@ -5,8 +5,8 @@ use Rattle.mdmp_source.specs.Source.{SourceState}
 use Rattle.mdmp_source.specs.Store.{IsGood}
 use Rattle.mdmp_lister.specs.declared.limits.Limits.{Limits}
 use Rattle.mdmp_engines.specs.declared.fault.ToolFault.{ToolFault}
-use Rattle.mdmp_words.specs.declared.request.Print.{Print}
-use Rattle.mdmp_words.specs.declared.request.Print.TheVariants.{Check, List as Listing, Hex}
+use Rattle.mdmp_words.specs.declared.invocation.Print.{Print}
+use Rattle.mdmp_words.specs.declared.invocation.Print.TheVariants.{Check, List as Listing, Hex}
 use Rattle.mdmp_engines.specs.Causes.{IsNoSourceFault}
 use Rattle.mdmp_engines.specs.CheckRuns.{ChecksThrough}
 use Rattle.mdmp_engines.specs.CheckText.{bad_text}

@@ -1,8 +1,8 @@
 //! The command `mdmp`: a command line, run over a disk.
 //!
-//! [`run_words`] reads the words behind the program's name, by [`request_of`] of `mdmp_words`, and runs
+//! [`run_words`] reads the words behind the program's name, by [`invocation_of`] of `mdmp_words`, and runs
 //! the command that they ask for. Under it stands a core over a source and two outputs,
-//! [`print_told`] and [`copy_told`], whose contract says what is written and told, and the exit
+//! [`print_and_report`] and [`copy_and_report`], whose contract says what is written and told, and the exit
 //! status. Under that stand the engines of mdmp_engines, one for each command, which this crate gives out
 //! again: [`run_list`], [`run_check`], [`run_hex`] and [`run_copy`].
 #![tactic(auto)]
@@ -13,13 +13,13 @@ mod standing;
 mod words;
 
 pub use crate::program::{run_args, run_program};
-pub use crate::running::{Ended, copy_told, print_told};
+pub use crate::running::{copy_and_report, print_and_report};
 pub use crate::standing::what_is_copied_stands;
 pub use crate::words::{run_on_disk, run_words};
 pub use mdmp_engines::{
-    FaultKind, LINE_ROOM, LayoutFault, Limits, LineForm, LineOut, ListFault, OpenFault, PartName,
-    Printer, ReadFault, RunAnswered, ToolFault, TypeSet, check_in_blocks, check_source, copied,
+    FaultKind, LINE_ROOM, LayoutFault, Limits, LineForm, LineOut, ListFault, OpenFault, Outcome,
+    PartName, Printer, ReadFault, ToolFault, TypeSet, check_in_blocks, check_source, copied,
     copy_source, fault_line, hex_in_blocks, hex_source, list_in_blocks, list_next, list_source,
     objects_are_json_texts, print_dump, run_check, run_copy, run_hex, run_list, status,
 };
-pub use mdmp_words::{Asked, Command, Print, Request, Span, request_of};
+pub use mdmp_words::{Command, Invocation, Print, Span, invocation_of};

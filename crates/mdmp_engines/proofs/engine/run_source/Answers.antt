@@ -32,31 +32,31 @@ returns-in-Err-clause-tells g c =
 pub returns-clause-runs : goal.returns-clause-runs
 returns-clause-runs g c = λ file known.
     let new = c.in-Ok.ensures.new in
-    let put = c.put-answer.ensures in
+    let print = c.print-answer.ensures in
     let now = new.fetches.same_content ∙ known in
     let limit = new.list.asked.limit_is ∙ ap (λ (l : Limits). l.name) c.leave_memory.ensures in
-    Runs-opened file g.E.Engine.choice (g.E.Engine.Ends c.args.engine file c.args.limits.name) g.E.Engine.pace (g.E.Engine.text c.args.engine file c.args.limits.name) _ _ (g.O.Printer.state c.args.out.now) c.put-answer.result (g.O.Printer.state c.put-answer.new.out)
-    (rw c.chosen.ensures at (c.in-Ok.ensures.opens file known)) put.leaves.behind (rw limit at (put.ends file now)) (rw limit at (put.writes file now))
+    Runs-opened file g.E.Engine.choice (g.E.Engine.Ends c.args.engine file c.args.limits.name) g.E.Engine.pace (g.E.Engine.text c.args.engine file c.args.limits.name) _ _ (g.O.Printer.state c.args.out.now) c.print-answer.result (g.O.Printer.state c.print-answer.new.out)
+    (rw c.chosen.ensures at (c.in-Ok.ensures.opens file known)) print.leaves.behind (rw limit at (print.ends file now)) (rw limit at (print.writes file now))
 
 pub returns-clause-tells : goal.returns-clause-tells
 returns-clause-tells g c =
     let new = c.in-Ok.ensures.new in
-    let put = c.put-answer.ensures.leaves in
-    let untouched : Type 0 = g.O.Printer.state c.put-answer.new.out ≡ g.O.Printer.state c.args.out.now in
-    let result = c.put-answer.result in
-    let behind = subst (λ (size : ℕ). IsBehind g.E.Engine.pace size result untouched) new.fetches.same_size put.behind in
+    let print = c.print-answer.ensures.leaves in
+    let untouched : Type 0 = g.O.Printer.state c.print-answer.new.out ≡ g.O.Printer.state c.args.out.now in
+    let result = c.print-answer.result in
+    let behind = subst (λ (size : ℕ). IsBehind g.E.Engine.pace size result untouched) new.fetches.same_size print.behind in
     record {
-      good = λ file good. put.good file (record { known = new.fetches.same_content ∙ good.known; reliable = rw new.fetches.same_reliable good.reliable });
+      good = λ file good. print.good file (record { known = new.fetches.same_content ∙ good.known; reliable = rw new.fetches.same_reliable good.reliable });
       refusal = IsRefusal-behind g.E.Engine.pace untouched c.args.source.size result behind;
       short = λ few. absurd (c.in-Ok.ensures.short few);
       quiet = IsQuiet-behind g.E.Engine.pace untouched c.args.source.size result behind;
-      out_cause = put.out_cause;
-      changed = subst (λ content. MayChange content result) new.fetches.same_content (may_change result _ _ put.reads.cause);
+      out_cause = print.out_cause;
+      changed = subst (λ content. MayChange content result) new.fetches.same_content (may_change result _ _ print.reads.cause);
     }
 
 pub returns-clause-reads : goal.returns-clause-reads
 returns-clause-reads g c =
-    let more = c.put-answer.ensures.leaves.reads in
+    let more = c.print-answer.ensures.leaves.reads in
     rw c.into_source.ensures.value (record {
       cause = search rules;
       fetches = record {
@@ -79,25 +79,25 @@ returns-in-Err-clause-through g c =
 pub returns-clause-through : goal.returns-clause-through
 returns-clause-through g c =
     let new = c.in-Ok.ensures.new.list in
-    let same = c.put-answer.ensures.same in
+    let same = c.print-answer.ensures.same in
     let counts = c.counts-counts.ensures in
     let under = c.leave_memory.ensures in
     rw c.into_source.ensures.value (IsReadThrough.listed (record {
-      lister = c.put-answer.new.lister;
-      opened = run_opened c.args.limits c.leave_memory.result c.beside-beside.result g.E.Engine.choice _ _ _ _ c.args.source _ c.put-answer.new.lister under same (rw c.chosen.ensures at c.in-Ok.ensures.new);
+      lister = c.print-answer.new.lister;
+      opened = run_opened c.args.limits c.leave_memory.result c.beside-beside.result g.E.Engine.choice _ _ _ _ c.args.source _ c.print-answer.new.lister under same (rw c.chosen.ensures at c.in-Ok.ensures.new);
       of_file = λ file known.
-          let content = c.put-answer.ensures.leaves.reads.fetches.fetches.same_content ∙ c.in-Ok.ensures.new.fetches.same_content ∙ known in
-          let choice : c.put-answer.new.lister.choice ≡ g.E.Engine.choice = same.choice ∙ new.asked.choice_is ∙ c.chosen.ensures in
+          let content = c.print-answer.ensures.leaves.reads.fetches.fetches.same_content ∙ c.in-Ok.ensures.new.fetches.same_content ∙ known in
+          let choice : c.print-answer.new.lister.choice ≡ g.E.Engine.choice = same.choice ∙ new.asked.choice_is ∙ c.chosen.ensures in
           subst (λ (n : Counts). AreOfFile file g.E.Engine.choice n) counts.value (subst (λ (ch : Choice). AreOfFile file ch c.counts-counts.result) choice (counts.of_file file content));
       budget = same.budget ∙ new.counts.budget_is ∙ ap (λ (l : Limits). l.budget) under;
-      over = c.put-answer.ensures.over;
-      aside_kept = c.put-answer.ensures.aside;
-      reads = c.put-answer.ensures.read;
-      memory = rw (← c.beside-beside.ensures) (run_within c.args.limits c.leave_memory.result c.beside-beside.result _ c.put-answer.new.lister under same new.asked.window_room new.memory);
+      over = c.print-answer.ensures.over;
+      aside_kept = c.print-answer.ensures.aside;
+      reads = c.print-answer.ensures.read;
+      memory = rw (← c.beside-beside.ensures) (run_within c.args.limits c.leave_memory.result c.beside-beside.result _ c.print-answer.new.lister under same new.asked.window_room new.memory);
       opens = λ file known. rw (← c.beside-beside.ensures) (rw (c.leave_memory.ensures, c.chosen.ensures) at (c.in-Ok.ensures.within file known));
-      within = c.put-answer.ensures.within;
+      within = c.print-answer.ensures.within;
       source = refl;
       start = same.start ∙ new.counts.start;
-      held = subst (λ (n : Counts). AreHeld c.put-answer.new.lister n) counts.value counts.held;
-      spent = subst (λ (n : Counts). AreSpent c.put-answer.new.lister n) counts.value counts.spent;
+      held = subst (λ (n : Counts). AreHeld c.print-answer.new.lister n) counts.value counts.held;
+      spent = subst (λ (n : Counts). AreSpent c.print-answer.new.lister n) counts.value counts.spent;
     }))

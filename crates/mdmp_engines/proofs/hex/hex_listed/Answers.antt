@@ -11,18 +11,18 @@ use Rattle.mdmp_engines.proofs.hex.hex_listed.Goals as goal
 pub returns-clause-hexes : goal.returns-clause-hexes
 returns-clause-hexes g c = λ file known left given.
     let listed = c.in-Ok.ensures.lists left given in
-    let room : length c.put_memory.new.bytes ≡ c.args.length = grind (arith, c.put_memory.auto.bytes, c.deref_mut.ensures, c.in-Ok-vec.ensures) in
-    let printed = c.put_memory.ensures.hexes file (c.list_ranges.ensures.fetches.fetches.same_content ∙ known) in
-    HexesRun-printed file c.list_ranges.new.self.ranges left c.args.address c.args.length _ _ c.put_memory.result listed.0 (rw c.requires.none at listed.1) (rw room at printed)
+    let room : length c.print_memory.new.bytes ≡ c.args.length = grind (arith, c.print_memory.auto.bytes, c.deref_mut.ensures, c.in-Ok-vec.ensures) in
+    let printed = c.print_memory.ensures.hexes file (c.list_ranges.ensures.fetches.fetches.same_content ∙ known) in
+    HexesRun-printed file c.list_ranges.new.self.ranges left c.args.address c.args.length _ _ c.print_memory.result listed.0 (rw c.requires.none at listed.1) (rw room at printed)
 
 pub returns-clause-leaves : goal.returns-clause-leaves
 returns-clause-leaves g c =
     let first = c.list_ranges.ensures.fetches in
-    let more = c.put_memory.ensures.leaves in
-    let untouched : Type 0 = g.O.Printer.state c.put_memory.new.out ≡ g.O.Printer.state c.args.out.now in
+    let more = c.print_memory.ensures.leaves in
+    let untouched : Type 0 = g.O.Printer.state c.print_memory.new.out ≡ g.O.Printer.state c.args.out.now in
     record {
       good = search rules;
-      behind = subst (λ (size : ℕ). IsBehind at_the_end size c.put_memory.result untouched) first.fetches.same_size more.behind;
+      behind = subst (λ (size : ℕ). IsBehind at_the_end size c.print_memory.result untouched) first.fetches.same_size more.behind;
       reads = record {
         cause = search rules;
         fetches = record { count = first.count + more.reads.fetches.count; fetches = fetches_then _ _ _ _ _ first.fetches more.reads.fetches.fetches };
@@ -31,7 +31,7 @@ returns-clause-leaves g c =
     }
 
 pub returns-clause-same : goal.returns-clause-same
-returns-clause-same g c = run_then _ _ _ (run_list _ _ _ (run_none _) c.list_ranges.ensures.same) c.put_memory.ensures.same
+returns-clause-same g c = run_then _ _ _ (run_list _ _ _ (run_none _) c.list_ranges.ensures.same) c.print_memory.ensures.same
 
 pub returns-in-Err-clause-leaves : goal.returns-in-Err-clause-leaves
 returns-in-Err-clause-leaves g c =
@@ -56,9 +56,9 @@ returns-in-Err-clause-aside g c = rw c.told_list.ensures (aside_listing (Unit {0
 
 pub returns-clause-beside : goal.returns-clause-beside
 returns-clause-beside g c =
-    let room : length c.put_memory.new.bytes ≡ c.args.length = grind (arith, c.put_memory.auto.bytes, c.deref_mut.ensures, c.in-Ok-vec.ensures) in
+    let room : length c.print_memory.new.bytes ≡ c.args.length = grind (arith, c.print_memory.auto.bytes, c.deref_mut.ensures, c.in-Ok-vec.ensures) in
     let same = ap (λ (a : Amount). a.bytes) c.list_ranges.ensures.same.aside in
-    let more = c.put_memory.ensures.beside in
+    let more = c.print_memory.ensures.beside in
     omega (arith, room, same, more)
 
 pub returns-in-Err-clause-beside : goal.returns-in-Err-clause-beside

@@ -5,7 +5,7 @@ use Rattle.clap.specs.declared.error.kind.ErrorKind.TheVariants.{DisplayHelp, Di
 use Rattle.clap.proofs.OnLiterals.{clap_on_literals}
 use Rattle.mdmp_print.specs.declared.form.LineForm.TheVariants as forms
 use Rattle.mdmp_words.specs.OptionWords.{Sizes}
-use Rattle.mdmp_words.specs.Requests.{Plain, PlainCommand, check, copy, faults, hex, list, request_named}
+use Rattle.mdmp_words.specs.Invocations.{Plain, PlainCommand, check, copy, faults, hex, list, request_named}
 
 -- the limits without an option
 abbrev usual : Sizes

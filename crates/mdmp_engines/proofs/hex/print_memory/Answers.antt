@@ -1,6 +1,6 @@
 use Rattle.mdmp_engines.proofs.SameRuns.{run_aside}
 use Rattle.mdmp_engines.proofs.Symbols.{Leaves-cut, Leaves-done}
-use Rattle.mdmp_engines.proofs.hex.put_memory.Goals as goal
+use Rattle.mdmp_engines.proofs.hex.print_memory.Goals as goal
 
 pub returns-in-Err-clause-same : goal.returns-in-Err-clause-same
 returns-in-Err-clause-same g c = run_aside _ _ _ _ c.in-Err.ensures.reads

@@ -5,11 +5,11 @@ use Rattle.mdmp_lister.specs.Format.Listing.{listing}
 use Rattle.mdmp_engines.proofs.Besides.{KeepsBeside-list}
 use Rattle.mdmp_engines.proofs.Reached.{KeepsNames-list}
 use Rattle.mdmp_engines.specs.Runs.{ListsFile}
-use Rattle.mdmp_engines.proofs.list.ListEngineEngine.put.Goals as goal
+use Rattle.mdmp_engines.proofs.list.ListEngineEngine.print.Goals as goal
 
 pub returns-clause-ends : goal.returns-clause-ends
 returns-clause-ends g c = λ file known.
-    (c.put_listing.ensures.lists file known (listing file All c.args.lister.now.limit) (c.requires.opened.left file known)).ends
+    (c.print_listing.ensures.lists file known (listing file All c.args.lister.now.limit) (c.requires.opened.left file known)).ends
 
 pub returns-clause-writes : goal.returns-clause-writes
 returns-clause-writes g c = λ file known.
@@ -19,13 +19,13 @@ returns-clause-writes g c = λ file known.
     let limit = c.args.lister.now.limit in
     let run = listing file All limit in
     let before = g.O.Printer.state c.args.out.now in
-    let after = g.O.Printer.state c.put_listing.new.out in
-    let lists = c.put_listing.ensures.lists file known run (opened.left file known) in
-    (subst (λ (h : Header). ListsFile form pdb file limit h run before c.put_listing.result after) (opened.header_is file known) lists).writes
+    let after = g.O.Printer.state c.print_listing.new.out in
+    let lists = c.print_listing.ensures.lists file known run (opened.left file known) in
+    (subst (λ (h : Header). ListsFile form pdb file limit h run before c.print_listing.result after) (opened.header_is file known) lists).writes
 
 pub returns-clause-read : goal.returns-clause-read
 returns-clause-read g c =
-    let of = c.put_listing.ensures in
+    let of = c.print_listing.ensures in
     record {
       beside = KeepsBeside-list c.args.self.now.pdb _ _ c.requires.opened of.same of.leaves.reads.fetches.fetches.same_content of.read;
       names = KeepsNames-list _ _ c.requires.opened of.same of.leaves.reads.fetches.fetches.same_content of.names;

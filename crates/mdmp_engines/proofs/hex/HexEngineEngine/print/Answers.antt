@@ -1,6 +1,6 @@
 use Rattle.std.proofs.Common.{arith}
 use Rattle.mdmp_lister.specs.Format.Listing.{listing, memory_lists}
-use Rattle.mdmp_engines.proofs.hex.HexEngineEngine.put.Goals as goal
+use Rattle.mdmp_engines.proofs.hex.HexEngineEngine.print.Goals as goal
 
 pub returns-clause-ends : goal.returns-clause-ends
 returns-clause-ends g c = λ file known.

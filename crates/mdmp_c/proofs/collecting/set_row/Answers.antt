@@ -1,7 +1,7 @@
 use Rattle.std.proofs.Common.{◌≡◌, ◌∙◌, ap, length, arith, set}
 use Rattle.mdmp_c.specs.Giving.{put_front}
 use Rattle.mdmp_c.proofs.Gathered.{length-put_front, put_front-set}
-use Rattle.mdmp_c.proofs.collecting.put.Goals as goal
+use Rattle.mdmp_c.proofs.collecting.set_row.Goals as goal
 
 pub returns-then-at-out : goal.returns-then-at-out
 returns-then-at-out g c = λ rows before stands index.

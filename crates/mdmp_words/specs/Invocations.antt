@@ -6,23 +6,23 @@ use Rattle.std.specs.Str.{bytes_eq}
 use Rattle.clap.specs.Words.{IsAmong, Kinds, Row, Text, all_of, fault_of, first_of, subcommand_of}
 use Rattle.clap.specs.declared.error.kind.ErrorKind.{ErrorKind}
 use Rattle.clap.specs.declared.error.kind.ErrorKind.TheVariants.{DisplayHelp, DisplayVersion, OutOfMemory}
+use Rattle.mdmp_lister.specs.declared.limits.Limits.{Limits}
 use Rattle.mdmp_map.specs.Ranges.{address_end}
 use Rattle.mdmp_words.specs.CommandLine.{commands}
 use Rattle.mdmp_print.specs.HexText.{length_limit}
 use Rattle.mdmp_words.specs.NumberWords.{span_named}
 use Rattle.mdmp_words.specs.OptionWords.{LimitTexts, Sizes, limits_named, sizes_in_limits, types_named}
 use Rattle.mdmp_words.specs.declared.number_words.Span.{Span}
-use Rattle.mdmp_words.specs.declared.request.Asked.{Asked}
-use Rattle.mdmp_words.specs.declared.request.Asked.TheVariants.{Run, Help, Refused, Bad, Memory}
-use Rattle.mdmp_words.specs.declared.request.Command.{Command}
-use Rattle.mdmp_words.specs.declared.request.Command.TheVariants.{Print as Printing, Copy}
+use Rattle.mdmp_words.specs.declared.invocation.Invocation.{Invocation}
+use Rattle.mdmp_words.specs.declared.invocation.Invocation.TheVariants.{Run, Help, Refused, InvalidValue, Memory}
+use Rattle.mdmp_words.specs.declared.invocation.Command.{Command}
+use Rattle.mdmp_words.specs.declared.invocation.Command.TheVariants.{Print as Printing, Copy}
 use Rattle.mdmp_print.specs.declared.form.LineForm.{LineForm}
 use Rattle.mdmp_print.specs.declared.form.LineForm.TheVariants as forms
-use Rattle.mdmp_words.specs.declared.request.Print.{Print}
-use Rattle.mdmp_words.specs.declared.request.Print.TheVariants.{Check, List as Listing, Hex}
-use Rattle.mdmp_words.specs.declared.request.Request.{Request}
+use Rattle.mdmp_words.specs.declared.invocation.Print.{Print}
+use Rattle.mdmp_words.specs.declared.invocation.Print.TheVariants.{Check, List as Listing, Hex}
 
--- ---- requests as plain values
+-- ---- commands as plain values
 
 -- what is done with a file
 pub data PlainCommand : Type 0 where
@@ -46,12 +46,16 @@ abbrev pub plain_command : Command → PlainCommand
 plain_command (Printing print) = plain_print print
 plain_command (Copy target types) = copy target.now types
 
-abbrev pub plain_request : Request → Plain
-plain_request request = record {
-  file = request.file.now;
-  sizes = sizes_in_limits request.limits;
-  command = plain_command request.command;
-}
+abbrev pub plain_over : List ℕ → Limits → Command → Plain
+plain_over file limits command = record { file = file; sizes = sizes_in_limits limits; command = plain_command command }
+
+-- the command that is to be run, if one is
+abbrev pub plain_run : Invocation → Option Plain
+plain_run (Run file limits command) = Some (plain_over file.now limits command)
+plain_run (Help text) = None
+plain_run (Refused text) = None
+plain_run InvalidValue = None
+plain_run Memory = None
 
 -- ---- what the words of a command ask for
 
@@ -128,11 +132,11 @@ unfoldable pub faults : List Text → Kinds
 faults words = fault_of commands words
 
 -- the answer to a command and its words: a request where they ask for one
-abbrev pub AsksIn : Option (Text × List Row) → Asked → Type 0
-AsksIn used (Run request) = request_in used ≡ Some (plain_request request)
+abbrev pub AsksIn : Option (Text × List Row) → Invocation → Type 0
+AsksIn used (Run file limits command) = request_in used ≡ Some (plain_over file.now limits command)
 AsksIn used (Help text) = ⊥
 AsksIn used (Refused text) = ⊥
-AsksIn used Bad = request_in used ≡ None
+AsksIn used InvalidValue = request_in used ≡ None
 AsksIn used Memory = ⊥
 
 -- the words have a fault that is not the wish for help or the version
@@ -141,11 +145,11 @@ AreRefused words = (kind : ErrorKind) × IsAmong kind (faults words) × (kind �
 
 -- the answer to words: the request that they ask for, or that they ask for none, where they have no fault; help or the version
 -- where they wish for one; a text that refuses them where they have another fault; want of memory at any time
-abbrev pub AsksFor : List Text → Asked → Type 0
-AsksFor words (Run request) = (faults words ≡ []) × (request_named words ≡ Some (plain_request request))
+abbrev pub AsksFor : List Text → Invocation → Type 0
+AsksFor words (Run file limits command) = (faults words ≡ []) × (request_named words ≡ Some (plain_over file.now limits command))
 AsksFor words (Help text) = IsAmong DisplayHelp (faults words) ⊎ IsAmong DisplayVersion (faults words)
 AsksFor words (Refused text) = AreRefused words
-AsksFor words Bad = (faults words ≡ []) × (request_named words ≡ None)
+AsksFor words InvalidValue = (faults words ≡ []) × (request_named words ≡ None)
 AsksFor words Memory = Unit {0}
 
 -- ---- what is true of each answer
@@ -160,26 +164,42 @@ abbrev pub IsCommandWithin : Command → Type 0
 IsCommandWithin (Printing print) = IsPrintable print
 IsCommandWithin (Copy target types) = Unit {0}
 
--- a request that is to be run can be
-abbrev pub IsValid : Asked → Type 0
-IsValid (Run request) = IsCommandWithin request.command
+-- a command is to be run that can be
+abbrev pub IsRunWithin : Invocation → Type 0
+IsRunWithin (Run file limits command) = IsCommandWithin command
+IsRunWithin (Help text) = ⊥
+IsRunWithin (Refused text) = ⊥
+IsRunWithin InvalidValue = ⊥
+IsRunWithin Memory = ⊥
+
+-- this command is to be run
+abbrev pub RunsCommand : Command → Invocation → Type 0
+RunsCommand wanted (Run file limits command) = command ≡ wanted
+RunsCommand wanted (Help text) = ⊥
+RunsCommand wanted (Refused text) = ⊥
+RunsCommand wanted InvalidValue = ⊥
+RunsCommand wanted Memory = ⊥
+
+-- a command that is to be run can be
+abbrev pub IsValid : Invocation → Type 0
+IsValid (Run file limits command) = IsCommandWithin command
 IsValid (Help text) = Unit {0}
 IsValid (Refused text) = Unit {0}
-IsValid Bad = Unit {0}
+IsValid InvalidValue = Unit {0}
 IsValid Memory = Unit {0}
 
 -- neither a request nor a text that was asked for
-abbrev pub AsksNothing : Asked → Type 0
-AsksNothing (Run request) = ⊥
+abbrev pub AsksNothing : Invocation → Type 0
+AsksNothing (Run file limits command) = ⊥
 AsksNothing (Help text) = ⊥
 AsksNothing (Refused text) = Unit {0}
-AsksNothing Bad = Unit {0}
+AsksNothing InvalidValue = Unit {0}
 AsksNothing Memory = Unit {0}
 
 -- the answer to an error: help and the version were asked for
-abbrev pub IsTextOf : ErrorKind → Asked → Type 0
-IsTextOf kind (Run request) = ⊥
+abbrev pub IsTextOf : ErrorKind → Invocation → Type 0
+IsTextOf kind (Run file limits command) = ⊥
 IsTextOf kind (Help text) = (kind ≡ DisplayHelp) ⊎ (kind ≡ DisplayVersion)
 IsTextOf kind (Refused text) = (kind ≢ DisplayHelp) × (kind ≢ DisplayVersion) × (kind ≢ OutOfMemory)
-IsTextOf kind Bad = ⊥
+IsTextOf kind InvalidValue = ⊥
 IsTextOf kind Memory = Unit {0}

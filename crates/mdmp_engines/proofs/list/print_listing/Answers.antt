@@ -6,7 +6,7 @@ use Rattle.mdmp_print.specs.Forms.{dump_line_in}
 use Rattle.mdmp_engines.specs.Text.{run_text}
 use Rattle.mdmp_engines.proofs.Besides.{ReadsLeft-none}
 use Rattle.mdmp_engines.proofs.Listings.{Leaves-behind, ListsFile-behind}
-use Rattle.mdmp_engines.proofs.list.put_listing.Goals as goal
+use Rattle.mdmp_engines.proofs.list.print_listing.Goals as goal
 
 pub returns-in-Err-clause-lists : goal.returns-in-Err-clause-lists
 returns-in-Err-clause-lists g c = λ file content left known.

@@ -7,7 +7,7 @@ use Rattle.mdmp_engines.specs.Text.{run_text}
 use Rattle.mdmp_c.specs.Limits.{most_read}
 use Rattle.mdmp_c.specs.TextPart.{EndsTextAt, IsPartOf, PutsRun}
 use Rattle.mdmp_c.proofs.Listed.{lines_taken}
-use Rattle.mdmp_c.proofs.list_part.put_list.Goals as goal
+use Rattle.mdmp_c.proofs.list_part.gather_list.Goals as goal
 
 pub returns : goal.returns
 returns g c = λ file good run known skip room before part.
@@ -18,6 +18,6 @@ returns g c = λ file good run known skip room before part.
     lines_taken _ _ line c.new.result.items (dump_line_in c.args.form c.header.result) (ap (λ (o : OutState). o.taken) c.new-line.ensures) c.new.ensures.items c.in_default.ensures
     (sym c.into_inner-line.ensures ∙ ap Some (sym c.deref.ensures.value)) ∙ ap (λ (h : Header). dump_line_in c.args.form h) c.header.ensures in
     let all : (before ++ line) ++ items ≡ before ++ (first ++ items) = append_assoc before line items ∙ ap (λ xs. before ++ (xs ++ items)) is in
-    let end = λ (text : List ℕ). PutsRun (λ part. IsPartOf skip room part c.put_items.new.part.skip c.put_items.new.part.room c.put_items.new.part.size c.put_items.new.part.kept.items)
-    (EndsTextAt c.args.lister.now (most_read file c.args.lister.now.choice c.args.lister.now.limit (c.args.lister.now.counts.names + names_of_all run.items)) c.args.aside c.args.pdb run) text run c.put_items.result in
-    subst end all (c.put_items.ensures file good run known skip room (before ++ line) (c.in_default-take.ensures skip room before part))
+    let end = λ (text : List ℕ). PutsRun (λ part. IsPartOf skip room part c.gather_items.new.part.skip c.gather_items.new.part.room c.gather_items.new.part.size c.gather_items.new.part.kept.items)
+    (EndsTextAt c.args.lister.now (most_read file c.args.lister.now.choice c.args.lister.now.limit (c.args.lister.now.counts.names + names_of_all run.items)) c.args.aside c.args.pdb run) text run c.gather_items.result in
+    subst end all (c.gather_items.ensures file good run known skip room (before ++ line) (c.in_default-take.ensures skip room before part))

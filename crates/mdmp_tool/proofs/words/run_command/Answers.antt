@@ -1,4 +1,4 @@
-use Rattle.mdmp_tool.proofs.words.run_request.Goals as goal
+use Rattle.mdmp_tool.proofs.words.run_command.Goals as goal
 
 pub returns-in-Print : goal.returns-in-Print
 returns-in-Print g c = rw c.in-Print.is c.print_file.ensures

@@ -1,17 +1,28 @@
-//! What the words of a command line ask for.
+//! What a command line asks for.
 use crate::number_words::Span;
 use mdmp_lister::{Limits, TypeSet};
 use mdmp_print::LineForm;
 
-/// A command, and the file that it is about.
+/// What a command line asks for.
 #[derive(Drop)]
-pub struct Request<'a> {
-    /// The name of the file that is read.
-    pub file: &'a str,
-    /// The limits within which it is read.
-    pub limits: Limits,
-    /// What is done with the file.
-    pub command: Command<'a>,
+pub enum Invocation<'a> {
+    /// A command, and the file that it reads.
+    Run {
+        /// The name of the file.
+        file: &'a str,
+        /// The limits within which it is read.
+        limits: Limits,
+        /// What is done with the file.
+        command: Command<'a>,
+    },
+    /// Help or the version: this text.
+    Help(String),
+    /// Nothing, since the words are no command line. This text says why.
+    Refused(String),
+    /// Nothing, since a number, a type or a span of addresses among the words is none.
+    InvalidValue,
+    /// Nothing that is known, since memory ran out while the words were read.
+    Memory,
 }
 
 /// What is printed of a file.
@@ -26,7 +37,7 @@ pub enum Print {
     List {
         /// How the lines are printed.
         form: LineForm,
-        /// Whether the symbol file of each module is told too.
+        /// Whether the symbol file of each module is printed too.
         pdb: bool,
     },
     /// The bytes at these addresses.
@@ -45,19 +56,4 @@ pub enum Command<'a> {
         /// The types of the streams.
         types: TypeSet,
     },
-}
-
-/// What the words of a command line come to.
-#[derive(Drop)]
-pub enum Asked<'a> {
-    /// A command is to be run.
-    Run(Request<'a>),
-    /// This text was asked for: help, or the version.
-    Help(String),
-    /// The words are no command line; this text says why.
-    Refused(String),
-    /// A number, a type or a span of addresses among the words is none.
-    Bad,
-    /// There was not enough memory to read them.
-    Memory,
 }

@@ -7,7 +7,7 @@ use Rattle.mdmp_engines.proofs.Reached.{HasNamed}
 use Rattle.mdmp_engines.specs.Engines.{IsSameRun}
 use Rattle.mdmp_c.specs.TextPart.{IsPartOf}
 use Rattle.mdmp_c.proofs.Listed.{HasGiven}
-use Rattle.mdmp_c.proofs.list_part.put_items.Given as goal
+use Rattle.mdmp_c.proofs.list_part.gather_items.Given as goal
 
 -- the lines of some items were given
 abbrev pub invariant-loop-lines : goal.invariant-loop-lines

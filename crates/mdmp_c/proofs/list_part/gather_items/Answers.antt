@@ -13,7 +13,7 @@ use Rattle.mdmp_c.specs.TextPart.{EndsTextAt}
 use Rattle.mdmp_lister.specs.Sink.{names_of_all}
 use Rattle.mdmp_engines.proofs.Reached.{HasNamed-fault, HasNamed-next}
 use Rattle.mdmp_c.proofs.Stopping.{text_over}
-use Rattle.mdmp_c.proofs.list_part.put_items.Goals as goal
+use Rattle.mdmp_c.proofs.list_part.gather_items.Goals as goal
 
 pub returns-in-Ok-false : goal.returns-in-Ok-false
 returns-in-Ok-false g c = λ file good run known skip room before part.

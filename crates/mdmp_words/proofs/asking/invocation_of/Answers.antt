@@ -1,7 +1,7 @@
 use Rattle.std.proofs.Common.{◌≡◌, rules, length, map}
 use Rattle.mdmp_words.proofs.AskingLemmas.{failed, none_refused, parsed}
-use Rattle.mdmp_words.proofs.asking.request_of.Goals as goal
-use Rattle.mdmp_words.proofs.asking.request_of.Goals.{in-Ok-render_help, in-Err}
+use Rattle.mdmp_words.proofs.asking.invocation_of.Goals as goal
+use Rattle.mdmp_words.proofs.asking.invocation_of.Goals.{in-Ok-render_help, in-Err}
 
 pub returns-then-is_empty-clause-asks : goal.returns-then-is_empty-clause-asks
 returns-then-is_empty-clause-asks c =
