@@ -13,7 +13,7 @@ from .objects import SPECS, Line, Object, fault_object, lines, part_forms, Scope
 from .sources import all_structures
 
 TABLE = ROOT / "docs/reference/lines.toml"
-TOOL_SPECS = CRATES / "mdmp_tool/specs"
+TOOL_SPECS = CRATES / "mdmp_engines/specs"
 
 
 @dataclass(frozen=True)

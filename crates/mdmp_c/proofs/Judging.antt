@@ -10,8 +10,8 @@ use Rattle.mdmp_lister.specs.declared.verdict.Verdict.{Verdict}
 use Rattle.mdmp_lister.specs.Format.Listing.{entry_count, verdicts}
 use Rattle.mdmp_lister.specs.Format.Refusal.{opening_fault}
 use Rattle.mdmp_lister.specs.Sink.{Taken, TakenToStop}
-use Rattle.mdmp_tool.specs.CheckText.{bad_count, fault_count}
-use Rattle.mdmp_tool.proofs.Checking.{bad_entries as few_entries}
+use Rattle.mdmp_engines.specs.CheckText.{bad_count, fault_count}
+use Rattle.mdmp_engines.proofs.Checking.{bad_entries as few_entries}
 use Rattle.mdmp_c.specs.declared.fault.PlainFault.{PlainFault}
 use Rattle.mdmp_c.specs.declared.verdict_rows.Judged.{Judged}
 use Rattle.mdmp_c.specs.Fault.{budget_fault, open_fault, status_of, told_unless}

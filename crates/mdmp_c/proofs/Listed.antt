@@ -22,14 +22,14 @@ use Rattle.mdmp_wire.specs.Header.{header_at}
 use Rattle.mdmp_lister.specs.declared.fault.ListFault.{ListFault}
 use Rattle.mdmp_lister.specs.declared.item.Item.{Item}
 use Rattle.mdmp_lister.specs.Lister.{tail}
-use Rattle.mdmp_tool.specs.Symbols.{IsRecordAmong}
+use Rattle.mdmp_engines.specs.Symbols.{IsRecordAmong}
 use Rattle.mdmp_lister.specs.Format.Listing.{Run, listing}
 use Rattle.mdmp_source.specs.Output.{OutState, PutsAll}
-use Rattle.mdmp_tool.specs.Causes.{IsNoSourceFault}
-use Rattle.mdmp_tool.specs.declared.fault.ToolFault.{ToolFault}
-use Rattle.mdmp_tool.specs.declared.fault.ToolFault.TheVariants.{List as BadList, Budget, Memory, Source, Out, AsideLimit}
-use Rattle.mdmp_tool.specs.Runs.{ListsNext}
-use Rattle.mdmp_tool.specs.Text.{item_lines, list_text, next_lines, run_text}
+use Rattle.mdmp_engines.specs.Causes.{IsNoSourceFault}
+use Rattle.mdmp_engines.specs.declared.fault.ToolFault.{ToolFault}
+use Rattle.mdmp_engines.specs.declared.fault.ToolFault.TheVariants.{List as BadList, Budget, Memory, Source, Out, AsideLimit}
+use Rattle.mdmp_engines.specs.Runs.{ListsNext}
+use Rattle.mdmp_engines.specs.Text.{item_lines, list_text, next_lines, run_text}
 use Rattle.mdmp_print.specs.declared.form.LineForm.{LineForm}
 
 module _ (form : LineForm) (pdb : Bool) (F : List ℕ) (limit : ℕ) where

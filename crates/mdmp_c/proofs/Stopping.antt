@@ -21,21 +21,21 @@ use Rattle.mdmp_lister.specs.Counts.{AreHeld, AreOfFile, AreSpent, numbers_of}
 use Rattle.mdmp_lister.specs.Fault.{IsOfStore, IsUnobtained}
 use Rattle.mdmp_lister.specs.Format.Bounds.{fetch_bound}
 use Rattle.mdmp_lister.specs.Format.Listing.{Run, entry_count, listing}
-use Rattle.mdmp_tool.specs.Symbols.{IsRecordAmong}
+use Rattle.mdmp_engines.specs.Symbols.{IsRecordAmong}
 use Rattle.mdmp_lister.specs.Lister.{IsRefusedIn, IsSameLister, ListerState, Rooms}
 use Rattle.mdmp_lister.specs.Memory.{IsRefusalWithin, TellsMemory, earlier_fault, is_within, leaving, mapped_fault, opening_fault_within, unmapped_fault}
 use Rattle.mdmp_lister.specs.Format.Refusal.{behind_directory, directory_refusal, opening_fault, range_fault}
 use Rattle.mdmp_source.specs.Output.{OutState}
-use Rattle.mdmp_tool.specs.CheckRuns.{Checks}
+use Rattle.mdmp_engines.specs.CheckRuns.{Checks}
 use Rattle.mdmp_print.specs.declared.form.LineForm.{LineForm}
 use Rattle.std.proofs.lemmas.Option.{none-some}
 use Rattle.mdmp_lister.specs.Meter.{IsRefusedFetch, IsUnmade, KeepsTo, is_passed}
 use Rattle.mdmp_lister.specs.Opening.{KeepsToBudget}
 use Rattle.mdmp_lister.specs.Sink.{names_of_all}
-use Rattle.mdmp_tool.specs.Causes.{HasBudgetCause, KeepsAside}
-use Rattle.mdmp_tool.specs.Engines.{IsReadThrough, IsSameRun, check_access}
-use Rattle.mdmp_tool.specs.declared.fault.ToolFault.{ToolFault}
-use Rattle.mdmp_tool.specs.declared.fault.ToolFault.TheVariants.{AsideLimit, Budget, MemoryLimit, Opening}
+use Rattle.mdmp_engines.specs.Causes.{HasBudgetCause, KeepsAside}
+use Rattle.mdmp_engines.specs.Engines.{IsReadThrough, IsSameRun, check_access}
+use Rattle.mdmp_engines.specs.declared.fault.ToolFault.{ToolFault}
+use Rattle.mdmp_engines.specs.declared.fault.ToolFault.TheVariants.{AsideLimit, Budget, MemoryLimit, Opening}
 use Rattle.mdmp_c.specs.declared.limits.PlainLimits.{PlainLimits}
 use Rattle.mdmp_c.specs.Fault.{budget_fault, open_fault}
 use Rattle.mdmp_c.specs.Limits.{AreGiven, EndsChecking, EndsText, IsLimit, KeepsMemory, ReachesLimit, ends_aside, ends_text, limit_of, most_read, names_checked, names_listed, reaches_budget, reaches_memory}

@@ -5,11 +5,11 @@ use Rattle.mdmp_lister.specs.declared.choice.Choice.TheVariants.{All}
 use Rattle.mdmp_lister.specs.Format.Listing.{verdicts}
 use Rattle.mdmp_lister.specs.Format.Refusal.{opening_fault}
 use Rattle.mdmp_source.specs.Output.{OutState, PutsAll, TakesPrefix}
-use Rattle.mdmp_tool.specs.declared.fault.ToolFault.{ToolFault}
-use Rattle.mdmp_tool.specs.declared.fault.ToolFault.TheVariants as tool
-use Rattle.mdmp_tool.specs.Causes.{IsNoSourceFault}
-use Rattle.mdmp_tool.specs.CheckRuns.{Checks}
-use Rattle.mdmp_tool.specs.CheckText.{bad_count, check_text}
+use Rattle.mdmp_engines.specs.declared.fault.ToolFault.{ToolFault}
+use Rattle.mdmp_engines.specs.declared.fault.ToolFault.TheVariants as tool
+use Rattle.mdmp_engines.specs.Causes.{IsNoSourceFault}
+use Rattle.mdmp_engines.specs.CheckRuns.{Checks}
+use Rattle.mdmp_engines.specs.CheckText.{bad_count, check_text}
 use Rattle.mdmp_print.specs.declared.form.LineForm.{LineForm}
 use Rattle.mdmp_c.specs.declared.fault.PlainFault.{PlainFault}
 use Rattle.mdmp_c.specs.Fault.{no_memory, told_unless}

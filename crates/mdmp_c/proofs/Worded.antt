@@ -12,11 +12,11 @@ use Rattle.mdmp_lister.specs.declared.fault.FaultKind.TheVariants as kinds
 use Rattle.mdmp_lister.specs.declared.fault.ListFault.{ListFault}
 use Rattle.mdmp_lister.specs.declared.fault.OpenFault.{OpenFault}
 use Rattle.mdmp_lister.specs.declared.fault.OpenFault.TheVariants as opening
-use Rattle.mdmp_tool.specs.declared.fault.ToolFault.{ToolFault}
-use Rattle.mdmp_tool.specs.declared.fault.ToolFault.TheVariants as tool
+use Rattle.mdmp_engines.specs.declared.fault.ToolFault.{ToolFault}
+use Rattle.mdmp_engines.specs.declared.fault.ToolFault.TheVariants as tool
 use Rattle.mdmp_writer.specs.declared.fault.LayoutFault.TheVariants as layout
-use Rattle.mdmp_tool.specs.CheckText.{bad_text}
-use Rattle.mdmp_tool.specs.Faults.{fault_text}
+use Rattle.mdmp_engines.specs.CheckText.{bad_text}
+use Rattle.mdmp_engines.specs.Faults.{fault_text}
 use Rattle.mdmp_print.specs.Lines.{error_line}
 use Rattle.mdmp_c.specs.declared.fault.PlainFault.{PlainFault}
 use Rattle.mdmp_c.specs.Fault.{plain_list_fault, no_fault, open_fault}

@@ -1,10 +1,10 @@
 -- What the call tells that gives a copy.
 use Rattle.std.specs.Prelude.{◌≡◌, ◌≤◌, ℕ, List, [], length, Some, Result}
 use Rattle.mdmp_source.specs.Output.{OutState}
-use Rattle.mdmp_tool.specs.Causes.{IsNoSourceFault}
+use Rattle.mdmp_engines.specs.Causes.{IsNoSourceFault}
 use Rattle.mdmp_lister.specs.declared.limits.Limits.{Limits}
-use Rattle.mdmp_tool.specs.Copying.{Copies, TellsCopyBudget, TellsCopyMemory}
-use Rattle.mdmp_tool.specs.declared.fault.ToolFault.{ToolFault}
+use Rattle.mdmp_engines.specs.Copying.{Copies, TellsCopyBudget, TellsCopyMemory}
+use Rattle.mdmp_engines.specs.declared.fault.ToolFault.{ToolFault}
 use Rattle.mdmp_c.specs.declared.fault.PlainFault.{PlainFault}
 use Rattle.mdmp_c.specs.declared.limits.PlainLimits.{PlainLimits}
 use Rattle.mdmp_c.specs.Limits.{AreGiven}

@@ -17,7 +17,7 @@ use Rattle.mdmp_lister.specs.Format.Refusal.{opening_fault}
 use Rattle.mdmp_lister.specs.Limits.{most_bytes}
 use Rattle.mdmp_lister.specs.Memory.{opening_fault_within}
 use Rattle.mdmp_lister.specs.Sink.{names_of_all}
-use Rattle.mdmp_tool.specs.Symbols.{IsRecordAmong}
+use Rattle.mdmp_engines.specs.Symbols.{IsRecordAmong}
 
 -- a window of at least the greatest record, neither it nor a name of more than 2^30 bytes
 abbrev pub AreLimits : PlainLimits → Type 0

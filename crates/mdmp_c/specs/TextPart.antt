@@ -10,10 +10,10 @@ use Rattle.mdmp_lister.specs.Format.Listing.{Run, listing}
 use Rattle.mdmp_lister.specs.Format.Refusal.{opening_fault}
 use Rattle.mdmp_lister.specs.Lister.{ListerState}
 use Rattle.mdmp_lister.specs.Memory.{is_within}
-use Rattle.mdmp_tool.specs.declared.fault.ToolFault.{ToolFault}
-use Rattle.mdmp_tool.specs.declared.fault.ToolFault.TheVariants.{List as BadList, Budget, AsideLimit, Memory, Out}
-use Rattle.mdmp_tool.specs.Symbols.{IsRecordAmong}
-use Rattle.mdmp_tool.specs.Text.{list_text}
+use Rattle.mdmp_engines.specs.declared.fault.ToolFault.{ToolFault}
+use Rattle.mdmp_engines.specs.declared.fault.ToolFault.TheVariants.{List as BadList, Budget, AsideLimit, Memory, Out}
+use Rattle.mdmp_engines.specs.Symbols.{IsRecordAmong}
+use Rattle.mdmp_engines.specs.Text.{list_text}
 use Rattle.mdmp_print.specs.declared.form.LineForm.{LineForm}
 
 -- what is told of F by a list in this form, and what stands behind the first `skip` bytes of its text

@@ -6,8 +6,8 @@ use Rattle.mdmp_c.specs.ToolFault.{bad_entries}
 use Rattle.mdmp_lister.specs.declared.choice.Choice.TheVariants.{All}
 use Rattle.mdmp_lister.specs.Format.Listing.{listing, verdicts}
 use Rattle.mdmp_lister.specs.Format.Refusal.{opening_fault}
-use Rattle.mdmp_tool.specs.CheckText.{bad_count, check_text}
-use Rattle.mdmp_tool.specs.Text.{list_text}
+use Rattle.mdmp_engines.specs.CheckText.{bad_count, check_text}
+use Rattle.mdmp_engines.specs.Text.{list_text}
 use Rattle.mdmp_print.specs.declared.form.LineForm.{LineForm}
 
 -- why F can't be opened, or how many of its entries have a fault; and the line of each entry, in this form

@@ -7,7 +7,7 @@ use Rattle.mdmp_lister.specs.declared.sink.Stopped.{Stopped}
 use Rattle.mdmp_lister.specs.declared.verdict.Verdict.{Verdict}
 use Rattle.mdmp_lister.specs.Format.Listing.{verdicts}
 use Rattle.mdmp_lister.specs.Format.Refusal.{opening_fault}
-use Rattle.mdmp_tool.specs.CheckText.{bad_count, fault_count}
+use Rattle.mdmp_engines.specs.CheckText.{bad_count, fault_count}
 use Rattle.mdmp_c.specs.declared.fault.PlainFault.{PlainFault}
 use Rattle.mdmp_c.specs.declared.verdict_rows.Judged.{Judged}
 use Rattle.mdmp_c.specs.Fault.{plain_list_fault, no_fault, told_unless}

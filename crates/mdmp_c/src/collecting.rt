@@ -35,7 +35,7 @@ pub(crate) fn collect<T: PlainRow, S: Store + Drop, A: Allocator + Copy>(
             Ok(None) => return Collected { count, fault: None },
             Ok(Some(item)) => {
                 if let Some(row) = T::of(&item) {
-                    put(out, count, row);
+                    set_row(out, count, row);
                     count = count.saturating_add(1);
                 }
             }
@@ -52,7 +52,7 @@ pub(crate) fn collect<T: PlainRow, S: Store + Drop, A: Allocator + Copy>(
 }
 
 /// Puts a row behind those that an array has at its front, where it has room.
-pub(crate) fn put<T: Copy>(out: &mut [T], at: u64, row: T)
+pub(crate) fn set_row<T: Copy>(out: &mut [T], at: u64, row: T)
     ensures { (rows : List T) (before : List T) → out.old ≡ put_front rows before → at ≡ told_count (length rows)
         → out.new ≡ put_front (rows ++ row ∷ []) before }
 {

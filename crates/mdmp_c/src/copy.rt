@@ -7,9 +7,9 @@ use crate::fault::{PlainFault, of_kind};
 use crate::giving::{give_or_want, refuse};
 use crate::limits::{PlainLimits, limits_of};
 use crate::tool_fault::copy_answer;
+use mdmp_engines::run_copy;
 use mdmp_lister::TypeSet;
 use mdmp_source::{MemoryStore, WriteOut};
-use mdmp_tool::run_copy;
 use std::alloc::Global;
 
 /// Gives the bytes of a new file, with the streams of these types, 1 to 16 of them. If a limit is reached,

@@ -1,7 +1,7 @@
 //! The call that gives the words of a fault.
 ghost use Rattle.std.specs.Prelude.{◌≡◌, Some};
-ghost use Rattle.mdmp_tool.specs.declared.fault.ToolFault.{ToolFault};
-ghost use Rattle.mdmp_tool.specs.Faults.{fault_text};
+ghost use Rattle.mdmp_engines.specs.declared.fault.ToolFault.{ToolFault};
+ghost use Rattle.mdmp_engines.specs.Faults.{fault_text};
 ghost use Rattle.mdmp_c.specs.FaultText.{FitsTool, TellsWords, words_of};
 ghost use Rattle.mdmp_c.specs.ToolFault.{tool_fault};
 

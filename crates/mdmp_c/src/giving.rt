@@ -12,7 +12,7 @@ pub(crate) const TOO_SHORT: u32 = 4;
 pub(crate) const NO_MEMORY: u32 = 66;
 
 /// Puts a text at the front of a buffer, as much as it holds.
-pub(crate) fn put_text(text: &[u8], out: &mut [u8])
+pub(crate) fn copy_text(text: &[u8], out: &mut [u8])
     ensures { out.new ≡ put_front text.now out.old }
 {
     let fitting = text.len().min(out.len());
@@ -32,7 +32,7 @@ pub(crate) fn give(
 {
     *fault = told;
     *size = text.len() as u64;
-    put_text(text, out);
+    copy_text(text, out);
     if out.len() < text.len() {
         TOO_SHORT
     } else {

@@ -6,7 +6,7 @@ ghost use Rattle.mdmp_c.specs.Giving.{put_front};
 ghost use Rattle.mdmp_source.specs.Range.{IsInside};
 ghost use Rattle.mdmp_wire.specs.Entry.{entry_at};
 
-use crate::collecting::put;
+use crate::collecting::set_row;
 use mdmp_wire::{Entry, Header, get_at};
 use std::mem::size_of;
 
@@ -89,7 +89,7 @@ pub(crate) fn fill_streams(file: &[u8], at: u32, count: u32, out: &mut [StreamRo
     let mut number = 0u32;
     while number < count {
         let entry: Entry = get_at(file, at as usize + 12 * number as usize);
-        put(out, u64::from(number), stream_row(number, entry));
+        set_row(out, u64::from(number), stream_row(number, entry));
         number += 1;
     }
 }

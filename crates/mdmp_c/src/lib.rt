@@ -9,7 +9,7 @@
 //! [`PlainLimits`] limit what is read at a time, what is read in all, and memory. If a limit is reached, the call gives what
 //! it read before, or nothing. `specs/Limits.antt` says when a call may say so.
 //!
-//! The contracts of these calls use the definitions of the Rust crates: those of mdmp_tool for a text, the listing of
+//! The contracts of these calls use the definitions of the Rust crates: those of mdmp_engines for a text, the listing of
 //! mdmp_lister for a record. `specs/Giving.antt` says how a result reaches the caller.
 #![tactic(auto)]
 

@@ -9,7 +9,7 @@ ghost use Rattle.mdmp_lister.specs.Format.Listing.{Run};
 ghost use Rattle.mdmp_lister.specs.Sink.{names_of_all};
 ghost use Rattle.mdmp_source.specs.Store.{IsGood};
 ghost use Rattle.mdmp_print.specs.Forms.{dump_line_in};
-ghost use Rattle.mdmp_tool.specs.Text.{run_text};
+ghost use Rattle.mdmp_engines.specs.Text.{run_text};
 ghost use Rattle.mdmp_print.specs.declared.form.LineForm.TheVariants.{Text};
 
 use crate::fault::{PlainFault, of_kind, open_fault};
@@ -17,9 +17,9 @@ use crate::giving::refuse;
 use crate::limits::{PlainLimits, limits_of};
 use crate::text_part::TextPart;
 use crate::tool_fault::list_answer;
+use mdmp_engines::{LineForm, ToolFault, list_next, print_dump};
 use mdmp_lister::{Choice, Lister};
 use mdmp_source::{MemoryStore, OutFailed, Source, Store, WriteOut};
-use mdmp_tool::{LineForm, ToolFault, list_next, print_dump};
 use std::alloc::{AllocError, Allocator, Global};
 
 /// Gives what follows the first `skip` bytes of the text of `list`, as [`mdmp_list_`](crate::mdmp_list_)
@@ -76,12 +76,12 @@ pub(crate) fn give_list(
         Err(refused) => return refuse(open_fault(refused.fault), size, fault),
     };
     let mut part = TextPart::new(alloc, skip, out.len());
-    let answer = put_list(alloc, &mut lister, form, pdb, limits.aside, &mut part);
+    let answer = gather_list(alloc, &mut lister, form, pdb, limits.aside, &mut part);
     part.give(list_answer(answer), out, size, fault)
 }
 
 /// Puts the line of the header and those of the items that are left into a part of their text.
-fn put_list<S: Store + Drop, A: Allocator + Copy>(
+fn gather_list<S: Store + Drop, A: Allocator + Copy>(
     alloc: Global,
     lister: &mut Lister<S, A>,
     form: LineForm,
@@ -104,11 +104,11 @@ fn put_list<S: Store + Drop, A: Allocator + Copy>(
     if let Err(AllocError) = part.take(&line) {
         return Err(ToolFault::Memory);
     }
-    put_items(lister, form, pdb, aside, line, part)
+    gather_items(lister, form, pdb, aside, line, part)
 }
 
 /// Puts the lines of the items that are left into a part of their text, those of one at a time.
-fn put_items<S: Store + Drop, A: Allocator + Copy>(
+fn gather_items<S: Store + Drop, A: Allocator + Copy>(
     lister: &mut Lister<S, A>,
     form: LineForm,
     pdb: bool,

@@ -5,7 +5,7 @@ ghost use Rattle.mdmp_c.specs.Giving.{Fails, GivesOrWants, told_count};
 ghost use Rattle.mdmp_c.specs.TextPart.{IsPartOf};
 
 use crate::fault::{PlainFault, of_kind};
-use crate::giving::{NO_MEMORY, put_text, refuse};
+use crate::giving::{NO_MEMORY, copy_text, refuse};
 use crate::table::tell;
 use std::alloc::{AllocError, Global};
 
@@ -65,7 +65,7 @@ impl TextPart {
         if told.kind == NO_MEMORY {
             return refuse(of_kind(NO_MEMORY), size, fault);
         }
-        put_text(&self.kept, out);
+        copy_text(&self.kept, out);
         tell(self.size, told, out.len(), size, fault)
     }
 }

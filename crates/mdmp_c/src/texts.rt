@@ -10,8 +10,8 @@ use crate::giving::{give_or_want, refuse};
 use crate::limits::{PlainLimits, limits_of};
 use crate::list_part::give_list;
 use crate::tool_fault::check_answer;
+use mdmp_engines::{LineForm, check_source};
 use mdmp_source::{MemoryStore, Source, WriteOut};
-use mdmp_tool::{LineForm, check_source};
 use std::alloc::Global;
 
 /// Gives the text of `check`: a line for each entry, that it is good, or its first error. `fault` says

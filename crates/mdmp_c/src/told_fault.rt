@@ -4,8 +4,8 @@ ghost use Rattle.mdmp_c.specs.FaultText.{fault_in, kind_by_number, opening_in, p
 
 use crate::fault::PlainFault;
 use mdmp_dump::{PartName, ReadFault};
+use mdmp_engines::ToolFault;
 use mdmp_lister::{FaultKind, ListFault, OpenFault};
-use mdmp_tool::ToolFault;
 use mdmp_writer::LayoutFault;
 
 /// A number of two halves.

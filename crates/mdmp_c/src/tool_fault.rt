@@ -6,7 +6,7 @@ use crate::fault::{
     NO_FAULT, PlainFault, budget_fault, of_kind, open_fault, plain_list_fault, wide_fault,
 };
 use mdmp_dump::{PartName, ReadFault};
-use mdmp_tool::ToolFault;
+use mdmp_engines::ToolFault;
 use mdmp_writer::LayoutFault;
 
 /// The number of a part.

@@ -6,7 +6,7 @@ ghost use Rattle.mdmp_c.specs.Verdicts.{Judges, verdict_row};
 ghost use Rattle.mdmp_lister.specs.Lister.{is_fresh};
 ghost use Rattle.mdmp_source.specs.Store.{IsGood};
 
-use crate::collecting::put;
+use crate::collecting::set_row;
 use crate::fault::{NO_FAULT, PlainFault, plain_list_fault};
 use mdmp_lister::{ListFault, Lister, RunFault, Stopped, Verdict, VerdictSink};
 use mdmp_source::Store;
@@ -41,7 +41,7 @@ impl<'a> VerdictSink for VerdictRows<'a> {
         × TakesRow old.out.now old.count old.bad verdict result new.out.now new.count new.bad };
 
     fn take(&mut self, verdict: &Verdict) -> Result<(), Stopped> {
-        put(self.out, self.count, verdict_row(verdict));
+        set_row(self.out, self.count, verdict_row(verdict));
         self.count = self.count.saturating_add(1);
         if verdict.fault.is_some() {
             self.bad = self.bad.saturating_add(1);

@@ -6,8 +6,8 @@ ghost use Rattle.mdmp_c.specs.FaultText.{TellsWords, fault_in, fixed_words};
 use crate::fault::{NO_FAULT, PlainFault, of_kind};
 use crate::giving::{NO_MEMORY, give, refuse};
 use crate::told_fault::fault_in;
+use mdmp_engines::{ToolFault, fault_line};
 use mdmp_source::WriteOut;
-use mdmp_tool::{ToolFault, fault_line};
 use std::alloc::Global;
 
 /// The words of a fault that no command tells, or in other words, and that its kind says all of.

@@ -2,7 +2,7 @@
 //!
 //! No function that a test calls here has a contract, so that the test knows nothing of what it did, and its own
 //! proof stays short. Each ends the test by itself where memory runs out.
-ghost use Rattle.mdmp_words.specs.Requests.{IsPrintable};
+ghost use Rattle.mdmp_words.specs.Invocations.{IsPrintable};
 
 use crate::files::{SmallFile, bytes_of, remove_file};
 use crate::same::assert_same_at;
@@ -10,8 +10,8 @@ use mdmp_disk::{Disk, GivenFile, MemoryDisk};
 use mdmp_source::{PatchyOut, PatchyStore, Source};
 use mdmp_test_support::{FOR_LONG_TEXT, HeapCounts, MEMORY64, MeteredHeap, Refusal, Room, SYSTEM};
 use mdmp_tool::{
-    LINE_ROOM, Limits, LineForm, LineOut, Print, Span, TypeSet, copy_told, print_told, run_args,
-    run_on_disk, run_words,
+    LINE_ROOM, Limits, LineForm, LineOut, Print, Span, TypeSet, copy_and_report, print_and_report,
+    run_args, run_on_disk, run_words,
 };
 use std::alloc::{AllocGlobal, Global};
 use std::fmt::Debug;
@@ -37,9 +37,9 @@ pub enum Shown {
 /// A command, by the call that runs it.
 #[derive(Clone, Copy)]
 pub enum CommandCall<'a> {
-    /// `print_told` over a store with this file.
+    /// `print_and_report` over a store with this file.
     Print(Shown, SmallFile),
-    /// `copy_told` of these types out of such a store.
+    /// `copy_and_report` of these types out of such a store.
     Copy(&'a [u32], SmallFile),
     /// `run_on_disk` of these words, over a disk in memory.
     Line(&'a [&'a str]),
@@ -184,7 +184,7 @@ fn print_status(
     let mut buffer = vec![in alloc; 0; LINE_ROOM].expect(rt, "memory for a block");
     let mut blocks = LineOut::over(&mut buffer, out);
     let source = Source::new(store);
-    print_told(heap, print_of(shown), source, limits, &mut blocks, err).status
+    print_and_report(heap, print_of(shown), source, limits, &mut blocks, err).answer
 }
 
 /// The status of a copy.
@@ -198,7 +198,7 @@ fn copy_status(
     err: &mut PatchyOut<Global>,
 ) -> u8 {
     let types = TypeSet::new(types).expect(rt, "types");
-    copy_told(heap, types, Source::new(store), limits, out, err).status
+    copy_and_report(heap, types, Source::new(store), limits, out, err).answer
 }
 
 /// The bytes of the copy, if there is one among the files of the system, which is removed.

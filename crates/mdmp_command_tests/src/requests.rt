@@ -1,7 +1,7 @@
 //! What the words of a command line ask for.
 use crate::same::assert_same_at;
-use mdmp_lister::TypeSet;
-use mdmp_words::{Asked, Command, LineForm, Print, Request, request_of};
+use mdmp_lister::{Limits, TypeSet};
+use mdmp_words::{Command, Invocation, LineForm, Print, invocation_of};
 use std::alloc::Global;
 use std::process::Abort;
 
@@ -39,14 +39,19 @@ fn print_text(rt: &impl Abort, alloc: Global, file: &str, print: Print) -> Strin
     text.expect(rt, "memory for a text")
 }
 
-/// A request as a text: what is to be done, and within which limits: the window, the longest name, and what may be
+/// A command as a text: what is to be done, and within which limits: the window, the longest name, and what may be
 /// read, held, and read of CodeView records.
-fn text_of(rt: &impl Abort, alloc: Global, request: &Request<'_>) -> String {
-    let command = match &request.command {
-        Command::Print(print) => print_text(rt, alloc, request.file, *print),
-        Command::Copy { target, types } => copy_text(rt, alloc, request.file, *target, types),
+fn text_of(
+    rt: &impl Abort,
+    alloc: Global,
+    file: &str,
+    limits: Limits,
+    command: &Command<'_>,
+) -> String {
+    let command = match command {
+        Command::Print(print) => print_text(rt, alloc, file, *print),
+        Command::Copy { target, types } => copy_text(rt, alloc, file, *target, types),
     };
-    let limits = &request.limits;
     let text = format!(in alloc;
         "{command} within {} {} {:?} {:?} {:?}",
         limits.window, limits.name, limits.budget, limits.memory, limits.aside
@@ -54,14 +59,18 @@ fn text_of(rt: &impl Abort, alloc: Global, request: &Request<'_>) -> String {
     text.expect(rt, "memory for a text")
 }
 
-/// What words come to, as a text: a request, or why there is none.
+/// What words come to, as a text: a command, or why there is none.
 fn asked_by<'a>(rt: &impl Abort, alloc: Global, words: &'a [&'a str]) -> String {
-    let text = match request_of(alloc, words) {
-        Asked::Run(request) => return text_of(rt, alloc, &request),
-        Asked::Help(_) => "help",
-        Asked::Refused(_) => "refused",
-        Asked::Bad => "bad",
-        Asked::Memory => "memory",
+    let text = match invocation_of(alloc, words) {
+        Invocation::Run {
+            file,
+            limits,
+            command,
+        } => return text_of(rt, alloc, file, limits, &command),
+        Invocation::Help(_) => "help",
+        Invocation::Refused(_) => "refused",
+        Invocation::InvalidValue => "bad",
+        Invocation::Memory => "memory",
     };
     String::from_str(alloc, text).expect(rt, "memory for a text")
 }
@@ -703,7 +712,7 @@ const HELP: [AskedRow<'static>; 12] = [
 ];
 
 #[test]
-fn request_of_succeeds(rt: HostRuntime) {
+fn invocation_of_succeeds(rt: HostRuntime) {
     assert_asked(&rt, rt.alloc(), &COMMANDS);
     assert_asked(&rt, rt.alloc(), &SPANS);
     assert_asked(&rt, rt.alloc(), &TYPES);

@@ -45,7 +45,7 @@ impl Requests {
         }
     }
 
-    /// Counts a call of `make` with this answer.
+    /// Counts a call of `create_new` with this answer.
     pub fn count_make(&mut self, is_made: bool)
         ensures { self.new ≡ make_counted is_made self.old }
     {
@@ -83,7 +83,7 @@ pub trait Disk {
         ensures state { state self.new ≡ after_open (is_ok result) (state self.old) };
 
     /// Makes a file of this name, where there is none. Where it is refused no file is changed.
-    fn make(&mut self, name: &str) -> Result<Self::Made, DiskRefused>
+    fn create_new(&mut self, name: &str) -> Result<Self::Made, DiskRefused>
         ensures made { IfOk result (λ made. IsMade (state self.old) name.now (Self.Made.state made) (state self.new)) }
         ensures refused { OnErr result (state self.new ≡ open_refused (state self.old)) };
 

@@ -127,7 +127,7 @@ impl<'a, A: Allocator + Copy> Disk for MemoryDisk<'a, A> {
         }
     }
 
-    fn make(&mut self, name: &str) -> Result<Self::Made, DiskRefused> {
+    fn create_new(&mut self, name: &str) -> Result<Self::Made, DiskRefused> {
         let Some(kept) = self.vacant(name) else {
             self.requests.count_make(false);
             return Err(DiskRefused);

@@ -43,7 +43,7 @@ impl<R: Files + Alloc> Disk for SystemDisk<'_, R> {
         answer
     }
 
-    fn make(&mut self, name: &str) -> Result<Self::Made, DiskRefused> {
+    fn create_new(&mut self, name: &str) -> Result<Self::Made, DiskRefused> {
         let made = OpenOptions::new()
             .write(true)
             .create_new(true)

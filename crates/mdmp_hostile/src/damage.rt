@@ -41,12 +41,12 @@ pub fn damage(draft: &mut Draft, chance: &mut Chance) {
 fn become_noise(draft: &mut Draft, chance: &mut Chance) {
     draft.bytes.clear();
     if chance.once_in(2) {
-        draft.put_bytes(b"MDMP\x93\xa7");
-        draft.put_noise(chance, 2);
-        draft.put_words(&[chance.below(4), 32]);
+        draft.push_bytes(b"MDMP\x93\xa7");
+        draft.push_noise(chance, 2);
+        draft.push_words(&[chance.below(4), 32]);
     }
     let size = chance.below(300);
-    draft.put_noise(chance, size);
+    draft.push_noise(chance, size);
 }
 
 /// Drops bytes at the end.

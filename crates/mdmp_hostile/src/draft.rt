@@ -70,52 +70,52 @@ impl Draft {
         u32::try_from(self.bytes.len()).unwrap_or(u32::MAX)
     }
 
-    /// Puts bytes.
-    pub fn put_bytes(&mut self, bytes: &[u8]) {
+    /// Appends bytes.
+    pub fn push_bytes(&mut self, bytes: &[u8]) {
         if self.bytes.extend_from_slice(bytes).is_err() {
             self.lacks_memory = true;
         }
     }
 
-    /// Puts a number of four bytes.
-    pub fn put_word(&mut self, value: u32) {
-        self.put_bytes(&value.to_le_bytes());
+    /// Appends a number of four bytes.
+    pub fn push_word(&mut self, value: u32) {
+        self.push_bytes(&value.to_le_bytes());
     }
 
-    /// Puts numbers of four bytes.
-    pub fn put_words(&mut self, values: &[u32]) {
+    /// Appends numbers of four bytes.
+    pub fn push_words(&mut self, values: &[u32]) {
         for value in values {
-            self.put_word(*value);
+            self.push_word(*value);
         }
     }
 
-    /// Puts a number of four bytes that a reader goes by.
-    pub fn put_number(&mut self, belongs: Belongs, value: u32) {
+    /// Appends a number of four bytes that a reader goes by.
+    pub fn push_number(&mut self, belongs: Belongs, value: u32) {
         self.mark(belongs, 4);
-        self.put_word(value);
+        self.push_word(value);
     }
 
-    /// Puts a number of eight bytes that a reader goes by.
-    pub fn put_wide_number(&mut self, belongs: Belongs, value: u64) {
+    /// Appends a number of eight bytes that a reader goes by.
+    pub fn push_wide_number(&mut self, belongs: Belongs, value: u64) {
         self.mark(belongs, 8);
-        self.put_bytes(&value.to_le_bytes());
+        self.push_bytes(&value.to_le_bytes());
     }
 
-    /// Puts any bytes.
-    pub fn put_noise(&mut self, chance: &mut Chance, size: u32) {
+    /// Appends any bytes.
+    pub fn push_noise(&mut self, chance: &mut Chance, size: u32) {
         for _ in 0..size {
-            self.put_bytes(&[chance.byte()]);
+            self.push_bytes(&[chance.byte()]);
         }
     }
 
-    /// Puts bytes so that what follows begins at a multiple of 4, or does not.
-    pub fn put_gap(&mut self, chance: &mut Chance) {
+    /// Appends bytes so that what follows begins at a multiple of 4, or does not.
+    pub fn push_gap(&mut self, chance: &mut Chance) {
         let gap = if chance.once_in(2) {
             3 - (self.end().wrapping_sub(1) & 3)
         } else {
             chance.below(4)
         };
-        self.put_noise(chance, gap);
+        self.push_noise(chance, gap);
     }
 
     /// Adds an entry, which is not written yet.

@@ -3,26 +3,26 @@
 use crate::chance::Chance;
 use crate::draft::{Belongs, Draft, DraftEntry};
 use crate::pool::DraftNames;
-use crate::streams::put_stream;
+use crate::streams::push_stream;
 use std::alloc::Global;
 
 /// A file of any streams, whose directory stands behind the header or behind all else.
 pub fn make_good_file(alloc: Global, chance: &mut Chance) -> Draft {
     let mut draft = Draft::new(alloc);
     let count = chance.below(13);
-    put_header(&mut draft, chance, count);
+    push_header(&mut draft, chance, count);
     let in_front = chance.once_in(2);
     let mut place = 0;
     if in_front {
-        place = put_directory(&mut draft, chance, count);
+        place = push_directory(&mut draft, chance, count);
     }
-    let names = DraftNames::put(&mut draft, chance);
+    let names = DraftNames::push(&mut draft, chance);
     for _ in 0..count {
         let entry = any_entry(&mut draft, &names, chance);
         draft.add_entry(entry);
     }
     if !in_front {
-        place = put_directory(&mut draft, chance, count);
+        place = push_directory(&mut draft, chance, count);
     }
     if chance.once_in(2) {
         draft.entries.reverse();
@@ -31,22 +31,22 @@ pub fn make_good_file(alloc: Global, chance: &mut Chance) -> Draft {
     draft
 }
 
-/// Puts a header, whose directory stands anywhere.
-fn put_header(draft: &mut Draft, chance: &mut Chance, count: u32) {
-    draft.put_number(Belongs::Header, 0x504d_444d);
+/// Appends a header, whose directory stands anywhere.
+fn push_header(draft: &mut Draft, chance: &mut Chance, count: u32) {
+    draft.push_number(Belongs::Header, 0x504d_444d);
     let version = u32::from(chance.unit()) << 16 | 0xa793;
-    draft.put_number(Belongs::Header, version);
-    draft.put_number(Belongs::Header, count);
-    draft.put_number(Belongs::Header, chance.word());
-    draft.put_noise(chance, 16);
+    draft.push_number(Belongs::Header, version);
+    draft.push_number(Belongs::Header, count);
+    draft.push_number(Belongs::Header, chance.word());
+    draft.push_noise(chance, 16);
 }
 
-/// Puts a directory of so many entries, any bytes as yet, and gives its place.
-fn put_directory(draft: &mut Draft, chance: &mut Chance, count: u32) -> usize {
-    draft.put_gap(chance);
+/// Appends a directory of so many entries, any bytes as yet, and gives its place.
+fn push_directory(draft: &mut Draft, chance: &mut Chance, count: u32) -> usize {
+    draft.push_gap(chance);
     let place = draft.bytes.len();
     for _ in 0..count.saturating_mul(3) {
-        draft.put_number(Belongs::Directory, 0);
+        draft.push_number(Belongs::Directory, 0);
     }
     place
 }
@@ -58,7 +58,7 @@ fn any_entry(draft: &mut Draft, names: &DraftNames, chance: &mut Chance) -> Draf
             return *entry;
         }
     }
-    put_stream(draft, names, chance)
+    push_stream(draft, names, chance)
 }
 
 /// Writes the entries over what stands at a place, and the place into the header. With no entry it is

@@ -15,16 +15,16 @@ pub struct DraftNames {
 }
 
 impl DraftNames {
-    /// Puts some names into a file.
-    pub fn put(draft: &mut Draft, chance: &mut Chance) -> Self {
+    /// Appends some names into a file.
+    pub fn push(draft: &mut Draft, chance: &mut Chance) -> Self {
         let mut rvas = [0; 4];
         let count = chance.index(5);
         for k in 0..count {
-            draft.put_gap(chance);
+            draft.push_gap(chance);
             if let Some(rva) = rvas.get_mut(k) {
                 *rva = draft.end();
             }
-            put_name(draft, chance);
+            push_name(draft, chance);
         }
         DraftNames { rvas, count }
     }
@@ -41,14 +41,14 @@ impl DraftNames {
     }
 }
 
-/// Puts a name of any units.
-fn put_name(draft: &mut Draft, chance: &mut Chance) {
+/// Appends a name of any units.
+fn push_name(draft: &mut Draft, chance: &mut Chance) {
     let units = unit_count(chance);
-    draft.put_number(Belongs::Name, units.saturating_mul(2));
+    draft.push_number(Belongs::Name, units.saturating_mul(2));
     for _ in 0..units {
-        draft.put_bytes(&chance.unit().to_le_bytes());
+        draft.push_bytes(&chance.unit().to_le_bytes());
     }
-    draft.put_bytes(&[0, 0]);
+    draft.push_bytes(&[0, 0]);
 }
 
 /// How many units a name has: mostly as many as are read, at times none, the most, or too many.

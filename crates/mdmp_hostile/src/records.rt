@@ -34,66 +34,66 @@ impl ListedRecord {
         }
     }
 
-    /// Puts one into a file.
-    pub fn put(self, draft: &mut Draft, names: &DraftNames, chance: &mut Chance) {
+    /// Appends one into a file.
+    pub fn push(self, draft: &mut Draft, names: &DraftNames, chance: &mut Chance) {
         match self {
-            ListedRecord::Thread => put_thread(draft, chance),
-            ListedRecord::Module => put_module(draft, names, chance),
-            ListedRecord::Range => put_range(draft, chance),
-            ListedRecord::Unloaded => put_unloaded(draft, names, chance),
-            ListedRecord::MemoryInfo => draft.put_noise(chance, 48),
-            ListedRecord::ThreadName => put_thread_name(draft, names, chance),
+            ListedRecord::Thread => push_thread(draft, chance),
+            ListedRecord::Module => push_module(draft, names, chance),
+            ListedRecord::Range => push_range(draft, chance),
+            ListedRecord::Unloaded => push_unloaded(draft, names, chance),
+            ListedRecord::MemoryInfo => draft.push_noise(chance, 48),
+            ListedRecord::ThreadName => push_thread_name(draft, names, chance),
         }
     }
 }
 
-fn put_thread(draft: &mut Draft, chance: &mut Chance) {
-    draft.put_noise(chance, 32);
-    put_part(draft, chance);
-    put_part(draft, chance)
+fn push_thread(draft: &mut Draft, chance: &mut Chance) {
+    draft.push_noise(chance, 32);
+    push_part(draft, chance);
+    push_part(draft, chance)
 }
 
-fn put_module(draft: &mut Draft, names: &DraftNames, chance: &mut Chance) {
-    draft.put_noise(chance, 20);
-    draft.put_number(Belongs::Record, names.any(chance));
-    draft.put_noise(chance, 52);
-    put_part(draft, chance);
-    put_part(draft, chance);
-    draft.put_noise(chance, 16)
+fn push_module(draft: &mut Draft, names: &DraftNames, chance: &mut Chance) {
+    draft.push_noise(chance, 20);
+    draft.push_number(Belongs::Record, names.any(chance));
+    draft.push_noise(chance, 52);
+    push_part(draft, chance);
+    push_part(draft, chance);
+    draft.push_noise(chance, 16)
 }
 
-fn put_range(draft: &mut Draft, chance: &mut Chance) {
-    draft.put_noise(chance, 8);
-    put_part(draft, chance)
+fn push_range(draft: &mut Draft, chance: &mut Chance) {
+    draft.push_noise(chance, 8);
+    push_part(draft, chance)
 }
 
-fn put_unloaded(draft: &mut Draft, names: &DraftNames, chance: &mut Chance) {
-    draft.put_noise(chance, 20);
-    draft.put_number(Belongs::Record, names.any(chance))
+fn push_unloaded(draft: &mut Draft, names: &DraftNames, chance: &mut Chance) {
+    draft.push_noise(chance, 20);
+    draft.push_number(Belongs::Record, names.any(chance))
 }
 
-fn put_thread_name(draft: &mut Draft, names: &DraftNames, chance: &mut Chance) {
-    draft.put_noise(chance, 4);
-    draft.put_wide_number(Belongs::Record, u64::from(names.any(chance)))
+fn push_thread_name(draft: &mut Draft, names: &DraftNames, chance: &mut Chance) {
+    draft.push_noise(chance, 4);
+    draft.push_wide_number(Belongs::Record, u64::from(names.any(chance)))
 }
 
-/// Puts a `MINIDUMP_EXCEPTION_STREAM`.
-pub fn put_exception(draft: &mut Draft, chance: &mut Chance) {
-    draft.put_noise(chance, 32);
-    draft.put_number(Belongs::Record, chance.below(20));
-    draft.put_noise(chance, 124);
-    put_part(draft, chance)
+/// Appends a `MINIDUMP_EXCEPTION_STREAM`.
+pub fn push_exception(draft: &mut Draft, chance: &mut Chance) {
+    draft.push_noise(chance, 32);
+    draft.push_number(Belongs::Record, chance.below(20));
+    draft.push_noise(chance, 124);
+    push_part(draft, chance)
 }
 
-/// Puts a `MINIDUMP_SYSTEM_INFO`.
-pub fn put_system(draft: &mut Draft, names: &DraftNames, chance: &mut Chance) {
-    draft.put_noise(chance, 24);
-    draft.put_number(Belongs::Record, names.any(chance));
-    draft.put_noise(chance, 28)
+/// Appends a `MINIDUMP_SYSTEM_INFO`.
+pub fn push_system(draft: &mut Draft, names: &DraftNames, chance: &mut Chance) {
+    draft.push_noise(chance, 24);
+    draft.push_number(Belongs::Record, names.any(chance));
+    draft.push_noise(chance, 28)
 }
 
-fn put_part(draft: &mut Draft, chance: &mut Chance) {
+fn push_part(draft: &mut Draft, chance: &mut Chance) {
     let part = any_part(draft, chance);
-    draft.put_number(Belongs::Record, part.size);
-    draft.put_number(Belongs::Record, part.rva);
+    draft.push_number(Belongs::Record, part.size);
+    draft.push_number(Belongs::Record, part.rva);
 }

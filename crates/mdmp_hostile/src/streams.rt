@@ -3,24 +3,24 @@
 use crate::chance::Chance;
 use crate::draft::{Belongs, Draft, DraftEntry};
 use crate::pool::{DraftNames, stretch};
-use crate::records::{ListedRecord, put_exception, put_system};
+use crate::records::{ListedRecord, push_exception, push_system};
 use mdmp_lister::StreamKind;
 use mdmp_source::Location;
 
-/// Puts a stream of any type into a file, and gives its entry.
-pub fn put_stream(draft: &mut Draft, names: &DraftNames, chance: &mut Chance) -> DraftEntry {
-    draft.put_gap(chance);
+/// Appends a stream of any type into a file, and gives its entry.
+pub fn push_stream(draft: &mut Draft, names: &DraftNames, chance: &mut Chance) -> DraftEntry {
+    draft.push_gap(chance);
     match chance.below(13) {
         0 => unused(chance),
-        1 => put_list(draft, names, chance, 3, ListedRecord::Thread),
-        2 | 3 => put_list(draft, names, chance, 4, ListedRecord::Module),
-        4 => put_list(draft, names, chance, 5, ListedRecord::Range),
-        5 => put_single(draft, names, chance, 6),
-        6 => put_single(draft, names, chance, 7),
-        7 => put_wide_ranges(draft, chance),
-        8 | 9 => put_strided_list(draft, names, chance, ListedRecord::Unloaded),
-        10 => put_strided_list(draft, names, chance, ListedRecord::MemoryInfo),
-        11 => put_list(draft, names, chance, 24, ListedRecord::ThreadName),
+        1 => push_list(draft, names, chance, 3, ListedRecord::Thread),
+        2 | 3 => push_list(draft, names, chance, 4, ListedRecord::Module),
+        4 => push_list(draft, names, chance, 5, ListedRecord::Range),
+        5 => push_single(draft, names, chance, 6),
+        6 => push_single(draft, names, chance, 7),
+        7 => push_wide_ranges(draft, chance),
+        8 | 9 => push_strided_list(draft, names, chance, ListedRecord::Unloaded),
+        10 => push_strided_list(draft, names, chance, ListedRecord::MemoryInfo),
+        11 => push_list(draft, names, chance, 24, ListedRecord::ThreadName),
         _ => opaque(draft, chance),
     }
 }
@@ -69,7 +69,7 @@ fn opaque_type(chance: &mut Chance) -> u32 {
 }
 
 /// A list of type 3, 4, 5 or 24: behind its count, or behind four bytes more.
-fn put_list(
+fn push_list(
     draft: &mut Draft,
     names: &DraftNames,
     chance: &mut Chance,
@@ -78,22 +78,22 @@ fn put_list(
 ) -> DraftEntry {
     let rva = draft.end();
     let count = chance.below(6);
-    draft.put_number(Belongs::Head, count);
+    draft.push_number(Belongs::Head, count);
     let padded = chance.once_in(3);
     if padded {
-        draft.put_noise(chance, 4);
+        draft.push_noise(chance, 4);
     }
     for _ in 0..count {
-        record.put(draft, names, chance);
+        record.push(draft, names, chance);
     }
     if !padded {
-        put_slack(draft, chance);
+        push_slack(draft, chance);
     }
     entry_from(draft, stream_type, rva, count)
 }
 
 /// Type 6 or 7: one record.
-fn put_single(
+fn push_single(
     draft: &mut Draft,
     names: &DraftNames,
     chance: &mut Chance,
@@ -101,34 +101,34 @@ fn put_single(
 ) -> DraftEntry {
     let rva = draft.end();
     if stream_type == 6 {
-        put_exception(draft, chance);
+        push_exception(draft, chance);
     } else {
-        put_system(draft, names, chance);
+        push_system(draft, names, chance);
     }
-    put_slack(draft, chance);
+    push_slack(draft, chance);
     entry_from(draft, stream_type, rva, 1)
 }
 
 /// Type 9: ranges whose bytes stand behind each other, anywhere in the file so far.
-fn put_wide_ranges(draft: &mut Draft, chance: &mut Chance) -> DraftEntry {
+fn push_wide_ranges(draft: &mut Draft, chance: &mut Chance) -> DraftEntry {
     let rva = draft.end();
     let count = chance.below(6);
     let base = chance.below(rva);
     let mut left = rva.saturating_sub(base);
-    draft.put_wide_number(Belongs::Head, u64::from(count));
-    draft.put_wide_number(Belongs::Head, u64::from(base));
+    draft.push_wide_number(Belongs::Head, u64::from(count));
+    draft.push_wide_number(Belongs::Head, u64::from(base));
     for _ in 0..count {
         let size = chance.below(left.saturating_add(1).min(80));
         left = left.saturating_sub(size);
-        draft.put_noise(chance, 8);
-        draft.put_wide_number(Belongs::Record, u64::from(size));
+        draft.push_noise(chance, 8);
+        draft.push_wide_number(Belongs::Record, u64::from(size));
     }
-    put_slack(draft, chance);
+    push_slack(draft, chance);
     entry_from(draft, 9, rva, count)
 }
 
 /// Type 14 or 16: records that may be larger than they are known, behind a head that may be.
-fn put_strided_list(
+fn push_strided_list(
     draft: &mut Draft,
     names: &DraftNames,
     chance: &mut Chance,
@@ -140,19 +140,19 @@ fn put_strided_list(
     let more_head = any_growth(chance);
     let more_record = any_growth(chance);
     let head_size: u32 = if wide { 16 } else { 12 };
-    draft.put_number(Belongs::Head, head_size.saturating_add(more_head));
-    draft.put_number(Belongs::Head, stride_of(record, count, more_record, chance));
+    draft.push_number(Belongs::Head, head_size.saturating_add(more_head));
+    draft.push_number(Belongs::Head, stride_of(record, count, more_record, chance));
     if wide {
-        draft.put_wide_number(Belongs::Head, u64::from(count));
+        draft.push_wide_number(Belongs::Head, u64::from(count));
     } else {
-        draft.put_number(Belongs::Head, count);
+        draft.push_number(Belongs::Head, count);
     }
-    draft.put_noise(chance, more_head);
+    draft.push_noise(chance, more_head);
     for _ in 0..count {
-        record.put(draft, names, chance);
-        draft.put_noise(chance, more_record);
+        record.push(draft, names, chance);
+        draft.push_noise(chance, more_record);
     }
-    put_slack(draft, chance);
+    push_slack(draft, chance);
     entry_from(draft, if wide { 16 } else { 14 }, rva, count)
 }
 
@@ -174,14 +174,14 @@ fn any_growth(chance: &mut Chance) -> u32 {
     }
 }
 
-/// Puts bytes behind the records that are not looked at: any number but four, which would be padding.
-fn put_slack(draft: &mut Draft, chance: &mut Chance) {
+/// Appends bytes behind the records that are not looked at: any number but four, which would be padding.
+fn push_slack(draft: &mut Draft, chance: &mut Chance) {
     let slack = match chance.below(6) {
         0 => chance.below(4),
         1 => chance.below(60).saturating_add(5),
         _ => 0,
     };
-    draft.put_noise(chance, slack)
+    draft.push_noise(chance, slack)
 }
 
 /// The entry of a stream that stands from here to the end of the file so far.

@@ -89,15 +89,15 @@ fn refuse_copy<V: DumpView>(alloc: Global, view: &mut V, census: &mut Census) {
 /// A file of entries of this type, which name one stream: a count, and the ranges without bytes.
 fn repeated(alloc: Global, stream_type: u32, census: &mut Census) -> Draft {
     let mut file = Draft::new(alloc);
-    file.put_words(&[0x504d_444d, 0xa793, ENTRIES, 32, 0, 0, 0, 0]);
+    file.push_words(&[0x504d_444d, 0xa793, ENTRIES, 32, 0, 0, 0, 0]);
     let size = RANGES.saturating_mul(16).saturating_add(4);
     let rva = ENTRIES.saturating_mul(12).saturating_add(32);
     for _ in 0..ENTRIES {
-        file.put_words(&[stream_type, size, rva]);
+        file.push_words(&[stream_type, size, rva]);
     }
-    file.put_word(RANGES);
+    file.push_word(RANGES);
     for _ in 0..RANGES {
-        file.put_bytes(&[0; 16]);
+        file.push_bytes(&[0; 16]);
     }
     census.agree(!file.lacks_memory, OUT_OF_MEMORY);
     file

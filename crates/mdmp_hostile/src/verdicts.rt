@@ -66,7 +66,7 @@ fn verdicts_of(alloc: Global, file: &[u8], limits: Limits, census: &mut Census) 
     sink.verdicts
 }
 
-/// Puts all verdicts of a new lister into a sink.
+/// Appends all verdicts of a new lister into a sink.
 fn check(
     lister: &mut Lister<MemoryStore<'_>, Global>,
     sink: &mut VerdictList,

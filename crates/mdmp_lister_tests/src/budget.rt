@@ -1,7 +1,7 @@
 //! Listings that may fetch so many bytes and no more.
 use crate::files::named_by_a_thousand;
 use crate::given::stream;
-use crate::opening::{Outcome, all, fault, open_and_close, run_over};
+use crate::opening::{ListOutcome, all, fault, open_and_close, run_over};
 use crate::same::{assert_same, assert_same_at, assert_that};
 use crate::script::{Call, entries, fails, gives, has_numbers, play, skips};
 use crate::walking;
@@ -17,27 +17,27 @@ fn within(rt: &impl Abort, window: u32, name: u32, budget: u64) -> Limits {
 }
 
 /// What a listing of a file comes to with these limits, and how many bytes it fetched.
-fn listed(alloc: Global, file: &[u8], limits: Limits) -> (Outcome, u128) {
+fn listed(alloc: Global, file: &[u8], limits: Limits) -> (ListOutcome, u128) {
     let source = Source::new(MemoryStore::new(file));
     let (outcome, source) = run_over(alloc, source, limits, Choice::All);
     (outcome, source.fetched())
 }
 
 /// Asserts what a listing of the system comes to with this budget, and how many bytes it fetches.
-fn assert_system(rt: &impl Abort, alloc: Global, budget: u64, outcome: Outcome, fetched: u128) {
+fn assert_system(rt: &impl Abort, alloc: Global, budget: u64, outcome: ListOutcome, fetched: u128) {
     let found = listed(alloc, &SYSTEM, within(rt, 65536, 4096, budget));
     assert_same_at(rt, &budget, found, (outcome, fetched));
 }
 
 /// Asserts that a listing of the system is refused with this budget, in the place of a fetch of these bytes.
 fn assert_refused(rt: &impl Abort, alloc: Global, budget: u64, offset: u64, size: u64) {
-    let outcome = Outcome::Refused(OpenFault::Budget { offset, size });
+    let outcome = ListOutcome::Refused(OpenFault::Budget { offset, size });
     assert_system(rt, alloc, budget, outcome, u128::from(offset));
 }
 
 /// Asserts that it ends behind its Stream item, in the place of a fetch of these bytes.
 fn assert_ended(rt: &impl Abort, alloc: Global, budget: u64, offset: u64, size: u64) {
-    let outcome = Outcome::Listed {
+    let outcome = ListOutcome::Listed {
         fault: Some(RunFault::At(fault(None, FaultKind::Budget, offset, size))),
         items: 1,
         mapped: 0,
@@ -107,7 +107,7 @@ fn list_that_a_thousand_entries_name_ends_at_the_budget(rt: HostRuntime) {
     let limits = within(&rt, 168, 0, 20000);
     let (outcome, fetched) = listed(rt.alloc(), &file, limits);
     match outcome {
-        Outcome::Listed {
+        ListOutcome::Listed {
             fault: Some(RunFault::At(found)),
             items,
             ..
@@ -142,7 +142,7 @@ fn head_of_a_memory_list_may_pass_the_budget(rt: HostRuntime) {
         offset: 44,
         size: 16,
     };
-    assert_same(&rt, found, (Outcome::Refused(refused), 44));
+    assert_same(&rt, found, (ListOutcome::Refused(refused), 44));
 }
 
 #[test]

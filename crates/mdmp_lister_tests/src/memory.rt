@@ -1,6 +1,6 @@
 //! The memory that a lister takes.
 use crate::files::{FOUR, crowded, file_of};
-use crate::opening::{Outcome, all, chosen, close, list_all, open_and_close, opened, run_over};
+use crate::opening::{ListOutcome, all, chosen, close, list_all, open_and_close, opened, run_over};
 use crate::same::{assert_same, assert_same_at};
 use crate::script::{LEAST, STANDARD, WHOLE_BLOCKS};
 use linked_list_allocator::LocalHeap;
@@ -18,7 +18,7 @@ fn heap_of(rt: &impl Abort, alloc: Global, size: usize) -> LocalHeap {
 /// What comes of listing a file in a heap.
 #[derive(Clone, Copy)]
 struct Report {
-    outcome: Outcome,
+    outcome: ListOutcome,
     /// Of the source that is handed back.
     size: u64,
     fetched: u128,
@@ -91,7 +91,7 @@ fn assert_ranges_in(
     rt: &impl Abort,
     alloc: Global,
     size: usize,
-    outcome: Outcome,
+    outcome: ListOutcome,
     fetched: Option<u128>,
 ) {
     let report = report_of(rt, alloc, size, LEAST, 1, &OVERLAPPING);
@@ -105,7 +105,7 @@ fn assert_ranges_in(
 #[test]
 fn want_of_memory_hands_the_source_back_until_there_is_enough(rt: HostRuntime) {
     // Blocks are multiples of 16: a directory of 16 bytes, a window of 176, and a map of 48.
-    let refused = Outcome::Refused(OpenFault::Memory);
+    let refused = ListOutcome::Refused(OpenFault::Memory);
     for blocks in 0..12 {
         assert_ranges_in(&rt, rt.alloc(), 16 * blocks, refused, Some(32));
     }
@@ -121,7 +121,7 @@ fn want_of_memory_hands_the_source_back_until_there_is_enough(rt: HostRuntime) {
 /// Asserts that a directory of 48 bytes is refused in a heap of so many bytes, by which nothing is lost.
 fn assert_refused_in(rt: &impl Abort, alloc: Global, size: usize) {
     let report = report_of(rt, alloc, size, WHOLE_BLOCKS, 4, &[0; 12]);
-    let refused = Outcome::Refused(OpenFault::Memory);
+    let refused = ListOutcome::Refused(OpenFault::Memory);
     assert_same_at(rt, &size, report.outcome, refused);
     assert_same_at(rt, &size, (report.size, report.fetched), (80, 32));
     assert_same_at(rt, &size, (report.ample, report.left), (None, 0));
@@ -151,7 +151,7 @@ fn fault_of_threads(rt: &impl Abort, alloc: Global, heap_size: usize) -> Option<
 fn memory_is_that_of_four_lists(rt: HostRuntime) {
     // A directory of 48 bytes, and a map of two ranges of 24.
     let report = report_of(&rt, rt.alloc(), 272, WHOLE_BLOCKS, 4, &FOUR);
-    assert_same(&rt, report.outcome, Outcome::Refused(OpenFault::Memory));
+    assert_same(&rt, report.outcome, ListOutcome::Refused(OpenFault::Memory));
     assert_same(&rt, (report.size, report.ample), (116, None));
     let report = report_of(&rt, rt.alloc(), 288, WHOLE_BLOCKS, 4, &FOUR);
     assert_same(&rt, report.outcome, all(6, 0));
@@ -183,7 +183,7 @@ fn most_ranges_are_not_too_many(rt: HostRuntime) {
 }
 
 /// What comes of listing so many unused entries.
-fn outcome_of_unused(rt: &impl Abort, alloc: Global, entries: u32) -> Outcome {
+fn outcome_of_unused(rt: &impl Abort, alloc: Global, entries: u32) -> ListOutcome {
     let mut numbers = Vec::new(alloc);
     numbers.resize(3 * entries as usize, 0).expect(rt, "memory");
     let unused = file_of(rt, alloc, entries, &numbers);

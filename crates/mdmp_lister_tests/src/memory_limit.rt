@@ -1,7 +1,7 @@
 //! Files that need more memory than a limit allows, at the edge of the limit.
 use crate::changes::{counting, faces};
 use crate::files::{crowded, file_of, first_bytes};
-use crate::opening::{Outcome, all, open_and_close, patchy};
+use crate::opening::{ListOutcome, all, open_and_close, patchy};
 use crate::refusals::{MeteredOpening, Opener, opened_in};
 use crate::same::{assert_same, assert_same_at};
 use crate::script::{LEAST, NAMED};
@@ -17,8 +17,8 @@ fn within(most: u64) -> Limits {
 }
 
 /// A refusal since the lists would take so many bytes.
-fn over(held: u128) -> Outcome {
-    Outcome::Refused(OpenFault::MemoryLimit { held })
+fn over(held: u128) -> ListOutcome {
+    ListOutcome::Refused(OpenFault::MemoryLimit { held })
 }
 
 /// What comes of a file in memory that is opened in at most so many bytes, by a heap that may refuse a growth.
@@ -37,9 +37,9 @@ fn openings_of(
 fn assert_opening(
     rt: &impl Abort,
     found: MeteredOpening,
-    outcome: Outcome,
+    outcome: ListOutcome,
     growths: u64,
-    again: Outcome,
+    again: ListOutcome,
 ) {
     assert_same_at(rt, &growths, found.outcome, outcome);
     assert_same_at(rt, &growths, (found.growths, found.out), (growths, 0));
@@ -52,7 +52,7 @@ struct LimitedFile<'a> {
     bytes: &'a [u8],
     opener: Opener,
     limits: Limits,
-    listed: Outcome,
+    listed: ListOutcome,
 }
 
 /// Asserts an opening over each store: in memory, by a byte a call, and one whose content is not known.
@@ -61,7 +61,7 @@ fn assert_over_each_store(
     alloc: Global,
     file: LimitedFile<'_>,
     refusal: Refusal,
-    outcome: Outcome,
+    outcome: ListOutcome,
     growths: u64,
 ) {
     let LimitedFile {
@@ -86,9 +86,9 @@ fn assert_limited(
     alloc: Global,
     file: LimitedFile<'_>,
     growths: u64,
-    outcome: Outcome,
+    outcome: ListOutcome,
 ) {
-    let memory = Outcome::Refused(OpenFault::Memory);
+    let memory = ListOutcome::Refused(OpenFault::Memory);
     for growth in 0..growths {
         let asked = growth.saturating_add(1);
         assert_over_each_store(rt, alloc, file, Refusal::Only(growth), memory, asked);
@@ -139,7 +139,7 @@ fn assert_overlapping(
     alloc: Global,
     opener: Opener,
     limits: Limits,
-    listed: Outcome,
+    listed: ListOutcome,
     held: u64,
     growths: (u64, u64),
 ) {
@@ -199,7 +199,7 @@ fn assert_refused_growth(
     alloc: Global,
     most: u64,
     growth: u64,
-    outcome: Outcome,
+    outcome: ListOutcome,
     growths: u64,
 ) {
     let file = file_of(rt, alloc, 1, &OVERLAPPING);
@@ -209,7 +209,7 @@ fn assert_refused_growth(
 
 #[test]
 fn growth_that_is_refused_comes_before_a_limit_that_is_tested_behind_it(rt: HostRuntime) {
-    let memory = Outcome::Refused(OpenFault::Memory);
+    let memory = ListOutcome::Refused(OpenFault::Memory);
     for growth in 0..3 {
         assert_refused_growth(&rt, rt.alloc(), 228, growth, memory, growth + 1);
     }

@@ -9,7 +9,7 @@ use std::process::Abort;
 
 /// All items and how many ranges of memory were mapped, or why there is no lister.
 #[derive(Clone, Copy, Debug, PartialEq, Eq)]
-pub enum Outcome {
+pub enum ListOutcome {
     Listed {
         fault: Option<RunFault>,
         items: u64,
@@ -130,17 +130,17 @@ pub fn run_over<S: Store + Drop, A: Allocator + Copy>(
     source: Source<S>,
     limits: Limits,
     choice: Choice,
-) -> (Outcome, Source<S>) {
+) -> (ListOutcome, Source<S>) {
     let mut lister = match Lister::open(alloc, source, limits, choice) {
         Ok(lister) => lister,
         Err(refused) => {
             let OpenRefused { fault, source } = refused;
-            return (Outcome::Refused(fault), source);
+            return (ListOutcome::Refused(fault), source);
         }
     };
     let mut sink = StopAt::new(u64::MAX);
     let fault = lister.list_into(&mut sink).err();
-    let outcome = Outcome::Listed {
+    let outcome = ListOutcome::Listed {
         fault,
         items: sink.calls(),
         mapped: lister.map().len(),
@@ -149,8 +149,8 @@ pub fn run_over<S: Store + Drop, A: Allocator + Copy>(
 }
 
 /// What a listing without a fault comes to.
-pub fn all(items: u64, mapped: usize) -> Outcome {
-    Outcome::Listed {
+pub fn all(items: u64, mapped: usize) -> ListOutcome {
+    ListOutcome::Listed {
         fault: None,
         items,
         mapped,

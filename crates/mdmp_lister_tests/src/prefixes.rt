@@ -1,6 +1,6 @@
 //! Files that are cut at each of their bytes.
 use crate::files::first_bytes;
-use crate::opening::{Outcome, all, fault, run_over};
+use crate::opening::{ListOutcome, all, fault, run_over};
 use crate::same::assert_same_at;
 use crate::script::STANDARD;
 use mdmp_lister::{Choice, FaultKind, OpenFault, RunFault};
@@ -10,15 +10,15 @@ use std::alloc::Global;
 use std::process::Abort;
 
 /// What comes of listing the first bytes of the system's dump, as many as this.
-fn outcome_of(rt: &impl Abort, alloc: Global, size: usize) -> Outcome {
+fn outcome_of(rt: &impl Abort, alloc: Global, size: usize) -> ListOutcome {
     let source = Source::new(MemoryStore::new(first_bytes(rt, &SYSTEM, size)));
     let (outcome, _) = run_over(alloc, source, STANDARD, Choice::All);
     outcome
 }
 
 /// The Stream item, and then this fault of the entry, or of its record.
-fn ends_at(index: Option<u64>, kind: FaultKind, offset: u64, size: u64) -> Outcome {
-    Outcome::Listed {
+fn ends_at(index: Option<u64>, kind: FaultKind, offset: u64, size: u64) -> ListOutcome {
+    ListOutcome::Listed {
         fault: Some(RunFault::At(fault(index, kind, offset, size))),
         items: 1,
         mapped: 0,
@@ -26,7 +26,7 @@ fn ends_at(index: Option<u64>, kind: FaultKind, offset: u64, size: u64) -> Outco
 }
 
 /// Asserts that each prefix of `from` to `to` bytes comes to this.
-fn assert_span(rt: &impl Abort, alloc: Global, from: usize, to: usize, outcome: Outcome) {
+fn assert_span(rt: &impl Abort, alloc: Global, from: usize, to: usize, outcome: ListOutcome) {
     for size in from..to.saturating_add(1) {
         assert_same_at(rt, &size, outcome_of(rt, alloc, size), outcome);
     }
@@ -36,13 +36,13 @@ fn assert_span(rt: &impl Abort, alloc: Global, from: usize, to: usize, outcome: 
 fn header_that_is_cut_is_too_short(rt: HostRuntime) {
     for size in 0..32 {
         let short = OpenFault::TooShort { size: size as u64 };
-        assert_span(&rt, rt.alloc(), size, size, Outcome::Refused(short));
+        assert_span(&rt, rt.alloc(), size, size, ListOutcome::Refused(short));
     }
 }
 
 #[test]
 fn each_prefix_of_a_system_is_told_by_what_is_cut(rt: HostRuntime) {
-    let directory = Outcome::Refused(OpenFault::DirectoryOutside {
+    let directory = ListOutcome::Refused(OpenFault::DirectoryOutside {
         offset: 32,
         size: 12,
     });

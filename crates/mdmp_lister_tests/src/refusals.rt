@@ -1,6 +1,6 @@
 //! Openings that are refused one of their growths.
 use crate::files::file_of;
-use crate::opening::{Outcome, all, run_over};
+use crate::opening::{ListOutcome, all, run_over};
 use crate::same::assert_same_at;
 use crate::script::{LEAST, NAMED};
 use crate::walking::step_of;
@@ -20,9 +20,9 @@ pub enum Opener {
 /// What comes of a store that is opened in a heap.
 #[derive(Clone, Copy)]
 pub struct MeteredOpening {
-    pub outcome: Outcome,
+    pub outcome: ListOutcome,
     /// What comes of the source that is handed back, with ample memory.
-    pub again: Outcome,
+    pub again: ListOutcome,
     /// The bytes that were fetched before the source was handed back.
     pub fetched: u128,
     /// How often the heap was asked for a block, and how many blocks were not given back.
@@ -31,13 +31,13 @@ pub struct MeteredOpening {
 }
 
 /// Counts all items of a walker, at most a hundred.
-fn count_items<S: Store + Drop, A: Allocator + Copy>(walker: &mut Walker<S, A>) -> Outcome {
+fn count_items<S: Store + Drop, A: Allocator + Copy>(walker: &mut Walker<S, A>) -> ListOutcome {
     for count in 0..100 {
         match step_of(walker) {
             Ok(Some(_)) => {}
             Ok(None) => return all(count, 0),
             Err(found) => {
-                return Outcome::Listed {
+                return ListOutcome::Listed {
                     fault: Some(RunFault::At(found)),
                     items: count,
                     mapped: 0,
@@ -53,7 +53,7 @@ fn walk_over<S: Store + Drop, A: Allocator + Copy>(
     alloc: A,
     source: Source<S>,
     limits: Limits,
-) -> (Outcome, Source<S>) {
+) -> (ListOutcome, Source<S>) {
     match Walker::open(alloc, source, limits, Choice::All) {
         Ok(mut walker) => {
             let outcome = count_items(&mut walker);
@@ -61,7 +61,7 @@ fn walk_over<S: Store + Drop, A: Allocator + Copy>(
         }
         Err(refused) => {
             let OpenRefused { fault, source } = refused;
-            (Outcome::Refused(fault), source)
+            (ListOutcome::Refused(fault), source)
         }
     }
 }
@@ -72,7 +72,7 @@ fn run_by<S: Store + Drop, A: Allocator + Copy>(
     source: Source<S>,
     limits: Limits,
     opener: Opener,
-) -> (Outcome, Source<S>) {
+) -> (ListOutcome, Source<S>) {
     match opener {
         Opener::Lister => run_over(alloc, source, limits, Choice::All),
         Opener::Walker => walk_over(alloc, source, limits),
@@ -125,8 +125,8 @@ fn opened_without(
 fn assert_opened_without(
     rt: &impl Abort,
     found: MeteredOpening,
-    outcome: Outcome,
-    again: Outcome,
+    outcome: ListOutcome,
+    again: ListOutcome,
     growths: u64,
 ) {
     assert_same_at(rt, &growths, found.outcome, outcome);
@@ -142,9 +142,9 @@ fn assert_each_may_be_refused(
     limits: Limits,
     opener: Opener,
     growths: u64,
-    outcome: Outcome,
+    outcome: ListOutcome,
 ) {
-    let refused = Outcome::Refused(OpenFault::Memory);
+    let refused = ListOutcome::Refused(OpenFault::Memory);
     for growth in 0..growths {
         let found = opened_without(alloc, growth, file, limits, opener);
         assert_opened_without(rt, found, refused, outcome, growth.saturating_add(1));
@@ -160,7 +160,7 @@ fn assert_lister(
     file: &[u8],
     limits: Limits,
     growths: u64,
-    outcome: Outcome,
+    outcome: ListOutcome,
 ) {
     assert_each_may_be_refused(rt, alloc, file, limits, Opener::Lister, growths, outcome);
 }
@@ -172,7 +172,7 @@ fn assert_lister_of_numbers(
     entries: u32,
     numbers: &[u32],
     growths: u64,
-    outcome: Outcome,
+    outcome: ListOutcome,
 ) {
     let file = file_of(rt, alloc, entries, numbers);
     assert_lister(rt, alloc, &file, NAMED, growths, outcome);
@@ -196,7 +196,7 @@ fn assert_walker(
     file: &[u8],
     limits: Limits,
     growths: u64,
-    outcome: Outcome,
+    outcome: ListOutcome,
 ) {
     assert_each_may_be_refused(rt, alloc, file, limits, Opener::Walker, growths, outcome);
 }

@@ -65,14 +65,14 @@ enum Reading {
     Walk,
 }
 
-/// Puts these calls into a script.
-fn put(rt: &impl Abort, script: &mut Vec<Call>, calls: &[Call]) {
+/// Appends these calls to a script.
+fn push_calls(rt: &impl Abort, script: &mut Vec<Call>, calls: &[Call]) {
     script.extend_from_slice(calls).expect(rt, "memory");
 }
 
-/// Puts the first of these calls, so many, into a script.
-fn put_first(rt: &impl Abort, script: &mut Vec<Call>, calls: &[Call], count: usize) {
-    put(rt, script, calls.get(..count).expect(rt, "so many items"));
+/// Appends the first of these calls, so many, to a script.
+fn push_first(rt: &impl Abort, script: &mut Vec<Call>, calls: &[Call], count: usize) {
+    push_calls(rt, script, calls.get(..count).expect(rt, "so many items"));
 }
 
 /// What is answered where a call of the store fails: what was given by then, and the fault for good.
@@ -87,14 +87,14 @@ fn failing_script(
     let mut script = Vec::new(alloc);
     let at = Some(RunFault::At(fault));
     match reading {
-        Reading::Next | Reading::Walk => put_first(rt, &mut script, items, calls.given),
-        Reading::Run => put(rt, &mut script, &[runs(u64::MAX, at, calls.given as u64)]),
+        Reading::Next | Reading::Walk => push_first(rt, &mut script, items, calls.given),
+        Reading::Run => push_calls(rt, &mut script, &[runs(u64::MAX, at, calls.given as u64)]),
         Reading::Check => {
             let told = checks(u64::MAX, at, u64::from(calls.entry));
-            put(rt, &mut script, &[told, has_begun()]);
+            push_calls(rt, &mut script, &[told, has_begun()]);
         }
     }
-    put(rt, &mut script, &[fails(fault), skips(), fails(fault)]);
+    push_calls(rt, &mut script, &[fails(fault), skips(), fails(fault)]);
     script
 }
 
@@ -103,14 +103,14 @@ fn whole_script(rt: &impl Abort, alloc: Global, reading: Reading, file: ReadFile
     let count = file.items.len() as u64;
     let mut script = Vec::new(alloc);
     match reading {
-        Reading::Next | Reading::Walk => put(rt, &mut script, file.items),
+        Reading::Next | Reading::Walk => push_calls(rt, &mut script, file.items),
         Reading::Run => {
             let told = runs(u64::MAX, None, count);
-            put(rt, &mut script, &[told, runs_on(None, count)]);
+            push_calls(rt, &mut script, &[told, runs_on(None, count)]);
         }
-        Reading::Check => put(rt, &mut script, &[checks(u64::MAX, None, file.entries)]),
+        Reading::Check => push_calls(rt, &mut script, &[checks(u64::MAX, None, file.entries)]),
     }
-    put(rt, &mut script, &[ends()]);
+    push_calls(rt, &mut script, &[ends()]);
     script
 }
 

@@ -7,6 +7,10 @@ use Rattle.mdmp_wire.specs.Digits.{hex}
 use Rattle.mdmp_map.specs.declared.range.Range.{Range}
 use Rattle.mdmp_lister.specs.Addressing.{cells_at}
 
+-- how many bytes can be asked for
+abbrev pub length_limit : ℕ
+length_limit = 1048576
+
 -- ` ` and two lower-case digits, or ` ??`
 abbrev pub cell_text : Option ℕ → List ℕ
 cell_text None = codes " ??"

@@ -38,12 +38,12 @@ pub fn file_of_numbers(
     let mut bytes = Vec::new(alloc);
     bytes.extend_from_slice(&header_of(streams, 32))?;
     for number in numbers {
-        put_number(&mut bytes, *number)?;
+        push_number(&mut bytes, *number)?;
     }
     Ok(bytes)
 }
 
-fn put_number(bytes: &mut Vec<u8>, number: u32) -> Result<(), AllocError> {
+fn push_number(bytes: &mut Vec<u8>, number: u32) -> Result<(), AllocError> {
     bytes.extend_from_slice(&number.to_le_bytes())
 }
 
@@ -59,7 +59,7 @@ pub fn thousand_entries_file(alloc: Global) -> Result<Vec<u8>, AllocError> {
     for _ in 0..1000u32 {
         bytes.extend_from_slice(&entry(3, 4804, 12_032))?;
     }
-    put_number(&mut bytes, 100)?;
+    push_number(&mut bytes, 100)?;
     bytes.resize(16_836, 0)?;
     Ok(bytes)
 }

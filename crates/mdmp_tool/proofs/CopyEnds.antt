@@ -5,7 +5,7 @@ use Rattle.mdmp_source.specs.Source.{SourceState}
 use Rattle.mdmp_disk.specs.Disk.{DiskState, IsClosed, IsMade, opened_once}
 use Rattle.mdmp_lister.specs.declared.limits.Limits.{Limits}
 use Rattle.mdmp_tool.specs.Commands.{HasCopied}
-use Rattle.mdmp_tool.specs.Copying.{first_not_copied}
+use Rattle.mdmp_engines.specs.Copying.{first_not_copied}
 use Rattle.mdmp_tool.specs.Words.{EndsCopy, IsOver, copied}
 
 pub copy_ends : (Z : Type 0) (types : List ℕ) (limits : Limits) (file target : List ℕ) (before after_opening after_making after : DiskState) (old new : SourceState)

@@ -6,14 +6,14 @@ use Rattle.mdmp_source.specs.Source.{SourceState}
 use Rattle.mdmp_source.specs.Store.{StoreState}
 use Rattle.mdmp_lister.specs.declared.choice.Choice.{Choice}
 use Rattle.mdmp_lister.specs.declared.limits.Limits.{Limits}
-use Rattle.mdmp_tool.specs.declared.fault.ToolFault.{ToolFault}
-use Rattle.mdmp_tool.specs.declared.fault.ToolFault.TheVariants.{Opening, List as BadList, Source, Budget, Memory, MemoryLimit, AsideLimit, Out}
-use Rattle.mdmp_words.specs.declared.request.Print.{Print}
-use Rattle.mdmp_words.specs.declared.request.Print.TheVariants.{Check, List as Listing, Hex}
-use Rattle.mdmp_tool.specs.Causes.{HasOutCause}
+use Rattle.mdmp_engines.specs.declared.fault.ToolFault.{ToolFault}
+use Rattle.mdmp_engines.specs.declared.fault.ToolFault.TheVariants.{Opening, List as BadList, Source, Budget, Memory, MemoryLimit, AsideLimit, Out}
+use Rattle.mdmp_words.specs.declared.invocation.Print.{Print}
+use Rattle.mdmp_words.specs.declared.invocation.Print.TheVariants.{Check, List as Listing, Hex}
+use Rattle.mdmp_engines.specs.Causes.{HasOutCause}
 use Rattle.mdmp_tool.specs.Commands.{HasPrinted, HasRun}
-use Rattle.mdmp_tool.specs.Engines.{IsFlushed, Pace, RefusesWithin, RunsThrough, StopsShort, Tells, WritesText, in_blocks, Access, check_access, hex_access, list_access}
-use Rattle.mdmp_tool.proofs.BlockLemmas.{at_fault, quiet_from}
+use Rattle.mdmp_engines.specs.Engines.{IsFlushed, Pace, RefusesWithin, RunsThrough, StopsShort, Tells, WritesText, in_blocks, Access, check_access, hex_access, list_access}
+use Rattle.mdmp_engines.proofs.BlockLemmas.{at_fault, quiet_from}
 
 -- ---- the loans stay
 

@@ -5,11 +5,11 @@ use Rattle.std.proofs.lemmas.Option.{none-some}
 use Rattle.mdmp_source.specs.Output.{OutState, TakesPrefix}
 use Rattle.mdmp_source.specs.Store.{StoreState}
 use Rattle.mdmp_disk.specs.Disk.{FileAt, IsOpenedFile, absent, bytes_of_file, present, unknown}
-use Rattle.mdmp_tool.specs.declared.fault.ToolFault.{ToolFault}
-use Rattle.mdmp_tool.specs.declared.fault.ToolFault.TheVariants as tool
+use Rattle.mdmp_engines.specs.declared.fault.ToolFault.{ToolFault}
+use Rattle.mdmp_engines.specs.declared.fault.ToolFault.TheVariants as tool
 use Rattle.mdmp_lister.specs.declared.limits.Limits.{Limits}
-use Rattle.mdmp_tool.specs.Copying.{Copies}
-use Rattle.mdmp_tool.specs.Engines.{IsFirstPart}
+use Rattle.mdmp_engines.specs.Copying.{Copies}
+use Rattle.mdmp_engines.specs.Engines.{IsFirstPart}
 use Rattle.mdmp_tool.specs.Standing.{CopyStands, Knows, Stands}
 use Rattle.mdmp_tool.specs.Words.{CopiesTo, DiskChange, Outputs}
 

@@ -4,18 +4,18 @@ use Rattle.mdmp_source.specs.Output.{OutState, PutsAll, PutsPrefix}
 use Rattle.mdmp_source.specs.Source.{SourceState}
 use Rattle.mdmp_source.specs.Store.{IsGood}
 use Rattle.mdmp_lister.specs.declared.limits.Limits.{Limits}
-use Rattle.mdmp_tool.specs.declared.fault.ToolFault.{ToolFault}
-use Rattle.mdmp_words.specs.declared.request.Print.{Print}
-use Rattle.mdmp_words.specs.declared.request.Print.TheVariants.{Check, List as Listing, Hex}
-use Rattle.mdmp_tool.specs.Causes.{IsNoSourceFault}
-use Rattle.mdmp_tool.specs.CheckRuns.{ChecksThrough}
-use Rattle.mdmp_tool.specs.CheckText.{bad_text}
-use Rattle.mdmp_tool.specs.Copying.{Copies, SpendsCopy, SpendsWithin, TellsCopyBudget, TellsCopyMemory, first_not_copied}
-use Rattle.mdmp_tool.specs.Engines.{IsReadThrough, Pace, ReadsSource, Tells, at_the_end, in_blocks, past_faults, up_to_a_fault, Access, check_access, hex_access, list_access}
-use Rattle.mdmp_tool.specs.Faults.{fault_text, exit_status}
-use Rattle.mdmp_tool.specs.HexRuns.{HexesThrough}
+use Rattle.mdmp_engines.specs.declared.fault.ToolFault.{ToolFault}
+use Rattle.mdmp_words.specs.declared.invocation.Print.{Print}
+use Rattle.mdmp_words.specs.declared.invocation.Print.TheVariants.{Check, List as Listing, Hex}
+use Rattle.mdmp_engines.specs.Causes.{IsNoSourceFault}
+use Rattle.mdmp_engines.specs.CheckRuns.{ChecksThrough}
+use Rattle.mdmp_engines.specs.CheckText.{bad_text}
+use Rattle.mdmp_engines.specs.Copying.{Copies, SpendsCopy, SpendsWithin, TellsCopyBudget, TellsCopyMemory, first_not_copied}
+use Rattle.mdmp_engines.specs.Engines.{IsReadThrough, Pace, ReadsSource, Tells, at_the_end, in_blocks, past_faults, up_to_a_fault, Access, check_access, hex_access, list_access}
+use Rattle.mdmp_engines.specs.Faults.{fault_text, exit_status}
+use Rattle.mdmp_engines.specs.HexRuns.{HexesThrough}
 use Rattle.mdmp_print.specs.Lines.{error_line}
-use Rattle.mdmp_tool.specs.Runs.{ListsThrough}
+use Rattle.mdmp_engines.specs.Runs.{ListsThrough}
 
 -- ---- what is told of an answer
 

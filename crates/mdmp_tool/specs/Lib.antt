@@ -1,16 +1,4 @@
-pub mod Causes
-pub mod CheckRuns
-pub mod CheckText
 pub mod Commands
-pub mod Copying
-pub mod Engines
-pub mod Faults
-pub mod HexRuns
-pub mod JsonLaws
 pub mod Program
-pub mod Runs
 pub mod Standing
-pub mod Symbols
-pub mod Telling
-pub mod Text
 pub mod Words

@@ -6,7 +6,7 @@ use Rattle.std.specs.declared.string.String.{String}
 use denote.Ref.{Bor}
 use Rattle.mdmp_disk.specs.declared.disk.Requests.{Requests}
 use Rattle.mdmp_disk.specs.System.{no_requests, system}
-use Rattle.mdmp_tool.specs.declared.fault.ToolFault.TheVariants.{Memory}
+use Rattle.mdmp_engines.specs.declared.fault.ToolFault.TheVariants.{Memory}
 use Rattle.mdmp_tool.specs.Words.{DiskChange, EndsWords, Outputs, Refuses, RefusesFault}
 
 -- the words are the arguments without the first, which is the program's name

@@ -5,10 +5,10 @@ use Rattle.mdmp_dump.specs.InFile.{dump_in}
 use Rattle.mdmp_dump.specs.LaysOut.{LaysOut}
 use Rattle.mdmp_writer.specs.Written.{written}
 use Rattle.mdmp_disk.specs.Disk.{DiskState, bytes_of_file}
-use Rattle.mdmp_tool.specs.declared.fault.ToolFault.{ToolFault}
-use Rattle.mdmp_tool.specs.declared.fault.ToolFault.TheVariants.{Out, Source}
+use Rattle.mdmp_engines.specs.declared.fault.ToolFault.{ToolFault}
+use Rattle.mdmp_engines.specs.declared.fault.ToolFault.TheVariants.{Out, Source}
 use Rattle.mdmp_tool.specs.Commands.{IsEnd}
-use Rattle.mdmp_tool.specs.Engines.{IsFirstPart}
+use Rattle.mdmp_engines.specs.Engines.{IsFirstPart}
 use Rattle.mdmp_tool.specs.Words.{DiskChange, Outputs}
 
 -- a disk that knows the bytes of the file of this name, and what files take that it makes

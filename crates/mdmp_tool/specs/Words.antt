@@ -7,16 +7,16 @@ use Rattle.mdmp_source.specs.Source.{SourceState}
 use Rattle.mdmp_disk.specs.Disk.{DiskState, FileAt, FileState, IsOpenedFile, IsPresent, KeepsOthers, bytes_of_file, make_counted, open_counted, opened_once, present, open_refused}
 use Rattle.mdmp_lister.specs.declared.limits.Limits.{Limits}
 use Rattle.mdmp_tool.specs.Commands.{HasCopied, HasPrinted, IsLineTold}
-use Rattle.mdmp_tool.specs.Copying.{first_not_copied}
-use Rattle.mdmp_tool.specs.Faults.{fault_text, exit_status}
-use Rattle.mdmp_words.specs.Requests.{AsksFor, AsksNothing, IsValid}
-use Rattle.mdmp_tool.specs.declared.fault.ToolFault.{ToolFault}
-use Rattle.mdmp_tool.specs.declared.fault.ToolFault.TheVariants.{Memory, NotCopied, Out}
-use Rattle.mdmp_words.specs.declared.request.Asked.{Asked}
-use Rattle.mdmp_words.specs.declared.request.Asked.TheVariants as asks
-use Rattle.mdmp_words.specs.declared.request.Command.{Command}
-use Rattle.mdmp_words.specs.declared.request.Command.TheVariants as commands
-use Rattle.mdmp_words.specs.declared.request.Print.{Print}
+use Rattle.mdmp_engines.specs.Copying.{first_not_copied}
+use Rattle.mdmp_engines.specs.Faults.{fault_text, exit_status}
+use Rattle.mdmp_words.specs.Invocations.{AsksFor, AsksNothing, IsValid}
+use Rattle.mdmp_engines.specs.declared.fault.ToolFault.{ToolFault}
+use Rattle.mdmp_engines.specs.declared.fault.ToolFault.TheVariants.{Memory, NotCopied, Out}
+use Rattle.mdmp_words.specs.declared.invocation.Invocation.{Invocation}
+use Rattle.mdmp_words.specs.declared.invocation.Invocation.TheVariants as asks
+use Rattle.mdmp_words.specs.declared.invocation.Command.{Command}
+use Rattle.mdmp_words.specs.declared.invocation.Command.TheVariants as commands
+use Rattle.mdmp_words.specs.declared.invocation.Print.{Print}
 
 -- both outputs, before and after
 pub record Outputs : Type 0 where
@@ -123,16 +123,16 @@ EndsCommand Z (commands.Copy target types) limits file disk before status after 
 -- ---- words
 
 -- how that ends which some words ask for
-abbrev pub EndsAsked : Type 0 → Asked → DiskChange → Outputs → ℕ → Outputs → Type 0
-EndsAsked Z (asks.Run request) disk before status after = EndsCommand Z request.command request.limits request.file.now disk before status after
+abbrev pub EndsAsked : Type 0 → Invocation → DiskChange → Outputs → ℕ → Outputs → Type 0
+EndsAsked Z (asks.Run file limits command) disk before status after = EndsCommand Z command limits file.now disk before status after
 EndsAsked Z (asks.Help text) disk before status after = (disk.new ≡ disk.old) × (Helps text.bytes.items before status after ⊎ HelpsInPart text.bytes.items before status after)
 EndsAsked Z (asks.Refused text) disk before status after = (disk.new ≡ disk.old) × Explains text.bytes.items before status after
-EndsAsked Z asks.Bad disk before status after = (disk.new ≡ disk.old) × Refuses 2 (codes "bad command line") before status after
+EndsAsked Z asks.InvalidValue disk before status after = (disk.new ≡ disk.old) × Refuses 2 (codes "bad command line") before status after
 EndsAsked Z asks.Memory disk before status after = (disk.new ≡ disk.old) × RefusesFault Memory before status after
 
 -- what the words ask for, by how clap parts them, and that it ends so; no words ask for nothing that is run or helped
 pub record EndsWords (Z : Type 0) (words : List (Bor (List ℕ))) (disk : DiskChange) (before : Outputs) (status : ℕ) (after : Outputs) : Type 0 where
-  pub asked : Asked
+  pub asked : Invocation
   pub valid : IsValid asked
   pub asks : AsksFor (map (λ word. word.now) words) asked
   pub empty : words ≡ [] → AsksNothing asked

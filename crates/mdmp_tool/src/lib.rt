@@ -1,52 +1,25 @@
-//! The commands of `mdmp`: what they print, and the faults that end them.
+//! The command `mdmp`: a command line, run over a disk.
 //!
-//! [`run_words`] reads the words behind the program's name, by [`request_of`] of `mdmp_words`, and runs
+//! [`run_words`] reads the words behind the program's name, by [`invocation_of`] of `mdmp_words`, and runs
 //! the command that they ask for. Under it stands a core over a source and two outputs,
-//! [`print_told`] and [`copy_told`], whose contract says what is written and told, and the exit
-//! status; and under that one engine for each command. [`run_list`] writes of a good store the text
-//! of `specs/Text.antt`, whole or up to the first bad location, and of one that fails the first part
-//! of it. [`run_check`] writes the text of `specs/CheckText.antt`, a line for each entry, and answers
-//! how many are bad. [`run_hex`] writes the text of `specs/HexText.antt`, or nothing where the store
-//! fails or the file's memory lists have a bad location. [`check_in_blocks`], [`list_in_blocks`] and
-//! [`hex_in_blocks`] do the same by few writes. [`run_copy`] writes the dump of the streams of some
-//! types as a file of its own, a first part of it where the output refuses or the store fails, or
-//! nothing.
-//! A [`LineForm`] says whether the lines of `list` and `check` are words or objects of JSON
-//! (`specs/JsonLines.antt` of mdmp_print); all else is the same. [`objects_are_json_texts`] is the law that of any
-//! file these objects are JSON Lines: each is a line of UTF-8 that reads back as it.
-//! A [`ToolFault`] has the exit status of [`status`] and the line of [`fault_line`].
+//! [`print_and_report`] and [`copy_and_report`], whose contract says what is written and told, and the exit
+//! status. Under that stand the engines of mdmp_engines, one for each command, which this crate gives out
+//! again: [`run_list`], [`run_check`], [`run_hex`] and [`run_copy`].
 #![tactic(auto)]
 
-mod blocks;
-mod check;
-mod copy;
-mod engine;
-mod fault;
-mod fault_lines;
-mod fault_words;
-mod hex;
-mod json_law;
-mod list;
 mod program;
 mod running;
 mod standing;
 mod words;
 
-pub use crate::blocks::{check_in_blocks, hex_in_blocks, list_in_blocks};
-pub use crate::check::{check_source, run_check};
-pub use crate::copy::{copied, copy_source, run_copy};
-pub use crate::engine::RunAnswered;
-pub use crate::fault::{ToolFault, status};
-pub use crate::fault_lines::fault_line;
-pub use crate::hex::{hex_source, run_hex};
-pub use crate::json_law::objects_are_json_texts;
-pub use crate::list::{list_next, list_source, run_list};
 pub use crate::program::{run_args, run_program};
-pub use crate::running::{Ended, copy_told, print_told};
+pub use crate::running::{copy_and_report, print_and_report};
 pub use crate::standing::what_is_copied_stands;
 pub use crate::words::{run_on_disk, run_words};
-pub use mdmp_dump::{PartName, ReadFault};
-pub use mdmp_lister::{FaultKind, Limits, ListFault, OpenFault, TypeSet};
-pub use mdmp_print::{LINE_ROOM, LineForm, LineOut, Printer, print_dump};
-pub use mdmp_words::{Asked, Command, Print, Request, Span, request_of};
-pub use mdmp_writer::LayoutFault;
+pub use mdmp_engines::{
+    FaultKind, LINE_ROOM, LayoutFault, Limits, LineForm, LineOut, ListFault, OpenFault, Outcome,
+    PartName, Printer, ReadFault, ToolFault, TypeSet, check_in_blocks, check_source, copied,
+    copy_source, fault_line, hex_in_blocks, hex_source, list_in_blocks, list_next, list_source,
+    objects_are_json_texts, print_dump, run_check, run_copy, run_hex, run_list, status,
+};
+pub use mdmp_words::{Command, Invocation, Print, Span, invocation_of};

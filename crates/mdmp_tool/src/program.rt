@@ -4,10 +4,10 @@ ghost use Rattle.std.specs.IoError.{error_kind};
 ghost use Rattle.mdmp_source.specs.Output.{OutState};
 ghost use Rattle.mdmp_tool.specs.Program.{EndsGiven, EndsSomehow, EndsUnread, words_behind};
 
-use crate::fault::ToolFault;
-use crate::running::tell;
+use crate::running::report;
 use crate::words::{refuse_words, run_on_disk};
 use mdmp_disk::{Disk, SystemDisk};
+use mdmp_engines::ToolFault;
 use mdmp_source::Out;
 use std::alloc::{AllocError, AllocGlobal, Allocator, Global};
 use std::env::Env;
@@ -57,16 +57,16 @@ pub fn run_args<R: AllocGlobal, D: Disk, A: Allocator + Copy, O: Out, E: Out>(
     };
     match words_of(rt.alloc(), &args) {
         Ok(words) => run_on_disk(rt, disk, alloc, &words, out, err),
-        Err(AllocError) => tell::<(), E>(Err(ToolFault::Memory), err),
+        Err(AllocError) => report::<(), E>(Err(ToolFault::Memory), err),
     }
 }
 
-/// Tells why the arguments could not be read, and gives the exit status.
+/// Reports why the arguments could not be read, and returns the exit status.
 fn refuse_args<E: Out>(kind: ErrorKind, err: &mut E) -> u8
     ensures { (out : OutState) → EndsUnread kind (record { out = out; err = E.state err.old }) result (record { out = out; err = E.state err.new }) }
 {
     match kind {
-        ErrorKind::OutOfMemory => tell::<(), E>(Err(ToolFault::Memory), err),
+        ErrorKind::OutOfMemory => report::<(), E>(Err(ToolFault::Memory), err),
         _ => refuse_words(err),
     }
 }

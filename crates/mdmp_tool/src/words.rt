@@ -3,19 +3,18 @@ ghost use Rattle.std.specs.Prelude.{codes, ◌≡◌, ◌≤◌, ◌⊎◌, ◌�
 ghost use Rattle.std.specs.List.{concat};
 ghost use Rattle.mdmp_source.specs.Output.{OutState};
 ghost use Rattle.mdmp_tool.specs.Commands.{IsLineTold};
-ghost use Rattle.mdmp_words.specs.Requests.{IsPrintable, IsValid, IsCommandWithin};
+ghost use Rattle.mdmp_words.specs.Invocations.{IsPrintable, IsValid, IsCommandWithin};
 ghost use Rattle.mdmp_disk.specs.System.{no_requests, system};
 ghost use Rattle.mdmp_disk.specs.declared.disk.Requests.{Requests};
 ghost use Rattle.mdmp_tool.specs.Words.{EndsAsked, EndsCommand, EndsCopy, EndsPrint, EndsWords, Helps, HelpsInPart};
 
-use crate::copy::first_not_copied;
-use crate::fault::ToolFault;
-use crate::running::{copy_told, print_told, tell};
+use crate::running::{copy_and_report, print_and_report, report};
 use mdmp_disk::{Disk, SystemDisk};
+use mdmp_engines::{ToolFault, first_not_copied};
 use mdmp_lister::{Limits, TypeSet};
 use mdmp_print::{LineOut, print_error, print_error_named};
 use mdmp_source::{Out, OutFailed, Source, write_all};
-use mdmp_words::{Asked, Command, Print, Request, request_of};
+use mdmp_words::{Command, Invocation, Print, invocation_of};
 use std::alloc::{AllocGlobal, Allocator};
 use std::rt::Files;
 
@@ -55,14 +54,14 @@ pub fn run_on_disk<R: AllocGlobal, D: Disk, A: Allocator + Copy, O: Out, E: Out>
 ) -> u8
     ensures { EndsWords A words.now (record { old = D.state disk.old; new = D.state disk.new }) (record { out = O.state out.old; err = E.state err.old }) result (record { out = O.state out.new; err = E.state err.new }) }
 {
-    run_asked(disk, alloc, request_of(rt.alloc(), words), out, err)
+    run_asked(disk, alloc, invocation_of(rt.alloc(), words), out, err)
 }
 
-/// Does what some words ask for, and answers the exit status.
+/// Does what some words ask for, and returns the exit status.
 fn run_asked<D: Disk, A: Allocator + Copy, O: Out, E: Out>(
     disk: &mut D,
     alloc: A,
-    asked: Asked<'_>,
+    asked: Invocation<'_>,
     out: &mut O,
     err: &mut E,
 ) -> u8
@@ -70,44 +69,45 @@ fn run_asked<D: Disk, A: Allocator + Copy, O: Out, E: Out>(
     ensures { EndsAsked A asked.entry (record { old = D.state disk.old; new = D.state disk.new }) (record { out = O.state out.old; err = E.state err.old }) result (record { out = O.state out.new; err = E.state err.new }) }
 {
     match asked {
-        Asked::Run(request) => run_request(disk, alloc, request, out, err),
-        Asked::Help(text) => put_help(&text, out, err),
-        Asked::Refused(text) => {
+        Invocation::Run {
+            file,
+            limits,
+            command,
+        } => run_command(disk, alloc, command, limits, file, out, err),
+        Invocation::Help(text) => write_help(&text, out, err),
+        Invocation::Refused(text) => {
             let _ = write_all(err, text.as_bytes());
             2
         }
-        Asked::Bad => refuse_words(err),
-        Asked::Memory => tell::<(), E>(Err(ToolFault::Memory), err),
+        Invocation::InvalidValue => refuse_words(err),
+        Invocation::Memory => report::<(), E>(Err(ToolFault::Memory), err),
     }
 }
 
-/// Writes a text that was asked for, and answers the exit status.
-fn put_help<O: Out, E: Out>(text: &str, out: &mut O, err: &mut E) -> u8
+/// Writes a text that was asked for, and returns the exit status.
+fn write_help<O: Out, E: Out>(text: &str, out: &mut O, err: &mut E) -> u8
     ensures { Helps text.now (record { out = O.state out.old; err = E.state err.old }) result (record { out = O.state out.new; err = E.state err.new })
         ⊎ HelpsInPart text.now (record { out = O.state out.old; err = E.state err.old }) result (record { out = O.state out.new; err = E.state err.new }) }
 {
     match write_all(out, text.as_bytes()) {
         Ok(()) => 0,
-        Err(OutFailed) => tell::<(), E>(Err(ToolFault::Out), err),
+        Err(OutFailed) => report::<(), E>(Err(ToolFault::Out), err),
     }
 }
 
 /// Runs a command.
-fn run_request<D: Disk, A: Allocator + Copy, O: Out, E: Out>(
+fn run_command<D: Disk, A: Allocator + Copy, O: Out, E: Out>(
     disk: &mut D,
     alloc: A,
-    request: Request<'_>,
+    command: Command<'_>,
+    limits: Limits,
+    file: &str,
     out: &mut O,
     err: &mut E,
 ) -> u8
-    requires { IsCommandWithin request.command }
-    ensures { EndsCommand A request.entry.command request.entry.limits request.entry.file.now (record { old = D.state disk.old; new = D.state disk.new }) (record { out = O.state out.old; err = E.state err.old }) result (record { out = O.state out.new; err = E.state err.new }) }
+    requires { IsCommandWithin command }
+    ensures { EndsCommand A command.entry limits file.now (record { old = D.state disk.old; new = D.state disk.new }) (record { out = O.state out.old; err = E.state err.old }) result (record { out = O.state out.new; err = E.state err.new }) }
 {
-    let Request {
-        file,
-        limits,
-        command,
-    } = request;
     match command {
         Command::Print(print) => print_file(disk, alloc, print, limits, file, out, err),
         Command::Copy { target, types } => copy_file(disk, alloc, types, limits, file, target, err),
@@ -131,10 +131,17 @@ fn print_file<D: Disk, A: Allocator + Copy, O: Out, E: Out>(
         return refuse_name(b"cannot open ", file, err);
     };
     let Ok(mut buffer) = vec![in alloc; 0; BLOCK] else {
-        return tell::<(), E>(Err(ToolFault::Memory), err);
+        return report::<(), E>(Err(ToolFault::Memory), err);
     };
     let mut blocks = LineOut::over(&mut buffer, out);
-    let status = print_told(alloc, print, Source::new(store), limits, &mut blocks, err).status;
+    let status = print_and_report(
+        alloc,
+        print,
+        Source::new(store),
+        limits,
+        &mut blocks,
+        err,
+    ).answer;
     // The loan comes back for the prover alone: what was printed is what `out` took.
     let _out = blocks.into_inner();
     status
@@ -153,20 +160,27 @@ fn copy_file<D: Disk, A: Allocator + Copy, E: Out>(
     ensures { (out : OutState) → EndsCopy A types limits file.now target.now (record { old = D.state disk.old; new = D.state disk.new }) (record { out = out; err = E.state err.old }) result (record { out = out; err = E.state err.new }) }
 {
     if let Some(stream_type) = first_not_copied(types.types()) {
-        return tell::<(), E>(Err(ToolFault::NotCopied(stream_type)), err);
+        return report::<(), E>(Err(ToolFault::NotCopied(stream_type)), err);
     }
     let Ok(original) = disk.open(file) else {
         return refuse_name(b"cannot open ", file, err);
     };
-    let Ok(mut copy) = disk.make(target) else {
+    let Ok(mut copy) = disk.create_new(target) else {
         return refuse_name(b"cannot create ", target, err);
     };
-    let status = copy_told(alloc, types, Source::new(original), limits, &mut copy, err).status;
+    let status = copy_and_report(
+        alloc,
+        types,
+        Source::new(original),
+        limits,
+        &mut copy,
+        err,
+    ).answer;
     disk.close(target, copy);
     status
 }
 
-/// Tells that the words of a command line are bad, and answers the exit status.
+/// Reports that the words of a command line are bad, and returns the exit status.
 pub(crate) fn refuse_words<E: Out>(err: &mut E) -> u8
     ensures status { result ≡ 2 }
     ensures told { IsLineTold (E.state err.old) (codes "bad command line") (E.state err.new) }
@@ -175,7 +189,7 @@ pub(crate) fn refuse_words<E: Out>(err: &mut E) -> u8
     2
 }
 
-/// Tells that a file could not be opened or made, and answers the exit status.
+/// Reports that a file could not be opened or created, and returns the exit status.
 fn refuse_name<E: Out, const N: usize>(why: &[u8; N], name: &str, err: &mut E) -> u8
     requires { N ≤ 100 }
     ensures status { result ≡ 3 }

@@ -8,7 +8,7 @@ use mdmp_lister::{Choice, Lister, TypeSet};
 use mdmp_source::{Out, PatchyOut, Source, Store, write_all};
 use mdmp_test_support::Room;
 use mdmp_tool::{
-    LINE_ROOM, Limits, LineForm, LineOut, OpenFault, RunAnswered, ToolFault, check_in_blocks,
+    LINE_ROOM, Limits, LineForm, LineOut, OpenFault, Outcome, ToolFault, check_in_blocks,
     check_source, copy_source, hex_in_blocks, hex_source, list_in_blocks, list_next, list_source,
     print_dump, run_check, run_copy, run_hex, run_list,
 };
@@ -93,8 +93,8 @@ fn uncounted(answer: Result<(), ToolFault>) -> Result<u64, ToolFault> {
     }
 }
 
-fn end_of<S: Store + Drop>(answered: RunAnswered<u64, S>) -> End {
-    let RunAnswered { answer, source } = answered;
+fn end_of<S: Store + Drop>(answered: Outcome<Result<u64, ToolFault>, S>) -> End {
+    let Outcome { answer, source } = answered;
     End {
         answer,
         calls: source.calls(),
@@ -102,10 +102,10 @@ fn end_of<S: Store + Drop>(answered: RunAnswered<u64, S>) -> End {
     }
 }
 
-fn end_of_uncounted<S: Store + Drop>(answered: RunAnswered<(), S>) -> End {
-    let RunAnswered { answer, source } = answered;
+fn end_of_uncounted<S: Store + Drop>(answered: Outcome<Result<(), ToolFault>, S>) -> End {
+    let Outcome { answer, source } = answered;
     let answer = uncounted(answer);
-    end_of(RunAnswered { answer, source })
+    end_of(Outcome { answer, source })
 }
 
 /// The addresses, where a command may be asked for them.
@@ -239,7 +239,7 @@ fn opening_fault(fault: OpenFault) -> ToolFault {
 }
 
 /// Writes a bar where one is wanted, and tells whether the output took it.
-fn put_bar(is_barred: bool, out: &mut PatchyOut<Global>) -> bool {
+fn write_bar(is_barred: bool, out: &mut PatchyOut<Global>) -> bool {
     !is_barred || write_all(out, b"|").is_ok()
 }
 
@@ -254,7 +254,7 @@ fn answer_by_items<S: Store + Drop, A: Allocator + Copy>(
     let pdb = matches!(run.task, Task::Symbols);
     let is_barred = matches!(run.way, CallWay::BarredItems);
     loop {
-        if !put_bar(is_barred, out) {
+        if !write_bar(is_barred, out) {
             return Err(ToolFault::Out);
         }
         match list_next(lister, LineForm::Text, pdb, run.limits.aside, out) {

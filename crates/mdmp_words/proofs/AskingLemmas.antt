@@ -8,9 +8,9 @@ use Rattle.clap.specs.declared.parser.matches.ArgMatches.{ArgMatches}
 use Rattle.clap.specs.declared.parser.matches.ArgMatches.TheViews.{out-ArgMatches}
 use Rattle.clap.proofs.OnLiterals.{clap_on_literals}
 use Rattle.mdmp_words.specs.CommandLine.{commands}
-use Rattle.mdmp_words.specs.Requests.{AreRefused, AsksFor, AsksIn, IsTextOf, faults, request_in, request_named}
-use Rattle.mdmp_words.specs.declared.request.Asked.{Asked}
-use Rattle.mdmp_words.specs.declared.request.Asked.TheVariants.{Run, Help, Refused, Bad, Memory}
+use Rattle.mdmp_words.specs.Invocations.{AreRefused, AsksFor, AsksIn, IsRunWithin, IsTextOf, IsValid, faults, plain_run, request_in, request_named}
+use Rattle.mdmp_words.specs.declared.invocation.Invocation.{Invocation}
+use Rattle.mdmp_words.specs.declared.invocation.Invocation.TheVariants.{Run, Help, Refused, InvalidValue, Memory}
 
 -- two parts of what may be there
 both : {X A B : Type 0} (f : X → A) (g : X → B) (x : Option X) (a : A) (b : B) → Some a ≡ option_map f x →
@@ -23,6 +23,21 @@ pub used : (matches : ArgMatches) (name : Text) (rows : List Row) → Some name 
     Some rows ≡ option_map (λ p. p.1) (subcommand_rows_of matches) → subcommand_rows_of matches ≡ Some (name, rows)
 used matches name rows named parted = both _ _ (out-ArgMatches matches).subcommand name rows named parted
 
+-- a command that is to be run
+pub valid_run : (asked : Invocation) → IsRunWithin asked → IsValid asked
+valid_run (Run file limits command) within = within
+valid_run (Help text) within = absurd within
+valid_run (Refused text) within = absurd within
+valid_run InvalidValue within = absurd within
+valid_run Memory within = absurd within
+
+pub asks_run : (used : Option (Text × List Row)) (asked : Invocation) → IsRunWithin asked → request_in used ≡ plain_run asked → AsksIn used asked
+asks_run used (Run file limits command) within is = is
+asks_run used (Help text) within is = absurd within
+asks_run used (Refused text) within is = absurd within
+asks_run used InvalidValue within is = absurd within
+asks_run used Memory within is = absurd within
+
 -- `clap` says of these commands which words it takes, and how it parts them
 are_free : is_simple_and_free commands ≡ true
 unfolding clap_on_literals
@@ -32,35 +47,35 @@ are_simple : is_simple commands ≡ true
 unfolding clap_on_literals
 are_simple = refl
 
-asks_named : (words : List Text) (used : Option (Text × List Row)) (asked : Asked) → fault_of commands words ≡ [] → used ≡ subcommand_of commands words →
+asks_named : (words : List Text) (used : Option (Text × List Row)) (asked : Invocation) → fault_of commands words ≡ [] → used ≡ subcommand_of commands words →
     AsksIn used asked → AsksFor words asked
 unfolding faults request_named
-asks_named words used (Run request) none is asks = (none, ap request_in (sym is) ∙ asks)
+asks_named words used (Run file limits command) none is asks = (none, ap request_in (sym is) ∙ asks)
 asks_named words used (Help text) none is asks = absurd asks
 asks_named words used (Refused text) none is asks = absurd asks
-asks_named words used Bad none is asks = (none, ap request_in (sym is) ∙ asks)
+asks_named words used InvalidValue none is asks = (none, ap request_in (sym is) ∙ asks)
 asks_named words used Memory none is asks = tt
 
 -- a parse that succeeds
-pub parsed : (line : App) (words : List Text) (matches : ArgMatches) (asked : Asked) → line ≡ commands → (is_simple_and_free line ≡ true → fault_of line words ≡ []) →
+pub parsed : (line : App) (words : List Text) (matches : ArgMatches) (asked : Invocation) → line ≡ commands → (is_simple_and_free line ≡ true → fault_of line words ≡ []) →
     HasMatchesOf line words matches → AsksIn (subcommand_rows_of matches) asked → AsksFor words asked
 parsed line words matches asked is none has asks =
     asks_named words (subcommand_rows_of matches) asked (ap (λ (a : App). fault_of a words) (sym is) ∙ none (ap is_simple_and_free is ∙ are_free))
     ((has (ap is_simple is ∙ are_simple)).1 ∙ ap (λ (a : App). subcommand_of a words) is) asks
 
-asks_text : (words : List Text) (error : Error) (asked : Asked) → HasKind (faults words) error → IsTextOf (kind_of error) asked → AsksFor words asked
-asks_text words error (Run request) has told = absurd told
+asks_text : (words : List Text) (error : Error) (asked : Invocation) → HasKind (faults words) error → IsTextOf (kind_of error) asked → AsksFor words asked
+asks_text words error (Run file limits command) has told = absurd told
 asks_text words error (Help text) (inl memory) (inl help) = absurd cc
 asks_text words error (Help text) (inl memory) (inr version) = absurd cc
 asks_text words error (Help text) (inr among) (inl help) = inl (subst (λ kind. IsAmong kind (faults words)) help among)
 asks_text words error (Help text) (inr among) (inr version) = inr (subst (λ kind. IsAmong kind (faults words)) version among)
 asks_text words error (Refused text) (inl memory) told = absurd (told.2 memory)
 asks_text words error (Refused text) (inr among) told = (kind_of error, among, told.0, told.1)
-asks_text words error Bad has told = absurd told
+asks_text words error InvalidValue has told = absurd told
 asks_text words error Memory has told = tt
 
 -- a parse that fails
-pub failed : (line : App) (words : List Text) (error : Error) (asked : Asked) → line ≡ commands → (is_simple_and_free line ≡ true → HasKind (fault_of line words) error) →
+pub failed : (line : App) (words : List Text) (error : Error) (asked : Invocation) → line ≡ commands → (is_simple_and_free line ≡ true → HasKind (fault_of line words) error) →
     IsTextOf (kind_of error) asked → AsksFor words asked
 unfolding faults
 failed line words error asked is has told =

@@ -1,5 +1,5 @@
 pub mod AskingLemmas
-pub mod RequestRows
+pub mod InvocationRows
 pub mod TypeLemmas
 pub mod WordLemmas
 pub mod WordRows

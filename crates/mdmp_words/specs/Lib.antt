@@ -1,5 +1,5 @@
 pub mod CommandLine
 pub mod NumberWords
 pub mod OptionWords
-pub mod Requests
+pub mod Invocations
 pub mod TypeNames

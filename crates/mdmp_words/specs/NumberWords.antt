@@ -5,6 +5,7 @@ use Rattle.std.specs.Char.{is_digit}
 use Rattle.std.specs.Option.{option_and_then}
 use Rattle.std.specs.Str.Parse.{digits_value}
 use Rattle.mdmp_map.specs.Ranges.{address_end}
+use Rattle.mdmp_print.specs.HexText.{length_limit}
 use Rattle.mdmp_words.specs.declared.number_words.Span.{Span}
 
 -- ---- numbers
@@ -37,10 +38,6 @@ hexadecimal_number word = if nat_le (length word) 16 then number_in 16 word else
 abbrev pub address_named : List ℕ → Option ℕ
 address_named word =
     if starts_with nat_eq word (codes "0x") then hexadecimal_number (drop 2 word) else decimal_number word
-
--- how many bytes can be asked for
-abbrev pub length_limit : ℕ
-length_limit = 1048576
 
 -- a decimal number up to the limit
 abbrev pub length_named : List ℕ → Option ℕ

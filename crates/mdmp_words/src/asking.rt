@@ -1,14 +1,14 @@
 //! What the words of a command line ask for.
-ghost use Rattle.std.specs.Prelude.{◌≡◌, [], IfSome, map, option_map};
+ghost use Rattle.std.specs.Prelude.{◌≡◌, [], IfSome, map, option_map, option_and_then};
 ghost use Rattle.clap.specs.Words.{all_of, first_of, found_of, rows_of, subcommand_rows_of};
 ghost use Rattle.clap.specs.Values.{kind_of};
 ghost use Rattle.mdmp_words.specs.OptionWords.{texts_of};
-ghost use Rattle.mdmp_words.specs.Requests.{AsksFor, AsksIn, AsksNothing, IsTextOf, IsValid, IsCommandWithin, check_named, copy_named, form_named, hex_named, is_set, limit_texts, list_named, named_over, plain_request, plain_command, request_by};
+ghost use Rattle.mdmp_words.specs.Invocations.{AsksFor, AsksIn, AsksNothing, IsRunWithin, IsTextOf, IsValid, RunsCommand, check_named, copy_named, form_named, hex_named, is_set, limit_texts, list_named, named_over, plain_command, plain_run, request_by};
 
 use crate::command_line::command_line;
+use crate::invocation::{Command, Invocation, Print};
 use crate::number_words::span_of;
 use crate::option_words::{LimitWords, limits_of, types_of};
-use crate::request::{Asked, Command, Print, Request};
 use clap::error::ErrorKind;
 use clap::{ArgMatches, Error};
 use mdmp_print::LineForm;
@@ -16,18 +16,18 @@ use std::alloc::Global;
 
 /// What the words behind the program's name ask for. `clap` parts them into the words of a command
 /// and its options; the numbers among them are judged by this crate. A name is lent as it was given.
-pub fn request_of<'a>(alloc: Global, words: &'a [&'a str]) -> Asked<'a>
+pub fn invocation_of<'a>(alloc: Global, words: &'a [&'a str]) -> Invocation<'a>
     ensures valid { IsValid result }
     ensures empty { words.entry.now ≡ [] → AsksNothing result }
     ensures asks { AsksFor (map (λ word. word.now) words.entry.now) result }
 {
     let Ok(mut commands) = command_line(alloc) else {
-        return Asked::Memory;
+        return Invocation::Memory;
     };
     if words.is_empty() {
         return match commands.render_help() {
-            Ok(text) => Asked::Refused(text),
-            Err(_) => Asked::Memory,
+            Ok(text) => Invocation::Refused(text),
+            Err(_) => Invocation::Memory,
         };
     }
     match commands.try_get_matches_from(words) {
@@ -37,55 +37,55 @@ pub fn request_of<'a>(alloc: Global, words: &'a [&'a str]) -> Asked<'a>
 }
 
 /// What is asked for where the words ask for help or the version, or are none that `clap` takes.
-fn told_of<'a>(alloc: Global, error: &Error) -> Asked<'a>
+fn told_of<'a>(alloc: Global, error: &Error) -> Invocation<'a>
     ensures { IsTextOf (kind_of error.now) result }
 {
     let kind = error.kind();
     if kind == ErrorKind::OutOfMemory {
-        return Asked::Memory;
+        return Invocation::Memory;
     }
     let Ok(text) = error.to_string(alloc) else {
-        return Asked::Memory;
+        return Invocation::Memory;
     };
     match kind {
-        ErrorKind::DisplayHelp | ErrorKind::DisplayVersion => Asked::Help(text),
-        _ => Asked::Refused(text),
+        ErrorKind::DisplayHelp | ErrorKind::DisplayVersion => Invocation::Help(text),
+        _ => Invocation::Refused(text),
     }
 }
 
 /// What is asked for by the command that was used.
-fn asked_by<'a>(matches: &ArgMatches<'a>) -> Asked<'a>
+fn asked_by<'a>(matches: &ArgMatches<'a>) -> Invocation<'a>
     ensures valid { IsValid result }
     ensures asks { AsksIn (subcommand_rows_of matches.now) result }
 {
     let Some((name, own)) = matches.subcommand() else {
-        return Asked::Bad;
+        return Invocation::InvalidValue;
     };
-    match named_request(name, own) {
-        Some(request) => Asked::Run(request),
-        None => Asked::Bad,
+    match named_invocation(name, own) {
+        Some(invocation) => invocation,
+        None => Invocation::InvalidValue,
     }
 }
 
-/// The request of the command of this name.
-fn named_request<'a>(name: &str, matches: &ArgMatches<'a>) -> Option<Request<'a>>
-    ensures named { option_map plain_request result ≡ request_by name.now (rows_of (found_of matches.now)) }
-    ensures within { IfSome result (λ request. IsCommandWithin request.command) }
+/// What is asked for by the words of the command of this name.
+fn named_invocation<'a>(name: &str, matches: &ArgMatches<'a>) -> Option<Invocation<'a>>
+    ensures named { option_and_then plain_run result ≡ request_by name.now (rows_of (found_of matches.now)) }
+    ensures within { IfSome result IsRunWithin }
 {
     match name {
-        "check" => check_request(matches),
-        "list" => list_request(matches),
-        "hex" => hex_request(matches),
-        "copy" => copy_request(matches),
+        "check" => check_invocation(matches),
+        "list" => list_invocation(matches),
+        "hex" => hex_invocation(matches),
+        "copy" => copy_invocation(matches),
         _ => None,
     }
 }
 
-fn check_request<'a>(matches: &ArgMatches<'a>) -> Option<Request<'a>>
-    ensures named { option_map plain_request result ≡ check_named (rows_of (found_of matches.now)) }
-    ensures within { IfSome result (λ request. IsCommandWithin request.command) }
+fn check_invocation<'a>(matches: &ArgMatches<'a>) -> Option<Invocation<'a>>
+    ensures named { option_and_then plain_run result ≡ check_named (rows_of (found_of matches.now)) }
+    ensures within { IfSome result IsRunWithin }
 {
-    request_over(
+    invocation_over(
         matches,
         "FILE",
         Command::Print(Print::Check {
@@ -94,13 +94,13 @@ fn check_request<'a>(matches: &ArgMatches<'a>) -> Option<Request<'a>>
     )
 }
 
-fn list_request<'a>(matches: &ArgMatches<'a>) -> Option<Request<'a>>
-    ensures named { option_map plain_request result ≡ list_named (rows_of (found_of matches.now)) }
-    ensures within { IfSome result (λ request. IsCommandWithin request.command) }
+fn list_invocation<'a>(matches: &ArgMatches<'a>) -> Option<Invocation<'a>>
+    ensures named { option_and_then plain_run result ≡ list_named (rows_of (found_of matches.now)) }
+    ensures within { IfSome result IsRunWithin }
 {
     let form = form_of(matches);
     let pdb = is_set(matches, "pdb");
-    request_over(matches, "FILE", Command::Print(Print::List { form, pdb }))
+    invocation_over(matches, "FILE", Command::Print(Print::List { form, pdb }))
 }
 
 /// How the lines are printed.
@@ -114,32 +114,36 @@ fn form_of(matches: &ArgMatches<'_>) -> LineForm
     }
 }
 
-fn hex_request<'a>(matches: &ArgMatches<'a>) -> Option<Request<'a>>
-    ensures named { option_map plain_request result ≡ hex_named (rows_of (found_of matches.now)) }
-    ensures within { IfSome result (λ request. IsCommandWithin request.command) }
+fn hex_invocation<'a>(matches: &ArgMatches<'a>) -> Option<Invocation<'a>>
+    ensures named { option_and_then plain_run result ≡ hex_named (rows_of (found_of matches.now)) }
+    ensures within { IfSome result IsRunWithin }
 {
     let span = span_of(word_of(matches, "ADDRESS")?, word_of(matches, "LENGTH")?)?;
-    request_over(matches, "FILE", Command::Print(Print::Hex(span)))
+    invocation_over(matches, "FILE", Command::Print(Print::Hex(span)))
 }
 
-fn copy_request<'a>(matches: &ArgMatches<'a>) -> Option<Request<'a>>
-    ensures named { option_map plain_request result ≡ copy_named (rows_of (found_of matches.now)) }
-    ensures within { IfSome result (λ request. IsCommandWithin request.command) }
+fn copy_invocation<'a>(matches: &ArgMatches<'a>) -> Option<Invocation<'a>>
+    ensures named { option_and_then plain_run result ≡ copy_named (rows_of (found_of matches.now)) }
+    ensures within { IfSome result IsRunWithin }
 {
     let target = word_of(matches, "OUT")?;
     let types = types_of(words_of(matches, "TYPE")?)?;
-    request_over(matches, "IN", Command::Copy { target, types })
+    invocation_over(matches, "IN", Command::Copy { target, types })
 }
 
 /// A command over the file whose name stands under this id, within the limits that were given.
-fn request_over<'a>(matches: &ArgMatches<'a>, id: &str, command: Command<'a>) -> Option<Request<'a>>
-    ensures named { option_map plain_request result
+fn invocation_over<'a>(
+    matches: &ArgMatches<'a>,
+    id: &str,
+    command: Command<'a>,
+) -> Option<Invocation<'a>>
+    ensures named { option_and_then plain_run result
         ≡ named_over (rows_of (found_of matches.now)) id.now (plain_command command.entry) }
-    ensures same { IfSome result (λ request. request.command ≡ command.entry) }
+    ensures same { IfSome result (RunsCommand command.entry) }
 {
     let limits = limits_of(limit_words(matches))?;
     let file = word_of(matches, id)?;
-    Some(Request {
+    Some(Invocation::Run {
         file,
         limits,
         command,

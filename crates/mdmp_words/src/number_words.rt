@@ -1,7 +1,8 @@
 //! Words that are numbers, and those of `hex` that say which bytes it prints.
 ghost use Rattle.std.specs.Prelude.{◌≡◌, ◌+◌, ◌≤◌, IfSome};
 ghost use Rattle.mdmp_map.specs.Ranges.{address_end};
-ghost use Rattle.mdmp_words.specs.NumberWords.{number_in, decimal_number, decimal32_number, hexadecimal_number, address_named, length_limit, length_named, span_named};
+ghost use Rattle.mdmp_print.specs.HexText.{length_limit};
+ghost use Rattle.mdmp_words.specs.NumberWords.{number_in, decimal_number, decimal32_number, hexadecimal_number, address_named, length_named, span_named};
 
 /// How many bytes can be asked for.
 const LENGTH_LIMIT: u64 = 1 << 20;

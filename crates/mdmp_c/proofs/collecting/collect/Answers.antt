@@ -46,7 +46,7 @@ loop-item-preserved-in-Some g c =
               rw (c.in-Ok-Some.is, c.in-Ok-Some.field-0-is, before.1.0) at holds.list.stands.left,
               (
                 HasCollected-taken g.T.PlainRow.row_of run before.0 _ _ _ _ _ (plain c.in-Ok-Some.item) c.in-Some.row before.1.1.0 first (sym c.of.ensures ∙ c.in-Some.is)
-                    c.saturating_add-count.ensures c.put.ensures,
+                    c.saturating_add-count.ensures c.set_row.ensures,
                 names_left before.0 c.in-Ok-Some.item _ _ _ first before.1.1.1 holds.few_names (rw (c.in-Ok-Some.is, c.in-Ok-Some.field-0-is) at holds.list.spends.names),
               ),
             ),

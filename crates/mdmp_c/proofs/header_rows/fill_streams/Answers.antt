@@ -27,7 +27,7 @@ loop-number-preserved c =
     record {
       within = omega (arith, c.loop-number-test.true);
       rows =
-          c.put.ensures rows c.args.out.now c.loop-number.invariant.rows index
+          c.set_row.ensures rows c.args.out.now c.loop-number.invariant.rows index
           ∙ ap (λ (x : StreamRow). put_front (rows ++ x ∷ []) c.args.out.now) is
           ∙ ap (λ (xs : List StreamRow). put_front xs c.args.out.now) (sym more);
     }

@@ -9,9 +9,9 @@ use Rattle.mdmp_c.specs.Limits.{AreLimits, EndsText, KeepsMemory, ends_text, mos
 use Rattle.mdmp_lister.specs.Sink.{names_of_all}
 use Rattle.mdmp_c.specs.TextPart.{EndsTextAt, IsListPart, IsPartOf, PutsRun}
 use Rattle.mdmp_c.specs.ToolFault.{list_answer}
-use Rattle.mdmp_tool.specs.declared.fault.ToolFault.{ToolFault}
+use Rattle.mdmp_engines.specs.declared.fault.ToolFault.{ToolFault}
 use Rattle.mdmp_print.specs.Forms.{dump_line_in}
-use Rattle.mdmp_tool.specs.Text.{run_text}
+use Rattle.mdmp_engines.specs.Text.{run_text}
 use Rattle.mdmp_wire.specs.declared.header.Header.{Header}
 use Rattle.mdmp_c.proofs.Ending.{Ends-refused, keeps_memory}
 use Rattle.mdmp_c.proofs.Listed.{Ends-part, all_parts, no_part}
@@ -44,18 +44,18 @@ returns c =
     let limit : c.in-Some.limits.name ≡ name = c.in-Some.ensures.name in
     let left : c.in-Ok.lister.left ≡ Some (listing file All name) =
     new.list.given.left ∙ ap (option_map (λ (f : List ℕ). listing f All c.in-Some.limits.name)) good.known ∙ ap (λ n. Some (listing file All n)) limit in
-    let puts = c.put_list-answer.ensures file now (listing file All name) left skip (length c.args.out.now) [] c.new-part.ensures in
+    let puts = c.gather_list-answer.ensures file now (listing file All name) left skip (length c.args.out.now) [] c.new-part.ensures in
     let lister = c.in-Ok.lister in
     let run = listing file All name in
-    let IsPut : List ℕ → Type 0 = λ text. IsPartOf skip (length c.args.out.now) text c.put_list-answer.new.part.skip c.put_list-answer.new.part.room c.put_list-answer.new.part.size c.put_list-answer.new.part.kept.items in
-    let named = subst (λ n. PutsRun IsPut (EndsTextAt lister (most_read file lister.choice lister.limit (lister.counts.names + names_of_all run.items)) c.in-Some.limits.aside pdb run) (dump_line_in c.args.form lister.header ++ run_text c.args.form pdb file n run) run c.put_list-answer.result)
+    let IsPut : List ℕ → Type 0 = λ text. IsPartOf skip (length c.args.out.now) text c.gather_list-answer.new.part.skip c.gather_list-answer.new.part.room c.gather_list-answer.new.part.size c.gather_list-answer.new.part.kept.items in
+    let named = subst (λ n. PutsRun IsPut (EndsTextAt lister (most_read file lister.choice lister.limit (lister.counts.names + names_of_all run.items)) c.in-Some.limits.aside pdb run) (dump_line_in c.args.form lister.header ++ run_text c.args.form pdb file n run) run c.gather_list-answer.result)
     (new.list.asked.limit_is ∙ limit) puts in
-    let told = subst (λ (h : Header). PutsRun IsPut (EndsTextAt lister (most_read file lister.choice lister.limit (lister.counts.names + names_of_all run.items)) c.in-Some.limits.aside pdb run) (dump_line_in c.args.form h ++ run_text c.args.form pdb file name run) run c.put_list-answer.result)
+    let told = subst (λ (h : Header). PutsRun IsPut (EndsTextAt lister (most_read file lister.choice lister.limit (lister.counts.names + names_of_all run.items)) c.in-Some.limits.aside pdb run) (dump_line_in c.args.form h ++ run_text c.args.form pdb file name run) run c.gather_list-answer.result)
     (new.list.read.header_is file good.known) named in
     let size : lister.source.size ≡ length file = new.fetches.same_size ∙ sized file c.new-source.result good.known c.new-source.ensures.content in
     let can : (f : ToolFault) → EndsTextAt lister (most_read file lister.choice lister.limit (lister.counts.names + names_of_all run.items)) c.in-Some.limits.aside pdb run f → EndsText c.args.limits.now file pdb (list_answer (Err f)) =
     text_ended c.args.limits.now c.in-Some.limits file lister _ pdb c.in-Some.ensures new.list.counts.budget_is new.list.asked.window_room new.list.asked.limit_is size
     (most_listed file All name name lister new.list.asked.choice_is (new.list.asked.limit_is ∙ limit) new.list.counts.names refl) in
     Ends-part c.args.form pdb file name skip (AreLimits c.args.limits.now) (KeepsMemory c.args.limits.now file All) (EndsText c.args.limits.now file c.args.pdb) (EndsTextAt lister (most_read file lister.choice lister.limit (lister.counts.names + names_of_all run.items)) c.in-Some.limits.aside pdb run)
-    (keeps_memory c.args.limits.now c.in-Some.limits file All None c.in-Some.ensures (c.in-Ok.ensures.within file good.known) (c.in-Ok.ensures.opens file good.known)) c.put_list-answer.result c.give.result c.give.new.size c.give.new.fault c.args.out.now c.give.new.out _ _ _ _ valid can
+    (keeps_memory c.args.limits.now c.in-Some.limits file All None c.in-Some.ensures (c.in-Ok.ensures.within file good.known) (c.in-Ok.ensures.opens file good.known)) c.gather_list-answer.result c.give.result c.give.new.size c.give.new.fault c.args.out.now c.give.new.out _ _ _ _ valid can
     (c.in-Ok.ensures.opens file good.known) told (rw c.list_answer.ensures at c.give.ensures.gives) (rw c.list_answer.ensures at c.give.ensures.wants)

@@ -1,7 +1,7 @@
 use Rattle.std.proofs.Common.{◌∙◌, ◌≤◌, [], List, ap, arith, length, map, sym}
 use Rattle.std.proofs.lemmas.List.{length-map}
 use Rattle.mdmp_lister.specs.declared.verdict.Verdict.{Verdict}
-use Rattle.mdmp_tool.specs.CheckText.{bad_count}
+use Rattle.mdmp_engines.specs.CheckText.{bad_count}
 use Rattle.mdmp_c.specs.Giving.{put_front, told_count}
 use Rattle.mdmp_c.specs.declared.verdict_rows.Judged.{Judged}
 use Rattle.mdmp_c.specs.Verdicts.{judges_all, judges_some, verdict_row}
@@ -11,7 +11,7 @@ use Rattle.mdmp_lister.specs.Format.Numbers.{maybe_name}
 use Rattle.mdmp_c.specs.Limits.{names_checked}
 use Rattle.mdmp_c.proofs.Judging.{bad-all, name-taken, never_stopped, rows-taken}
 use Rattle.mdmp_lister.specs.Check.{names_judged}
-use Rattle.mdmp_tool.proofs.Reached.{names_judged_most}
+use Rattle.mdmp_engines.proofs.Reached.{names_judged_most}
 use Rattle.mdmp_c.proofs.verdict_rows.judge_rows.Goals as goal
 
 pub returns-in-Ok-clause-same_output : goal.returns-in-Ok-clause-same_output

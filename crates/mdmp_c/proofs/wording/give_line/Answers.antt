@@ -1,6 +1,6 @@
 use Rattle.std.proofs.Common.{◌≡◌, ◌∙◌, Some, ap, arith, length, refl, sym}
 use Rattle.mdmp_source.specs.Output.{OutState}
-use Rattle.mdmp_tool.specs.Faults.{fault_text}
+use Rattle.mdmp_engines.specs.Faults.{fault_text}
 use Rattle.mdmp_print.specs.Lines.{error_line}
 use Rattle.mdmp_c.specs.FaultText.{words_of}
 use Rattle.mdmp_c.proofs.Told.{taken}

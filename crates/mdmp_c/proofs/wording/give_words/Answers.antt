@@ -1,5 +1,5 @@
 use Rattle.std.proofs.Common.{◌∙◌, sym}
-use Rattle.mdmp_tool.specs.CheckText.{bad_text}
+use Rattle.mdmp_engines.specs.CheckText.{bad_text}
 use Rattle.mdmp_c.proofs.Worded.{TellsWords-given, bad_told, fixed_told}
 use Rattle.mdmp_c.proofs.wording.give_words.Goals as goal
 

@@ -1,0 +1,61 @@
+use Rattle.std.proofs.Common.{◌≡◌, ◌∙◌, ◌+◌, Ok, Err, Some, true, false, ap, sym}
+use Rattle.mdmp_source.specs.SourceLaws.{fetches_then}
+use Rattle.mdmp_source.specs.Output.{OutState}
+use Rattle.mdmp_source.specs.Store.{IsGood}
+use Rattle.mdmp_lister.proofs.Fetches.{IsGood-later}
+use Rattle.mdmp_lister.specs.Lister.{tail}
+use Rattle.mdmp_engines.proofs.Printing.{next_told, next_within}
+use Rattle.mdmp_engines.specs.Text.{next_lines}
+use Rattle.mdmp_engines.proofs.SameRuns.{run_then}
+use Rattle.mdmp_c.proofs.Listed.{HasGiven-next, among_given, PutsRun-end, PutsRun-ended, lines_taken}
+use Rattle.mdmp_c.specs.Limits.{most_read}
+use Rattle.mdmp_c.specs.TextPart.{EndsTextAt}
+use Rattle.mdmp_lister.specs.Sink.{names_of_all}
+use Rattle.mdmp_engines.proofs.Reached.{HasNamed-fault, HasNamed-next}
+use Rattle.mdmp_c.proofs.Stopping.{text_over}
+use Rattle.mdmp_c.proofs.list_part.gather_items.Goals as goal
+
+pub returns-in-Ok-false : goal.returns-in-Ok-false
+returns-in-Ok-false g c = λ file good run known skip room before part.
+    let so_far = c.loop-lines.invariant in
+    let given = so_far.part file good run known skip room before part in
+    let content = so_far.source.fetches.same_content ∙ good.known in
+    let next = next_told c.args.form c.args.pdb file _ _ given.0 _ c.in-Ok-false.field-0 false _ so_far.run.limit c.in-Ok-false.field-0-test (c.in-Ok-false.ensures.lists file content given.0 given.1.0) in
+    PutsRun-end c.args.form c.args.pdb file c.args.lister.now.limit (EndsTextAt c.args.lister.now (most_read file c.args.lister.now.choice c.args.lister.now.limit (c.args.lister.now.counts.names + names_of_all run.items)) c.args.aside c.args.pdb run) run given.0 before skip room _ _ _ _ _ _ given.1.1 next
+
+pub returns-in-Err : goal.returns-in-Err
+returns-in-Err g c = λ file good run known skip room before part.
+    let so_far = c.loop-lines.invariant in
+    let given = so_far.part file good run known skip room before part in
+    let now : IsGood c.loop-lines.lister.source.store file = IsGood-later file _ _ _ so_far.source.fetches good in
+    let next = next_within c.args.form c.args.pdb file _ _ given.0 _ (Err c.in-Err.fault) _ so_far.run.limit (c.in-Err.ensures.lists file now.known given.0 given.1.0) in
+    PutsRun-ended c.args.form c.args.pdb file c.args.lister.now.limit (EndsTextAt c.args.lister.now (most_read file c.args.lister.now.choice c.args.lister.now.limit (c.args.lister.now.counts.names + names_of_all run.items)) c.args.aside c.args.pdb run) run given.0 before _ skip room _ _ _ _ _ _ _ _ _ _ c.in-Err.fault _ given.1.1 next
+    (ap (λ (o : OutState). o.taken) c.new-lines.ensures ∙ ap Some c.clear.ensures.items) (sym c.into_inner.ensures) (c.end_items.ensures skip room) (c.in-Err.ensures.leaves.good file now)
+    (text_over c.args.lister.now c.list_next.new.lister file run c.args.aside c.args.pdb c.counts-counts.result c.in-Err.fault (among_given c.args.form c.args.pdb file c.args.lister.now.limit run given.0 before skip room _ _ _ _ _ _ c.in-Err.fault given.1.1 next) (run_then _ _ _ so_far.run c.in-Err.ensures.same)
+    (c.in-Err.ensures.leaves.reads.fetches.fetches.same_size ∙ so_far.source.fetches.same_size) c.counts-counts.ensures.value
+    (c.counts-counts.ensures.of_file file (c.in-Err.ensures.leaves.reads.fetches.fetches.same_content ∙ now.known)) (HasNamed-fault _ _ _ so_far.named c.in-Err.ensures.names run known)
+    c.counts-counts.ensures.held c.counts-counts.ensures.spent
+    c.in-Err.ensures.over (c.in-Err.ensures.aside so_far.aside))
+
+pub loop-lines-preserved : goal.loop-lines-preserved
+loop-lines-preserved g c =
+    let so_far = c.loop-lines.invariant in
+    let of = c.in-Ok-true.ensures in
+    let rest = of.rest (ap Ok c.in-Ok-true.field-0-test) in
+    record {
+      going = rest.going;
+      source = record { count = so_far.source.count + of.leaves.reads.fetches.count; fetches = fetches_then _ _ _ _ _ so_far.source.fetches of.leaves.reads.fetches.fetches };
+      run = run_then _ _ _ so_far.run of.same;
+      aside = (of.aside so_far.aside).kept;
+      named = HasNamed-next _ _ _ so_far.named of.names rest.left;
+      part = λ file good run known skip room before part.
+          let given = so_far.part file good run known skip room before part in
+          let content = so_far.source.fetches.same_content ∙ good.known in
+          let next = next_told c.args.form c.args.pdb file _ _ given.0 _ c.in-Ok-true.field-0 true _ so_far.run.limit c.in-Ok-true.field-0-test (of.lists file content given.0 given.1.0) in
+          let line : c.deref.result.now ≡ next_lines c.args.form c.args.pdb file c.args.lister.now.limit given.0 =
+          lines_taken _ _ c.deref.result.now c.clear.new.self.items (next_lines c.args.form c.args.pdb file c.args.lister.now.limit given.0)
+          (ap (λ (o : OutState). o.taken) c.new-lines.ensures) c.clear.ensures.items next.1 (sym c.into_inner-line.ensures ∙ ap Some (sym c.deref.ensures.value)) in (
+            tail given.0,
+            (rw given.1.0 at rest.left, HasGiven-next c.args.form c.args.pdb file c.args.lister.now.limit run given.0 before c.deref.result.now skip room _ _ _ _ _ _ _ _ given.1.1 line (c.in_default.ensures skip room)),
+          );
+    }

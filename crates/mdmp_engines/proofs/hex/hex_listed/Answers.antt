@@ -1,0 +1,71 @@
+use Rattle.std.proofs.Common.{rules, ◌≡◌, ◌∙◌, ◌+◌, ℕ, length, ap, arith, refl, subst, None}
+use Rattle.mdmp_source.specs.SourceLaws.{fetches_then}
+use Rattle.mdmp_lister.specs.FaultLaws.{ranges_fit}
+use Rattle.mdmp_engines.specs.Engines.{IsBehind, at_the_end}
+use Rattle.mdmp_lister.specs.declared.meter.Amount.{Amount}
+use Rattle.mdmp_engines.proofs.Hexing.{HexesRun-printed}
+use Rattle.mdmp_engines.proofs.SameRuns.{over_listing, run_list, run_none, run_then, aside_listing}
+use Rattle.mdmp_engines.proofs.Symbols.{Leaves-listed}
+use Rattle.mdmp_engines.proofs.hex.hex_listed.Goals as goal
+
+pub returns-clause-hexes : goal.returns-clause-hexes
+returns-clause-hexes g c = λ file known left given.
+    let listed = c.in-Ok.ensures.lists left given in
+    let room : length c.print_memory.new.bytes ≡ c.args.length = grind (arith, c.print_memory.auto.bytes, c.deref_mut.ensures, c.in-Ok-vec.ensures) in
+    let printed = c.print_memory.ensures.hexes file (c.list_ranges.ensures.fetches.fetches.same_content ∙ known) in
+    HexesRun-printed file c.list_ranges.new.self.ranges left c.args.address c.args.length _ _ c.print_memory.result listed.0 (rw c.requires.none at listed.1) (rw room at printed)
+
+pub returns-clause-leaves : goal.returns-clause-leaves
+returns-clause-leaves g c =
+    let first = c.list_ranges.ensures.fetches in
+    let more = c.print_memory.ensures.leaves in
+    let untouched : Type 0 = g.O.Printer.state c.print_memory.new.out ≡ g.O.Printer.state c.args.out.now in
+    record {
+      good = search rules;
+      behind = subst (λ (size : ℕ). IsBehind at_the_end size c.print_memory.result untouched) first.fetches.same_size more.behind;
+      reads = record {
+        cause = search rules;
+        fetches = record { count = first.count + more.reads.fetches.count; fetches = fetches_then _ _ _ _ _ first.fetches more.reads.fetches.fetches };
+      };
+      out_cause = more.out_cause;
+    }
+
+pub returns-clause-same : goal.returns-clause-same
+returns-clause-same g c = run_then _ _ _ (run_list _ _ _ (run_none _) c.list_ranges.ensures.same) c.print_memory.ensures.same
+
+pub returns-in-Err-clause-leaves : goal.returns-in-Err-clause-leaves
+returns-in-Err-clause-leaves g c =
+    let of = c.in-Err.ensures in
+    let fits = ranges_fit c.args.lister.now c.in-Err.fault c.list_ranges.new.self of.follows in
+    rw c.told_list.ensures (Leaves-listed at_the_end _ c.list_ranges.new.self.current c.in-Err.fault _ _ _ of.fetches of.told of.good fits refl refl)
+
+pub returns-in-Err-clause-over : goal.returns-in-Err-clause-over
+returns-in-Err-clause-over g c = rw c.told_list.ensures (over_listing (Unit {0}) c.in-Err.fault c.list_ranges.new.self c.in-Err.ensures.refused)
+
+pub returns-in-Err-clause-same : goal.returns-in-Err-clause-same
+returns-in-Err-clause-same g c = run_list _ _ _ (run_none _) c.list_ranges.ensures.same
+
+pub returns-in_default-vec-clause-same : goal.returns-in_default-vec-clause-same
+returns-in_default-vec-clause-same g c = run_list _ _ _ (run_none _) c.list_ranges.ensures.same
+
+pub returns-in_default-clause-same : goal.returns-in_default-clause-same
+returns-in_default-clause-same g c = run_list _ _ _ (run_none _) c.list_ranges.ensures.same
+
+pub returns-in-Err-clause-aside : goal.returns-in-Err-clause-aside
+returns-in-Err-clause-aside g c = rw c.told_list.ensures (aside_listing (Unit {0}) None c.in-Err.fault c.list_ranges.new.self refl)
+
+pub returns-clause-beside : goal.returns-clause-beside
+returns-clause-beside g c =
+    let room : length c.print_memory.new.bytes ≡ c.args.length = grind (arith, c.print_memory.auto.bytes, c.deref_mut.ensures, c.in-Ok-vec.ensures) in
+    let same = ap (λ (a : Amount). a.bytes) c.list_ranges.ensures.same.aside in
+    let more = c.print_memory.ensures.beside in
+    omega (arith, room, same, more)
+
+pub returns-in-Err-clause-beside : goal.returns-in-Err-clause-beside
+returns-in-Err-clause-beside g c = let same = ap (λ (a : Amount). a.bytes) c.list_ranges.ensures.same.aside in omega (arith, same)
+
+pub returns-in_default-vec-clause-beside : goal.returns-in_default-vec-clause-beside
+returns-in_default-vec-clause-beside g c = let same = ap (λ (a : Amount). a.bytes) c.list_ranges.ensures.same.aside in omega (arith, same)
+
+pub returns-in_default-clause-beside : goal.returns-in_default-clause-beside
+returns-in_default-clause-beside g c = let same = ap (λ (a : Amount). a.bytes) c.list_ranges.ensures.same.aside in omega (arith, same)

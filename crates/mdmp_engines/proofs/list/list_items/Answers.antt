@@ -1,0 +1,85 @@
+use Rattle.std.proofs.Common.{◌∙◌, ◌+◌, Ok, Err, true, false, ap, Bool}
+use Rattle.mdmp_source.specs.SourceLaws.{fetches_then}
+use Rattle.mdmp_lister.specs.Lister.{tail}
+use Rattle.mdmp_engines.proofs.Besides.{HasRead-end, HasRead-next}
+use Rattle.mdmp_engines.proofs.Printing.{HasPrinted-next, ListsRun-end, ListsRun-fault, next_told, next_within}
+use Rattle.mdmp_engines.proofs.Reached.{HasNamed-end, HasNamed-fault, HasNamed-next}
+use Rattle.mdmp_engines.proofs.Symbols.{Leaves-fault, Leaves-later, refused_by}
+use Rattle.mdmp_engines.proofs.SameRuns.{run_then, aside_fault}
+use Rattle.mdmp_engines.proofs.list.list_items.Goals as goal
+
+pub returns-in_err-list_next-clause-lists : goal.returns-in_err-list_next-clause-lists
+returns-in_err-list_next-clause-lists g c = λ file content run known.
+    let so_far = c.loop.invariant in
+    let f = c.in_err-list_next.field-0.0 in
+    let is = refused_by c.from_residual.result f c.from_residual.ensures.1 in
+    let printed = so_far.printed file content run known in
+    let next = next_within c.args.form c.args.pdb file _ _ printed.0 _ (Err f) _ so_far.run.limit (c.in_err-list_next.ensures.lists file (so_far.source.fetches.same_content ∙ content) printed.0 printed.1.0) in
+    rw is (ListsRun-fault c.args.form c.args.pdb file c.args.lister.now.limit run printed.0 _ _ _ f printed.1.1 next)
+
+pub returns-in_err-list_next-clause-leaves : goal.returns-in_err-list_next-clause-leaves
+returns-in_err-list_next-clause-leaves g c =
+    let so_far = c.loop.invariant in
+    let f = c.in_err-list_next.field-0.0 in
+    let is = refused_by c.from_residual.result f c.from_residual.ensures.1 in
+    rw is (Leaves-fault f _ _ _ _ (Leaves-later _ _ _ _ _ _ _ (Err f) so_far.source.fetches so_far.steady c.in_err-list_next.ensures.leaves))
+
+pub loop-preserved : goal.loop-preserved
+loop-preserved g c =
+    let so_far = c.loop.invariant in
+    let of = c.in_ok-list_next.ensures in
+    let rest = of.rest (ap Ok c.if-branch.true) in
+    record {
+      going = rest.going;
+      source = record { count = so_far.source.count + of.leaves.reads.fetches.count; fetches = fetches_then _ _ _ _ _ so_far.source.fetches of.leaves.reads.fetches.fetches };
+      run = run_then _ _ _ so_far.run of.same;
+      steady = of.leaves.out_cause ∙ so_far.steady;
+      aside = (of.aside so_far.aside).kept;
+      read = HasRead-next c.args.pdb _ _ _ so_far.run.limit so_far.read of.read rest.left;
+      named = HasNamed-next _ _ _ so_far.named of.names rest.left;
+      printed = λ file content run known.
+          let printed = so_far.printed file content run known in
+          let next = next_told c.args.form c.args.pdb file _ _ printed.0 _ _ true _ so_far.run.limit c.if-branch.true (of.lists file (so_far.source.fetches.same_content ∙ content) printed.0 printed.1.0) in (
+            tail printed.0,
+            (rw printed.1.0 at rest.left, HasPrinted-next c.args.form c.args.pdb file c.args.lister.now.limit run printed.0 _ _ _ printed.1.1 next.1),
+          );
+    }
+
+pub returns-clause-lists : goal.returns-clause-lists
+returns-clause-lists g c = λ file content run known.
+    let so_far = c.loop.invariant in
+    let printed = so_far.printed file content run known in
+    let next = next_told c.args.form c.args.pdb file _ _ printed.0 _ _ false _ so_far.run.limit c.if-branch.false (c.in_ok-list_next.ensures.lists file (so_far.source.fetches.same_content ∙ content) printed.0 printed.1.0) in
+    ListsRun-end c.args.form c.args.pdb file c.args.lister.now.limit run printed.0 _ _ _ printed.1.1 next
+
+pub returns-clause-leaves : goal.returns-clause-leaves
+returns-clause-leaves g c =
+    let so_far = c.loop.invariant in
+    let left = c.in_ok-list_next.ensures.leaves in
+    record {
+      good = λ file good. tt;
+      behind = tt;
+      reads = record { cause = tt; fetches = record { count = so_far.source.count + left.reads.fetches.count; fetches = fetches_then _ _ _ _ _ so_far.source.fetches left.reads.fetches.fetches } };
+      out_cause = left.out_cause ∙ so_far.steady;
+    }
+
+pub returns-in_err-list_next-clause-aside : goal.returns-in_err-list_next-clause-aside
+returns-in_err-list_next-clause-aside g c =
+    let f = c.in_err-list_next.field-0.0 in
+    let is = refused_by c.from_residual.result f c.from_residual.ensures.1 in
+    rw is (aside_fault Bool (Unit {0}) c.args.aside f _ (c.in_err-list_next.ensures.aside c.loop.invariant.aside))
+
+pub returns-clause-aside : goal.returns-clause-aside
+returns-clause-aside g c = record { kept = (c.in_ok-list_next.ensures.aside c.loop.invariant.aside).kept; over = tt }
+
+pub returns-in_err-list_next-clause-read : goal.returns-in_err-list_next-clause-read
+returns-in_err-list_next-clause-read g c = HasRead-end c.args.pdb _ _ _ c.loop.invariant.run.limit c.loop.invariant.read c.in_err-list_next.ensures.read
+
+pub returns-clause-read : goal.returns-clause-read
+returns-clause-read g c = HasRead-end c.args.pdb _ _ _ c.loop.invariant.run.limit c.loop.invariant.read c.in_ok-list_next.ensures.read
+
+pub returns-in_err-list_next-clause-names : goal.returns-in_err-list_next-clause-names
+returns-in_err-list_next-clause-names g c = HasNamed-fault _ _ _ c.loop.invariant.named c.in_err-list_next.ensures.names
+
+pub returns-clause-names : goal.returns-clause-names
+returns-clause-names g c = HasNamed-end _ _ _ c.loop.invariant.named c.in_ok-list_next.ensures.names

@@ -1,0 +1,132 @@
+-- Why a call ended with a fault, of whatever file.
+use Rattle.std.specs.Prelude.{◌≡◌, ◌≤◌, ◌+◌, ◌*◌, ℕ, List, Option, None, Some, Result, Err, false, true, max, min}
+use Rattle.mdmp_source.specs.Range.{IsInside}
+use Rattle.mdmp_source.specs.Output.{HasRefused, OutState}
+use Rattle.mdmp_source.specs.Source.{SourceState}
+use Rattle.mdmp_lister.specs.declared.fault.OpenFault.{OpenFault}
+use Rattle.mdmp_lister.specs.declared.fault.OpenFault.TheVariants as opening
+use Rattle.mdmp_lister.specs.declared.fault.ListFault.{ListFault}
+use Rattle.mdmp_lister.specs.declared.limits.Limits.{Limits}
+use Rattle.mdmp_lister.specs.Lister.{ListerState}
+use Rattle.mdmp_lister.specs.declared.choice.Choice.{Choice}
+use Rattle.mdmp_lister.specs.Format.Bounds.{held_bound}
+use Rattle.mdmp_lister.specs.Memory.{is_within, leaving, opening_fault_within}
+use Rattle.mdmp_lister.specs.Meter.{IsRefusedFetch}
+use Rattle.mdmp_lister.specs.Opening.{IsOpenRefusal, KeepsToBudget}
+use Rattle.mdmp_lister.specs.Fault.{IsUnobtained}
+use Rattle.mdmp_lister.specs.Following.{FitsFile}
+use Rattle.mdmp_dump.specs.Reading.{IsLastTold, MayBeTold}
+use Rattle.mdmp_engines.specs.declared.fault.ToolFault.{ToolFault}
+use Rattle.mdmp_engines.specs.declared.fault.ToolFault.TheVariants.{Opening, List as BadList, Reading, Layout, Source, Budget, MemoryLimit, AsideLimit, Out, NotCopied}
+
+-- all bytes that were asked for were obtained
+abbrev pub IsNoSourceFault : {T : Type 0} → Result T ToolFault → Type 0
+IsNoSourceFault (Err (Source fault)) = ⊥
+IsNoSourceFault _ = Unit {0}
+
+-- a source's fault is told as the source answered it, and has its cause in this call
+abbrev pub HasSourceCause : {T : Type 0} → SourceState → Result T ToolFault → SourceState → Type 0
+HasSourceCause old (Err (Source fault)) new = IsLastTold fault old new
+HasSourceCause old _ new = Unit {0}
+
+-- the budget is told of a fetch for the listing that was not made, of no more than the window or a name may have
+abbrev pub HasBudgetCause : {T : Type 0} → Result T ToolFault → ListerState → Type 0
+HasBudgetCause (Err (Budget offset size)) v = IsRefusedFetch (max v.rooms.window v.limit) offset size v.counts v.source.size
+HasBudgetCause answer v = Unit {0}
+
+-- what was fetched of a file that was refused is within the budget, of which it is told only where a fetch would have passed it
+abbrev pub HasOpeningBudget : {T : Type 0} → Limits → SourceState → Result T ToolFault → SourceState → Type 0
+HasOpeningBudget limits old (Err (Budget offset size)) new = KeepsToBudget limits old (opening.Budget offset size) new
+HasOpeningBudget limits old answer new = KeepsToBudget limits old opening.Memory new
+
+-- of a file of so many bytes the budget may be told only where there is one, of bytes inside, no more than the window or a
+-- name may have
+abbrev pub MayReachBudget : {T : Type 0} → Limits → ℕ → Result T ToolFault → Type 0
+MayReachBudget limits size (Err (Budget offset len)) = (limits.budget ≡ None → ⊥) × (IsInside offset len size × (len ≤ max limits.window limits.name))
+MayReachBudget limits size answer = Unit {0}
+
+-- a command that was run is not refused by its limit of memory
+abbrev pub IsWithinMemory : {T : Type 0} → Result T ToolFault → Type 0
+IsWithinMemory (Err (MemoryLimit held)) = ⊥
+IsWithinMemory answer = Unit {0}
+
+-- a file needs more memory than there may be: so many bytes for the lists of a lister of its entries and ranges, and so many that
+-- are held beside them; of a known file this is what keeps it from being opened
+pub record IsOverMemoryLimit (limits : Limits) (choice : Choice) (beside : ℕ) (old : SourceState) (held : ℕ) : Type 0 where
+  pub over : is_within limits.memory held ≡ false
+  pub listed : ℕ
+  pub entries : ℕ
+  pub ranges : ℕ
+  pub held_is : held ≡ listed + beside
+  pub listed_is : listed ≡ held_bound limits.window limits.name entries ranges
+  pub inside : 12 * entries ≤ old.size
+  pub of_file : (file : List ℕ) → old.store.content ≡ Some file → opening_fault_within (leaving beside limits) file choice ≡ Some (opening.MemoryLimit listed)
+
+-- memory is refused by its limit only then; a known file that is refused for what is in it, is refused for the first reason within
+-- the limits
+abbrev pub HasMemoryCause : {T : Type 0} → Limits → Choice → ℕ → SourceState → Result T ToolFault → Type 0
+HasMemoryCause limits choice beside old (Err (MemoryLimit held)) = IsOverMemoryLimit limits choice beside old held
+HasMemoryCause limits choice beside old (Err (Opening fault)) = (file : List ℕ) → old.store.content ≡ Some file → opening_fault_within (leaving beside limits) file choice ≡ Some fault
+HasMemoryCause limits choice beside old answer = Unit {0}
+
+-- which is so only if there is one
+abbrev pub MayReachMemory : {T : Type 0} → Limits → Result T ToolFault → Type 0
+MayReachMemory limits (Err (MemoryLimit held)) = is_within limits.memory held ≡ false
+MayReachMemory limits answer = Unit {0}
+
+-- ---- CodeView records
+
+-- how many bytes of a CodeView record of so many are read at most, with names of at most `limit` bytes
+abbrev pub symbols_cost : ℕ → ℕ → ℕ
+symbols_cost limit size = min size (24 + limit)
+
+-- the listing ends by the limit of what is read aside only at a record that lies inside the file, and with which more bytes than
+-- that might have been read
+abbrev pub HasAsideCause : {T : Type 0} → Option ℕ → Result T ToolFault → ListerState → Type 0
+HasAsideCause aside (Err (AsideLimit offset size)) v = (is_within aside (v.counts.aside.bytes + size) ≡ false) × (IsInside offset size v.source.size × (size ≤ 24 + v.limit))
+HasAsideCause aside answer v = Unit {0}
+
+-- no more was read aside than may be
+pub record KeepsAside {T : Type 0} (aside : Option ℕ) (answer : Result T ToolFault) (v : ListerState) : Type 0 where
+  pub kept : is_within aside v.counts.aside.bytes ≡ true
+  pub over : HasAsideCause aside answer v
+
+-- of a file of so many bytes that limit may be told only if there is one, of a record inside
+abbrev pub MayReachAside : {T : Type 0} → Option ℕ → Limits → ℕ → Result T ToolFault → Type 0
+MayReachAside aside limits size (Err (AsideLimit offset len)) = (aside ≡ None → ⊥) × (IsInside offset len size × (len ≤ 24 + limits.name))
+MayReachAside aside limits size answer = Unit {0}
+
+-- the output is at fault only where it refused
+abbrev pub HasOutCause : {T : Type 0} → OutState → Result T ToolFault → OutState → Type 0
+HasOutCause before (Err Out) after = HasRefused before.failures after.failures
+HasOutCause before _ after = after.failures ≡ before.failures
+
+-- a fault of the store and a limit that was reached are told as such, and so is that memory ran out
+abbrev pub IsOfFile : OpenFault → Type 0
+IsOfFile (opening.Source fault) = ⊥
+IsOfFile (opening.Budget offset size) = ⊥
+IsOfFile opening.Memory = ⊥
+IsOfFile (opening.MemoryLimit held) = ⊥
+IsOfFile fault = Unit {0}
+
+-- an opening is refused for what is in a file of `size` bytes, and such a file may be refused so
+abbrev pub IsOpeningTold : ℕ → OpenFault → Type 0
+IsOpeningTold size fault = IsOfFile fault × IsOpenRefusal size fault
+
+-- a fault of the listing is the file's own, and such a file may have it
+abbrev pub IsListTold : ℕ → ListFault → Type 0
+IsListTold size fault = (IsUnobtained fault.kind → ⊥) × FitsFile size fault
+
+-- that the store has changed is told only where its content is not known
+abbrev pub MayChange : {T : Type 0} → Option (List ℕ) → Result T ToolFault → Type 0
+MayChange content (Err (Source fault)) = MayBeTold content (Some fault)
+MayChange content answer = Unit {0}
+
+-- a listing of a file of size bytes that is refused may be, and what is told of the file is its own; no listing is a copy
+abbrev pub IsRefusal : {T : Type 0} → ℕ → Result T ToolFault → Type 0
+IsRefusal size (Err (Opening fault)) = IsOpeningTold size fault
+IsRefusal size (Err (BadList fault)) = IsListTold size fault
+IsRefusal size (Err (Reading fault)) = ⊥
+IsRefusal size (Err (Layout fault)) = ⊥
+IsRefusal size (Err (NotCopied t)) = ⊥
+IsRefusal size answer = Unit {0}

@@ -1,0 +1,12 @@
+pub mod Causes
+pub mod CheckRuns
+pub mod CheckText
+pub mod Copying
+pub mod Engines
+pub mod Faults
+pub mod HexRuns
+pub mod JsonLaws
+pub mod Runs
+pub mod Symbols
+pub mod Telling
+pub mod Text

@@ -1,0 +1,43 @@
+//! The commands of `mdmp` over stores and outputs: what they print, and the faults that end them.
+//!
+//! There is one engine for each command. [`run_list`] writes of a good store the text
+//! of `specs/Text.antt`, whole or up to the first bad location, and of one that fails the first part
+//! of it. [`run_check`] writes the text of `specs/CheckText.antt`, a line for each entry, and answers
+//! how many are bad. [`run_hex`] writes the text of `specs/HexText.antt` of mdmp_print, or nothing where the store
+//! fails or the file's memory lists have a bad location. [`check_in_blocks`], [`list_in_blocks`] and
+//! [`hex_in_blocks`] do the same by few writes. [`run_copy`] writes the dump of the streams of some
+//! types as a file of its own, a first part of it where the output refuses or the store fails, or
+//! nothing.
+//! A [`LineForm`] says whether the lines of `list` and `check` are words or objects of JSON
+//! (`specs/JsonLines.antt` of mdmp_print); all else is the same. [`objects_are_json_texts`] is the law that of any
+//! file these objects are JSON Lines: each is a line of UTF-8 that reads back as it.
+//! A [`ToolFault`] has the exit status of [`status`] and the line of [`fault_line`].
+//!
+//! It reads no command line and opens no file.
+#![tactic(auto)]
+
+mod blocks;
+mod check;
+mod copy;
+mod engine;
+mod fault;
+mod fault_lines;
+mod fault_words;
+mod hex;
+mod json_law;
+mod list;
+mod outcome;
+
+pub use crate::blocks::{check_in_blocks, hex_in_blocks, list_in_blocks};
+pub use crate::check::{check_source, run_check};
+pub use crate::copy::{copied, copy_source, first_not_copied, run_copy};
+pub use crate::fault::{ToolFault, status};
+pub use crate::fault_lines::fault_line;
+pub use crate::hex::{hex_source, run_hex};
+pub use crate::json_law::objects_are_json_texts;
+pub use crate::list::{list_next, list_source, run_list};
+pub use crate::outcome::Outcome;
+pub use mdmp_dump::{PartName, ReadFault};
+pub use mdmp_lister::{FaultKind, Limits, ListFault, OpenFault, TypeSet};
+pub use mdmp_print::{LINE_ROOM, LineForm, LineOut, Printer, print_dump};
+pub use mdmp_writer::LayoutFault;

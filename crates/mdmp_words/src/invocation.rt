@@ -1,0 +1,59 @@
+//! What a command line asks for.
+use crate::number_words::Span;
+use mdmp_lister::{Limits, TypeSet};
+use mdmp_print::LineForm;
+
+/// What a command line asks for.
+#[derive(Drop)]
+pub enum Invocation<'a> {
+    /// A command, and the file that it reads.
+    Run {
+        /// The name of the file.
+        file: &'a str,
+        /// The limits within which it is read.
+        limits: Limits,
+        /// What is done with the file.
+        command: Command<'a>,
+    },
+    /// Help or the version: this text.
+    Help(String),
+    /// Nothing, since the words are no command line. This text says why.
+    Refused(String),
+    /// Nothing, since a number, a type or a span of addresses among the words is none.
+    InvalidValue,
+    /// Nothing that is known, since memory ran out while the words were read.
+    Memory,
+}
+
+/// What is printed of a file.
+#[derive(Clone, Copy)]
+pub enum Print {
+    /// Of each entry whether it is good.
+    Check {
+        /// How the lines are printed.
+        form: LineForm,
+    },
+    /// What the file holds.
+    List {
+        /// How the lines are printed.
+        form: LineForm,
+        /// Whether the symbol file of each module is printed too.
+        pdb: bool,
+    },
+    /// The bytes at these addresses.
+    Hex(Span),
+}
+
+/// What is done with a file.
+#[derive(Drop)]
+pub enum Command<'a> {
+    /// Something is printed of it.
+    Print(Print),
+    /// The streams of some types are copied.
+    Copy {
+        /// The name of the file that is written.
+        target: &'a str,
+        /// The types of the streams.
+        types: TypeSet,
+    },
+}
