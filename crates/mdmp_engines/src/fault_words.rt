@@ -96,7 +96,9 @@ impl Piece for ReadWords {
                 length
             ]
             .write_at(buffer, at),
-            ReadFault::PartsTooLarge { .. } => LayoutWords(LayoutFault::TooLarge).write_at(buffer, at),
+            ReadFault::PartsTooLarge { .. } => LayoutWords(LayoutFault::TooLarge).write_at(
+                buffer, at,
+            ),
             ReadFault::Memory => b"out of memory".write_at(buffer, at),
             ReadFault::Source(fault) => SourceWords(fault).write_at(buffer, at),
         }
