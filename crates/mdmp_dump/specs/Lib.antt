@@ -15,6 +15,7 @@ pub mod Memory64
 pub mod MemoryInfo
 pub mod Module
 pub mod Name
+pub mod Opened
 pub mod Opening
 pub mod Part
 pub mod Placed

@@ -1,5 +1,5 @@
 //! A walk over the streams of a file, a record at a time.
-ghost use Rattle.std.specs.Prelude.{◌≡◌, ◌≤◌, ◌<◌, ◌+◌, ◌^◌, ℕ, List, IfErr, IfOk, MatchResult, length, slice_get, None, Some, Err, OnOk, true};
+ghost use Rattle.std.specs.Prelude.{◌≡◌, ◌≤◌, ◌<◌, ◌+◌, ◌^◌, ℕ, List, IfErr, IfOk, MatchResult, length, slice_get, None, Some, OnOk, true};
 ghost use Rattle.mdmp_source.specs.Count.{raised};
 ghost use Rattle.mdmp_source.specs.Range.{IsInside, bytes_at};
 ghost use Rattle.mdmp_source.specs.Store.{IsOfBytes, IsSizeOf};
@@ -9,11 +9,12 @@ ghost use Rattle.mdmp_lister.specs.Format.Kind.{kind_of};
 ghost use Rattle.mdmp_lister.specs.Format.Listing.{entry_of};
 ghost use Rattle.mdmp_lister.specs.Lister.{IsSameLister};
 ghost use Rattle.mdmp_dump.specs.Walking.{IsFar, IsKept, IsPlace, IsPlaceOf, chosen_of, lists_memory64, records_to_give, state_of};
-ghost use Rattle.mdmp_dump.specs.FileRefusal.{IsViewRefusal, view_refusal};
+ghost use Rattle.mdmp_dump.specs.FileRefusal.{view_refusal};
 ghost use Rattle.mdmp_lister.specs.Meter.{KeepsTo};
-ghost use Rattle.mdmp_dump.specs.Opening.{FetchesWithin, HasSpentOpening, IsLimited, IsNameless, IsShortOf, copy_fault, copy_held};
+ghost use Rattle.mdmp_dump.specs.Opened.{HandsSourceBack, RefusesView};
+ghost use Rattle.mdmp_dump.specs.Opening.{IsNameless, copy_fault, copy_held};
 ghost use Rattle.mdmp_lister.specs.Memory.{is_within};
-ghost use Rattle.mdmp_dump.specs.Reading.{Fetches, IsWanting, TellsOf, refusal_of};
+ghost use Rattle.mdmp_dump.specs.Reading.{IsWanting, refusal_of};
 
 use crate::fault::ReadFault;
 use crate::found_record::{FoundRecord, found_item};
@@ -79,14 +80,9 @@ impl<S: Store + Drop, A: Allocator + Copy> EntryWalk<S, A> {
         ensures of_file { (file : List ℕ) → source.store.content ≡ Some file
             → MatchResult result (λ _. directory_refusal file ≡ None)
             (λ refused. (names : ℕ) → (IsWanting refused.fault → ⊥) → view_refusal file choice names ≡ Some refused.fault) }
-        ensures cause { IfErr result (λ refused. Fetches {T = Unit {0}} (Err refused.fault) source refused.source) }
-        ensures refusal { IfErr result (λ refused. IsViewRefusal limits.budget source.size refused.fault) }
-        ensures within { IfErr result (λ refused. FetchesWithin limits.budget source refused.source) }
-        ensures over { (file : List ℕ) → source.store.content ≡ Some file → IfErr result (λ refused. IsShortOf limits.budget limits.window file choice refused.fault) }
-        ensures limited { IfErr result (λ refused. IsLimited limits source.store.content refused.fault) }
         ensures short { source.size < 32 → MatchResult result (λ _. ⊥) (λ refused. refused.fault ≡ ReadFault.Opening (OpenFault.TooShort source.size)) }
-        ensures spends { IfErr result (λ refused. HasSpentOpening choice source refused.source) }
-        ensures tells { IfErr result (λ refused. TellsOf source.store.content refused.fault) }
+        ensures refused { IfErr result (λ refused. RefusesView limits choice source refused.fault) }
+        ensures handed_back { IfErr result (λ refused. HandsSourceBack limits choice source refused.fault refused.source) }
     {
         // The proof learns here that the size has 64 bits.
         let _size = source.size();

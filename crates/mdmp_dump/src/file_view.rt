@@ -1,8 +1,7 @@
 //! A dump in a file, given a record at a time.
-ghost use Rattle.std.specs.Prelude.{◌≡◌, ◌≤◌, ◌<◌, ◌+◌, ◌*◌, ℕ, List, None, Some, Err, IfErr, IfOk, IsTrue, MatchResult};
-ghost use Rattle.mdmp_source.specs.Store.{IsGood};
+ghost use Rattle.std.specs.Prelude.{◌≡◌, ◌≤◌, ◌<◌, ◌+◌, ℕ, List, None, Some, IfErr, IfOk, MatchResult};
 ghost use Rattle.mdmp_dump.specs.FileView.{HasMoved, IsView, file_cursor, file_shape};
-ghost use Rattle.mdmp_dump.specs.Reading.{Fetches, IsWanting, TellsOf, store_fault};
+ghost use Rattle.mdmp_dump.specs.Reading.{IsWanting};
 
 use crate::entry_walk::{EntryWalk, ViewRefused};
 use crate::fault::ReadFault;
@@ -35,13 +34,11 @@ pub struct FileView<S: Store + Drop, A: Allocator + Copy> {
 }
 
 impl<S: Store + Drop, A: Allocator + Copy> FileView<S, A> {
-    ghost use Rattle.mdmp_dump.specs.FileRefusal.{IsViewRefusal, view_refusal};
-    ghost use Rattle.mdmp_dump.specs.InFile.{dump_in};
-    ghost use Rattle.mdmp_dump.specs.LaysOut.{LaysOut};
+    ghost use Rattle.mdmp_dump.specs.FileRefusal.{view_refusal};
     ghost use Rattle.mdmp_source.specs.Count.{raised};
-    ghost use Rattle.mdmp_dump.specs.Opening.{FetchesWithin, HasSpentOpening, IsLimited, IsNewView, IsShortOf, copy_bound, fetched_by, held_by, needed_by, opened_by, opening_bound, source_in, spent_by, started_by};
+    ghost use Rattle.mdmp_dump.specs.Opened.{CostsOpening, HandsSourceBack, RefusesView, ShowsFile};
+    ghost use Rattle.mdmp_dump.specs.Opening.{IsNewView, fetched_by, held_by, needed_by, opened_by, source_in, spent_by, started_by};
     ghost use Rattle.mdmp_dump.specs.Reading.{Settles};
-    ghost use Rattle.mdmp_dump.specs.Shape.{IsViewOf};
 
     /// Opens a view of the chosen entries of a file. Every fault of its listing, every part that lies
     /// outside and every name over the limit is told here, the first of them in the order of the listing.
@@ -56,20 +53,12 @@ impl<S: Store + Drop, A: Allocator + Copy> FileView<S, A> {
         limits: Limits,
         choice: Choice,
     ) -> Result<Self, ReadFault>
-        ensures views { (file : List ℕ) → source.store.content ≡ Some file → IfOk result (λ view.
-            LaysOut file choice (dump_in {Z = A} file choice) × IsViewOf (dump_in {Z = A} file choice) (⟦<FileView<S, A> as DumpView>⟧.shape view)) }
+        ensures views { IfOk result (λ view. ShowsFile A source choice (⟦<FileView<S, A> as DumpView>⟧.shape view)) }
         ensures refuses { (file : List ℕ) → source.store.content ≡ Some file → Settles (view_refusal file choice limits.name) result (λ _. None) }
-        ensures good { (file : List ℕ) → IsGood source.store file → IfErr result (λ fault. store_fault fault ≡ None) }
-        ensures refusal { IfErr result (IsViewRefusal limits.budget source.size) }
         ensures short { source.size < 32 → MatchResult result (λ _. ⊥) (λ fault. fault ≡ ReadFault.Opening (OpenFault.TooShort source.size)) }
         ensures new { IfOk result (IsNewView source limits.window limits.memory choice) }
-        ensures cost { (file : List ℕ) → source.store.content ≡ Some file → IfOk result (λ view. opened_by view ≡ opening_bound file choice) }
-        ensures needs { (file : List ℕ) → source.store.content ≡ Some file → IfOk result (λ view. needed_by view ≡ raised 0 (copy_bound A file choice)) }
-        ensures kept { (most : ℕ) → limits.budget ≡ Some most → IfOk result (λ view. fetched_by view ≤ most) }
-        ensures over { (file : List ℕ) → source.store.content ≡ Some file → IfErr result (IsShortOf limits.budget limits.window file choice) }
-        ensures reliable { (file : List ℕ) → IsGood source.store file → IfOk result (λ view. IsTrue (⟦<FileView<S, A> as DumpView>⟧.shape view).is_reliable) }
-        ensures tells { IfErr result (TellsOf source.store.content) }
-        ensures limited { IfErr result (IsLimited limits source.store.content) }
+        ensures costs { IfOk result (CostsOpening source limits choice) }
+        ensures refused { IfErr result (RefusesView limits choice source) }
     {
         match FileView::open_source(alloc, source, limits, choice) {
             Ok(view) => Ok(view),
@@ -84,23 +73,14 @@ impl<S: Store + Drop, A: Allocator + Copy> FileView<S, A> {
         limits: Limits,
         choice: Choice,
     ) -> Result<Self, ViewRefused<S>>
-        ensures views { (file : List ℕ) → source.store.content ≡ Some file → IfOk result (λ view.
-            LaysOut file choice (dump_in {Z = A} file choice) × IsViewOf (dump_in {Z = A} file choice) (⟦<FileView<S, A> as DumpView>⟧.shape view)) }
+        ensures views { IfOk result (λ view. ShowsFile A source choice (⟦<FileView<S, A> as DumpView>⟧.shape view)) }
         ensures refuses { (file : List ℕ) → source.store.content ≡ Some file
             → MatchResult result (λ _. view_refusal file choice limits.name ≡ None) (λ refused. (IsWanting refused.fault → ⊥) → view_refusal file choice limits.name ≡ Some refused.fault) }
-        ensures cause { IfErr result (λ refused. Fetches {T = Unit {0}} (Err refused.fault) source refused.source) }
-        ensures refusal { IfErr result (λ refused. IsViewRefusal limits.budget source.size refused.fault) }
         ensures short { source.size < 32 → MatchResult result (λ _. ⊥) (λ refused. refused.fault ≡ ReadFault.Opening (OpenFault.TooShort source.size)) }
         ensures new { IfOk result (IsNewView source limits.window limits.memory choice) }
-        ensures cost { (file : List ℕ) → source.store.content ≡ Some file → IfOk result (λ view. opened_by view ≡ opening_bound file choice) }
-        ensures needs { (file : List ℕ) → source.store.content ≡ Some file → IfOk result (λ view. needed_by view ≡ raised 0 (copy_bound A file choice)) }
-        ensures spends { IfErr result (λ refused. HasSpentOpening choice source refused.source) }
-        ensures kept { (most : ℕ) → limits.budget ≡ Some most → IfOk result (λ view. fetched_by view ≤ most) }
-        ensures within { IfErr result (λ refused. FetchesWithin limits.budget source refused.source) }
-        ensures over { (file : List ℕ) → source.store.content ≡ Some file → IfErr result (λ refused. IsShortOf limits.budget limits.window file choice refused.fault) }
-        ensures reliable { (file : List ℕ) → IsGood source.store file → IfOk result (λ view. IsTrue (⟦<FileView<S, A> as DumpView>⟧.shape view).is_reliable) }
-        ensures tells { IfErr result (λ refused. TellsOf source.store.content refused.fault) }
-        ensures limited { IfErr result (λ refused. IsLimited limits source.store.content refused.fault) }
+        ensures costs { IfOk result (CostsOpening source limits choice) }
+        ensures refused { IfErr result (λ refused. RefusesView limits choice source refused.fault) }
+        ensures handed_back { IfErr result (λ refused. HandsSourceBack limits choice source refused.fault refused.source) }
     {
         let mut walk = match EntryWalk::open(alloc, source, limits, choice) {
             Ok(walk) => walk,

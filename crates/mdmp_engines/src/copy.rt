@@ -1,17 +1,16 @@
 //! The command `copy`.
-ghost use Rattle.std.specs.Prelude.{◌≡◌, ◌<◌, ◌≤◌, ◌+◌, ◌*◌, ℕ, List, None, Some, Err, IfErr, IfOk, IsTrue, MatchResult, length};
+ghost use Rattle.std.specs.Prelude.{◌≡◌, ◌<◌, ◌≤◌, ◌+◌, ◌*◌, ℕ, List, None, Some, IfErr, IfOk, MatchResult, length};
 ghost use Rattle.mdmp_source.specs.Store.{IsGood};
 ghost use Rattle.mdmp_lister.specs.declared.choice.Choice.TheVariants.{Types};
 ghost use Rattle.mdmp_lister.specs.declared.fault.OpenFault.TheVariants.{TooShort};
 ghost use Rattle.mdmp_dump.specs.declared.dump.Dump.{Dump};
 ghost use Rattle.mdmp_dump.specs.declared.fault.ReadFault.TheVariants.{Opening};
-ghost use Rattle.mdmp_dump.specs.FileRefusal.{IsViewRefusal, view_refusal};
-ghost use Rattle.mdmp_dump.specs.InFile.{dump_in};
-ghost use Rattle.mdmp_dump.specs.LaysOut.{LaysOut};
+ghost use Rattle.mdmp_dump.specs.FileRefusal.{view_refusal};
 ghost use Rattle.mdmp_source.specs.Count.{raised};
 ghost use Rattle.mdmp_lister.specs.Meter.{is_passed};
-ghost use Rattle.mdmp_dump.specs.Opening.{FetchesWithin, HasSpentOpening, IsLimited, IsNewView, IsShortOf, copy_bound, entries_in, fetched_by, held_by, needed_by, opened_by, opening_bound};
-ghost use Rattle.mdmp_dump.specs.Reading.{Fetches, IsWanting, TellsOf};
+ghost use Rattle.mdmp_dump.specs.Opened.{CostsOpening, HandsSourceBack, RefusesView, ShowsFile};
+ghost use Rattle.mdmp_dump.specs.Opening.{IsNewView, entries_in, held_by};
+ghost use Rattle.mdmp_dump.specs.Reading.{IsWanting};
 ghost use Rattle.mdmp_dump.specs.Shape.{IsViewOf};
 ghost use Rattle.mdmp_writer.specs.Passes.{all_asks, all_costs};
 ghost use Rattle.mdmp_writer.specs.Writing.{GoesOut};
@@ -155,25 +154,16 @@ fn open_copy<S: Store + Drop, A: Allocator + Copy>(
     limits: Limits,
     types: TypeSet,
 ) -> Result<Copying<S, A>, ViewRefused<S>>
-    ensures views { (file : List ℕ) → source.store.content ≡ Some file → IfOk result (λ copying.
-        LaysOut file (Types types) (dump_in {Z = A} file (Types types)) × IsViewOf (dump_in {Z = A} file (Types types)) (⟦<FileView<S, A> as DumpView>⟧.shape copying.view)) }
+    ensures views { IfOk result (λ copying. ShowsFile A source (Types types) (⟦<FileView<S, A> as DumpView>⟧.shape copying.view)) }
     ensures refuses { (file : List ℕ) → source.store.content ≡ Some file
         → MatchResult result (λ _. view_refusal file (Types types) limits.name ≡ None) (λ refused. (IsWanting refused.fault → ⊥) → view_refusal file (Types types) limits.name ≡ Some refused.fault) }
-    ensures cause { IfErr result (λ refused. Fetches {T = Unit {0}} (Err refused.fault) source refused.source) }
-    ensures refusal { IfErr result (λ refused. IsViewRefusal limits.budget source.size refused.fault) }
     ensures short { source.size < 32 → MatchResult result (λ _. ⊥) (λ refused. refused.fault ≡ Opening (TooShort source.size)) }
     ensures new { IfOk result (λ copying. IsNewView source limits.window limits.memory (Types types) copying.view) }
-    ensures reliable { (file : List ℕ) → IsGood source.store file → IfOk result (λ copying. IsTrue (⟦<FileView<S, A> as DumpView>⟧.shape copying.view).is_reliable) }
     ensures buffer { IfOk result (λ copying. length copying.buffer.items ≡ limits.window) }
-    ensures cost { (file : List ℕ) → source.store.content ≡ Some file → IfOk result (λ copying. opened_by copying.view ≡ opening_bound file (Types types)) }
-    ensures spends { IfErr result (λ refused. HasSpentOpening (Types types) source refused.source) }
     ensures held { IfOk result (λ copying. held_by copying.view + length copying.buffer.items ≡ 2 * limits.window + 24 * entries_in copying.view) }
-    ensures needs { (file : List ℕ) → source.store.content ≡ Some file → IfOk result (λ copying. needed_by copying.view ≡ raised 0 (copy_bound A file (Types types))) }
-    ensures kept { (most : ℕ) → limits.budget ≡ Some most → IfOk result (λ copying. fetched_by copying.view ≤ most) }
-    ensures within { IfErr result (λ refused. FetchesWithin limits.budget source refused.source) }
-    ensures over { (file : List ℕ) → source.store.content ≡ Some file → IfErr result (λ refused. IsShortOf limits.budget limits.window file (Types types) refused.fault) }
-    ensures tells { IfErr result (λ refused. TellsOf source.store.content refused.fault) }
-    ensures limited { IfErr result (λ refused. IsLimited limits source.store.content refused.fault) }
+    ensures costs { IfOk result (λ copying. CostsOpening source limits (Types types) copying.view) }
+    ensures refused { IfErr result (λ refused. RefusesView limits (Types types) source refused.fault) }
+    ensures handed_back { IfErr result (λ refused. HandsSourceBack limits (Types types) source refused.fault refused.source) }
 {
     let choice = Choice::Types(types);
     let view = match FileView::open_source(alloc, source, limits, choice) {

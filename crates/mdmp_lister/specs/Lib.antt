@@ -20,6 +20,7 @@ pub mod NameBuffer
 pub mod NextFetch
 pub mod Opening
 pub mod Painting
+pub mod Refused
 pub mod Sink
 pub mod Stage
 pub mod Step

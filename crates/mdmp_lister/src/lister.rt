@@ -1,16 +1,16 @@
 //! The lister.
-ghost use Rattle.std.specs.Prelude.{◌≡◌, ◌≤◌, ◌<◌, ◌+◌, ◌*◌, ◌++◌, ◌⊎◌, ◌-◌, ℕ, List, None, Some, All, IfOk, IfErr, IsOk, IsTrue, OnOk, length, false, MatchResult};
+ghost use Rattle.std.specs.Prelude.{◌≡◌, ◌≤◌, ◌<◌, ◌+◌, ◌++◌, ◌-◌, ℕ, List, None, Some, All, IfOk, IfErr, IsOk, IsTrue, OnOk, length, false, MatchResult};
 ghost use Rattle.std.specs.Borrow.{sem};
 ghost use Rattle.std.specs.Io.BufRead.{Rests};
 ghost use Rattle.mdmp_source.specs.Range.{IsInside, bytes_at};
 ghost use Rattle.mdmp_source.specs.Store.{IsGood, IsSizeOf};
 ghost use Rattle.mdmp_wire.specs.CodeView.{codeview_of};
 ghost use Rattle.mdmp_lister.specs.CodeView.{AreFetched, codeview_calls, codeview_cost, codeview_told};
-ghost use Rattle.mdmp_lister.specs.NextFetch.{TellsNextOpening};
-ghost use Rattle.mdmp_lister.specs.Opening.{IsHandedBack, IsOpenRefusal, IsRefusalOf, IsUnread, IsUnreadFor, KeepsToBudget};
+ghost use Rattle.mdmp_lister.specs.Opening.{IsRefusalOf};
+ghost use Rattle.mdmp_lister.specs.Refused.{IsRefusedLister};
 ghost use Rattle.mdmp_lister.specs.Format.Refusal.{opening_fault};
 ghost use Rattle.mdmp_map.specs.Ranges.{AreSorted, IsWithin};
-ghost use Rattle.mdmp_source.specs.Source.{FetchesAtMost, FetchesSome};
+ghost use Rattle.mdmp_source.specs.Source.{FetchesSome};
 ghost use Rattle.mdmp_lister.specs.Addressing.{FetchesAside, LooksUpAtMost, ReadsCells, stretches_at};
 ghost use Rattle.mdmp_lister.specs.Meter.{IsBooked};
 ghost use Rattle.mdmp_lister.specs.Counts.{AreHeld, AreOfFile, AreSpent, numbers_of};
@@ -91,7 +91,7 @@ impl<S: Store + Drop, A: Allocator + Copy> Model for Lister<S, A> {
 impl<S: Store + Drop, A: Allocator + Copy> Lister<S, A> {
     ghost use Rattle.mdmp_lister.specs.contracts.lister.Lister.{the_row};
     ghost use Rattle.mdmp_lister.specs.Check.{CheckLeaves};
-    ghost use Rattle.mdmp_lister.specs.Memory.{IsRefusalWithin, TellsMemory, opening_fault_within};
+    ghost use Rattle.mdmp_lister.specs.Memory.{IsRefusalWithin, opening_fault_within};
     ghost use Rattle.mdmp_lister.specs.Sink.{RangesFollow, RunLeaves, WorkFalls};
     ghost use Rattle.mdmp_lister.specs.Lister.{Gives, IsNewLister, IsRecordsLeft, IsRefusedIn, IsSameLister, KeepsGiven, ListerLeaves, ReadsAside, SkipsEntry, is_for_good, is_fresh};
 
@@ -118,17 +118,9 @@ impl<S: Store + Drop, A: Allocator + Copy> Lister<S, A> {
             → MatchResult result (λ _. opening_fault file choice ≡ None) (λ refused. IsRefusalOf file choice refused.fault) }
         ensures within { (file : List ℕ) → source.store.content ≡ Some file
             → MatchResult result (λ _. opening_fault_within limits file choice ≡ None) (λ refused. IsRefusalWithin limits file choice refused.fault) }
-        ensures over { IfErr result (λ refused. TellsMemory limits source refused.fault refused.source) }
-        ensures new { IfOk result (IsNewLister source choice limits) }
-        ensures handed_back { IfErr result (λ refused. IsHandedBack choice source refused.fault refused.source) }
-        ensures good { (file : List ℕ) → IsGood source.store file → IfErr result (λ refused. IsUnread refused.fault → ⊥) }
-        ensures refusal { IfErr result (λ refused. IsOpenRefusal source.size refused.fault) }
         ensures short { source.size < 32 → MatchResult result (λ _. ⊥) (λ refused. refused.fault ≡ OpenFault.TooShort source.size) }
-        ensures memory { IfErr result (λ refused. refused.fault ≡ OpenFault.Memory
-            → FetchesAtMost 32 source refused.source ⊎ ((file : List ℕ) → source.store.content ≡ Some file → opening_fault_within limits file choice ≡ None)) }
-        ensures cause { IfErr result (λ refused. IsUnreadFor refused.fault source refused.source) }
-        ensures kept { IfErr result (λ refused. KeepsToBudget limits source refused.fault refused.source) }
-        ensures next { IfErr result (λ refused. TellsNextOpening (Some choice) limits source refused.fault refused.source) }
+        ensures new { IfOk result (IsNewLister source choice limits) }
+        ensures refused { IfErr result (λ refused. IsRefusedLister choice limits source refused.fault refused.source) }
     {
         let mut walk = match Walk::open(alloc, source, limits, choice) {
             Ok(walk) => walk,

@@ -3,7 +3,6 @@ ghost use Rattle.std.specs.Prelude.{◌≡◌, ◌≤◌, ◌<◌, ◌+◌, ℕ,
 ghost use Rattle.std.specs.Borrow.{sem};
 ghost use Rattle.std.specs.Io.BufRead.{Rests};
 ghost use Rattle.mdmp_source.specs.Range.{IsInside, bytes_at};
-ghost use Rattle.mdmp_source.specs.Source.{FetchesAtMost};
 ghost use Rattle.mdmp_source.specs.Store.{IsGood, IsOfBytes, IsSizeOf};
 ghost use Rattle.mdmp_wire.specs.Header.{header_at};
 ghost use Rattle.mdmp_lister.specs.Costs.{begun_at};
@@ -14,8 +13,8 @@ ghost use Rattle.mdmp_lister.specs.Format.Listing.{entry_of, is_chosen};
 ghost use Rattle.mdmp_lister.specs.Format.Refusal.{directory_refusal};
 ghost use Rattle.mdmp_lister.specs.HeldStep.{AnswerHasItsBytes, answer_told};
 ghost use Rattle.mdmp_lister.specs.Meter.{IsBooked, counts_of};
-ghost use Rattle.mdmp_lister.specs.NextFetch.{TellsNextOpening};
-ghost use Rattle.mdmp_lister.specs.Opening.{IsBareRefusal, IsDirectoryRefusal, IsHandedBackBare, IsUnread, IsUnreadFor, KeepsToBudget};
+ghost use Rattle.mdmp_lister.specs.Opening.{IsDirectoryRefusal};
+ghost use Rattle.mdmp_lister.specs.Refused.{IsRefusedWalker};
 ghost use Rattle.mdmp_lister.specs.Stage.{StaysUnchanged, stop_after};
 ghost use Rattle.mdmp_lister.specs.Walk.{IsSound};
 ghost use Rattle.mdmp_lister.specs.Walk.Positions.{AnsweredFrom, IsPositioned, IsWalked, mark_by, position_by};
@@ -88,7 +87,7 @@ impl<S: Store + Drop, A: Allocator + Copy> Model for Walker<S, A> {
 
 impl<S: Store + Drop, A: Allocator + Copy> Walker<S, A> {
     ghost use Rattle.mdmp_lister.specs.contracts.walker.Walker.{the_row};
-    ghost use Rattle.mdmp_lister.specs.Memory.{IsWalkRefusal, TellsWalkMemory, walk_fault};
+    ghost use Rattle.mdmp_lister.specs.Memory.{IsWalkRefusal, walk_fault};
     ghost use Rattle.mdmp_lister.specs.Lister.{Gives, IsRefusedIn, KeepsGiven, ReadsAside, SkipsEntry, is_for_good};
     ghost use Rattle.mdmp_lister.specs.Walker.{CountsRecords, GivesEntry, IsNewWalker, IsSought, StepLeaves, WalkerLeaves, is_begun, is_failed, is_sought, records_answer};
 
@@ -109,16 +108,9 @@ impl<S: Store + Drop, A: Allocator + Copy> Walker<S, A> {
             → MatchResult result (λ _. directory_refusal file ≡ None) (λ refused. IsDirectoryRefusal file refused.fault) }
         ensures within { (file : List ℕ) → source.store.content ≡ Some file
             → MatchResult result (λ _. walk_fault limits file ≡ None) (λ refused. IsWalkRefusal limits file refused.fault) }
-        ensures over { IfErr result (λ refused. TellsWalkMemory limits source refused.fault refused.source) }
-        ensures new { IfOk result (IsNewWalker source choice limits) }
-        ensures handed_back { IfErr result (λ refused. IsHandedBackBare source refused.fault refused.source) }
-        ensures good { (file : List ℕ) → IsGood source.store file → IfErr result (λ refused. IsUnread refused.fault → ⊥) }
-        ensures refusal { IfErr result (λ refused. IsBareRefusal source.size refused.fault) }
         ensures short { source.size < 32 → MatchResult result (λ _. ⊥) (λ refused. refused.fault ≡ OpenFault.TooShort source.size) }
-        ensures memory { IfErr result (λ refused. refused.fault ≡ OpenFault.Memory → FetchesAtMost 32 source refused.source) }
-        ensures cause { IfErr result (λ refused. IsUnreadFor refused.fault source refused.source) }
-        ensures kept { IfErr result (λ refused. KeepsToBudget limits source refused.fault refused.source) }
-        ensures next { IfErr result (λ refused. TellsNextOpening None limits source refused.fault refused.source) }
+        ensures new { IfOk result (IsNewWalker source choice limits) }
+        ensures refused { IfErr result (λ refused. IsRefusedWalker limits source refused.fault refused.source) }
     {
         match Walk::open(alloc, source, limits, choice) {
             Ok(walk) => {

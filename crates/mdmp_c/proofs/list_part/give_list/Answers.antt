@@ -26,8 +26,8 @@ returns-in-Err c =
     Ends-refused (IsListPart c.args.form c.args.pdb c.args.skip file c.args.limits.now.name) file All (AreLimits c.args.limits.now) c.args.limits.now c.in-Some.limits c.in-Some.ensures
     (EndsText c.args.limits.now file c.args.pdb) (no_part c.args.form c.args.pdb file c.args.limits.now.name c.args.skip) (all_parts c.args.form c.args.pdb file c.args.limits.now.name c.args.skip)
     c.in-Err.refused.fault _ _ _ _ _ valid (λ told. ends_text (opening_over c.args.limits.now c.in-Some.limits file All _ _ c.in-Err.refused.fault _ c.in-Some.ensures good.known (sized file c.new-source.result good.known c.new-source.ensures.content) (search rules)
-    (least_read file All c.args.limits.now.name _) c.in-Err.ensures.kept c.in-Err.ensures.over (c.in-Err.ensures.within file good.known) told))
-    (c.in-Err.ensures.opens file good.known) (c.in-Err.ensures.within file good.known) (c.in-Err.ensures.good file good)
+    (least_read file All c.args.limits.now.name _) c.in-Err.ensures.refused.fetches.kept c.in-Err.ensures.refused.over (c.in-Err.ensures.within file good.known) told))
+    (c.in-Err.ensures.opens file good.known) (c.in-Err.ensures.within file good.known) (c.in-Err.ensures.refused.fetches.good file good)
     (c.refuse-in-Err.ensures.status ∙ ap status_of c.open_fault.ensures) c.refuse-in-Err.ensures.count
     (c.refuse-in-Err.ensures.fault ∙ c.open_fault.ensures) refl
 

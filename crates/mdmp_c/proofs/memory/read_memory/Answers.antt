@@ -23,9 +23,9 @@ returns-in-Err c =
     let valid : AreLimits c.args.limits.now = c.in-Some.ensures.valid in
     ReadsMemory-refused file c.args.limits.now c.memory_lists.result c.args.address _ _ valid c.if-out-known.false c.memory_lists.ensures c.in-Some.limits c.in-Some.ensures c.in-Err.refused.fault _ _
     (opening_over c.args.limits.now c.in-Some.limits file memory_lists _ _ c.in-Err.refused.fault _ c.in-Some.ensures good.known (sized file c.new-source.result good.known c.new-source.ensures.content) (search rules)
-    (least_read file memory_lists c.args.limits.now.name _) c.in-Err.ensures.kept c.in-Err.ensures.over
+    (least_read file memory_lists c.args.limits.now.name _) c.in-Err.ensures.refused.fetches.kept c.in-Err.ensures.refused.over
     (subst (λ (choice : Choice). IsRefusalWithin c.in-Some.limits file choice c.in-Err.refused.fault) c.memory_lists.ensures (c.in-Err.ensures.within file good.known)))
-    (c.in-Err.ensures.opens file good.known) (c.in-Err.ensures.within file good.known) (c.in-Err.ensures.good file good)
+    (c.in-Err.ensures.opens file good.known) (c.in-Err.ensures.within file good.known) (c.in-Err.ensures.refused.fetches.good file good)
     (ap status_of c.open_fault.ensures) c.open_fault.ensures
 
 pub returns-in-Err-list_ranges : goal.returns-in-Err-list_ranges

@@ -23,8 +23,8 @@ returns-in-Err c =
     let valid : AreLimits c.args.limits.now = c.in-Some.ensures.valid in
     Ends-refused (AreVerdicts file c.args.limits.now.name) file All (AreLimits c.args.limits.now) c.args.limits.now c.in-Some.limits c.in-Some.ensures (EndsChecking c.args.limits.now file) (no_verdicts file c.args.limits.now.name)
     (all_verdicts file c.args.limits.now.name) c.in-Err.refused.fault _ _ _ _ _ valid (opening_over c.args.limits.now c.in-Some.limits file All _ _ c.in-Err.refused.fault _ c.in-Some.ensures good.known (sized file c.new-source.result good.known c.new-source.ensures.content) (search rules)
-    (least_read file All c.args.limits.now.name _) c.in-Err.ensures.kept c.in-Err.ensures.over (c.in-Err.ensures.within file good.known))
-    (c.in-Err.ensures.opens file good.known) (c.in-Err.ensures.within file good.known) (c.in-Err.ensures.good file good)
+    (least_read file All c.args.limits.now.name _) c.in-Err.ensures.refused.fetches.kept c.in-Err.ensures.refused.over (c.in-Err.ensures.within file good.known))
+    (c.in-Err.ensures.opens file good.known) (c.in-Err.ensures.within file good.known) (c.in-Err.ensures.refused.fetches.good file good)
     (c.refuse-in-Err.ensures.status ∙ ap status_of c.open_fault.ensures) c.refuse-in-Err.ensures.count
     (c.refuse-in-Err.ensures.fault ∙ c.open_fault.ensures) refl
 

@@ -17,7 +17,7 @@ returns-in-Err-clause-refuses g c = λ file known.
 
 pub returns-in-Err-clause-cause : goal.returns-in-Err-clause-cause
 returns-in-Err-clause-cause g c =
-    rw c.refusal.ensures (opening-fetches _ c.in-Err.refused.fault c.args.source c.in-Err.refused.source c.in-Err.ensures.handed_back.fetches c.in-Err.ensures.cause c.in-Err.ensures.good c.in-Err.ensures.refusal)
+    rw c.refusal.ensures (opening-fetches _ c.in-Err.refused.fault c.args.source c.in-Err.refused.source c.in-Err.ensures.refused.handed_back.fetches c.in-Err.ensures.refused.fetches.cause c.in-Err.ensures.refused.fetches.good c.in-Err.ensures.refused.refusal)
 
 pub returns-in-Err-clause-short : goal.returns-in-Err-clause-short
 returns-in-Err-clause-short g c = λ few. rw c.refusal.ensures (ap (λ (fault : OpenFault). Err (refusal_of fault)) (c.in-Err.ensures.short few))
@@ -71,7 +71,7 @@ returns-in-Err-clause-tells g c =
     let fault = c.in-Err.refused.fault in
     rw c.refusal.ensures
     (tells_of {T = Unit {0}} (refusal_of fault) c.args.source c.in-Err.refused.source
-    (opening-fetches _ fault c.args.source c.in-Err.refused.source c.in-Err.ensures.handed_back.fetches c.in-Err.ensures.cause c.in-Err.ensures.good c.in-Err.ensures.refusal)
+    (opening-fetches _ fault c.args.source c.in-Err.refused.source c.in-Err.ensures.refused.handed_back.fetches c.in-Err.ensures.refused.fetches.cause c.in-Err.ensures.refused.fetches.good c.in-Err.ensures.refused.refusal)
     (λ is file known. wants_behind file c.args.choice fault (c.in-Err.ensures.opens file known) is))
 
 pub returns-in-Err-read_streams-clause-tells : goal.returns-in-Err-read_streams-clause-tells
@@ -82,7 +82,7 @@ returns-in-Err-read_streams-clause-tells g c =
 
 pub returns-in-Err-clause-limited : goal.returns-in-Err-clause-limited
 returns-in-Err-clause-limited g c =
-    rw c.refusal.ensures (opening-limited c.args.limits c.args.choice c.args.source c.in-Err.refused.fault c.in-Err.refused.source c.in-Err.ensures.over c.in-Err.ensures.within)
+    rw c.refusal.ensures (opening-limited c.args.limits c.args.choice c.args.source c.in-Err.refused.fault c.in-Err.refused.source c.in-Err.ensures.refused.over c.in-Err.ensures.within)
 
 pub returns-in-Err-read_streams-clause-limited : goal.returns-in-Err-read_streams-clause-limited
 returns-in-Err-read_streams-clause-limited g c =
@@ -94,14 +94,14 @@ returns-in-Ok-read_streams-clause-limited g c = c.in-Ok.ensures.within
 pub returns-in-Err-clause-unbudgeted : goal.returns-in-Err-clause-unbudgeted
 returns-in-Err-clause-unbudgeted g c = λ none.
     let fault = c.in-Err.refused.fault in
-    rw c.refusal.ensures (refusal-without fault (tells_none c.args.limits c.args.source fault c.in-Err.refused.source none c.in-Err.ensures.kept))
+    rw c.refusal.ensures (refusal-without fault (tells_none c.args.limits c.args.source fault c.in-Err.refused.source none c.in-Err.ensures.refused.fetches.kept))
 
 pub returns-in-Err-read_streams-clause-unbudgeted : goal.returns-in-Err-read_streams-clause-unbudgeted
 returns-in-Err-read_streams-clause-unbudgeted g c = λ none. rw (c.told_within.ensures, none) (without c.in-Err-read_streams.fault)
 
 pub returns-in-Err-clause-keeps : goal.returns-in-Err-clause-keeps
 returns-in-Err-clause-keeps g c =
-    rw c.refusal.ensures (opening_keeps c.args.limits c.args.parts c.args.source c.in-Err.refused.fault c.in-Err.refused.source c.in-Err.ensures.kept)
+    rw c.refusal.ensures (opening_keeps c.args.limits c.args.parts c.args.source c.in-Err.refused.fault c.in-Err.refused.source c.in-Err.ensures.refused.fetches.kept)
 
 pub returns-in-Ok-read_streams-clause-keeps : goal.returns-in-Ok-read_streams-clause-keeps
 returns-in-Ok-read_streams-clause-keeps g c =

@@ -1,52 +1,37 @@
-use Rattle.std.proofs.Common.{arith}
+use Rattle.std.proofs.Common.{arith, refl}
 use Rattle.mdmp_lister.specs.declared.choice.Choice.TheVariants.{Types}
 use Rattle.mdmp_dump.proofs.Refusals.{view_opens}
 use Rattle.mdmp_engines.proofs.Copying.{view_spent}
 use Rattle.mdmp_engines.proofs.copy.open_copy.Goals as goal
 
-pub returns-in_default-clause-spends : goal.returns-in_default-clause-spends
-returns-in_default-clause-spends g c =
-    let view = c.in-Ok.view in
-    let new = c.in-Ok.ensures.new in
-    view_spent view.sound c.args.source c.into_source.result (Types c.args.types) new.choice_is new.fetches new.counted (omega (arith, c.into_source.ensures.spent, new.start, new.passed, new.asked)) c.in-Ok.ensures.cost
-
-pub returns-in_default-clause-tells : goal.returns-in_default-clause-tells
-returns-in_default-clause-tells g c = record {
-  memory = λ is file known. view_opens file (Types c.args.types) c.args.limits.name (c.in-Ok.ensures.refuses file known);
-  changed = tt;
+pub returns-in_default-clause-refused : goal.returns-in_default-clause-refused
+returns-in_default-clause-refused g c = record {
+  refusal = tt;
+  good = λ file good. refl;
+  tells = record {
+    memory = λ is file known. view_opens file (Types c.args.types) c.args.limits.name (c.in-Ok.ensures.refuses file known);
+    changed = tt;
+  };
+  limited = tt;
+  over = λ file known. record { short = tt; place = tt };
 }
 
-pub returns-in_default-clause-within : goal.returns-in_default-clause-within
-returns-in_default-clause-within g c = λ most is. omega (arith, c.into_source.ensures.booked, c.in-Ok.ensures.kept most is, c.in-Ok.ensures.new.start)
+pub returns-in_default-clause-handed_back : goal.returns-in_default-clause-handed_back
+returns-in_default-clause-handed_back g c =
+    let view = c.in-Ok.view in
+    let new = c.in-Ok.ensures.new in
+    let costs = c.in-Ok.ensures.costs in
+    let left = c.into_source.ensures in
+    record {
+      cause = rw left.value (record { fetches = new.fetches; told = tt; good = λ file good. refl; refusal = tt });
+      spends = view_spent view.sound c.args.source c.into_source.result (Types c.args.types) new.choice_is new.fetches new.counted (omega (arith, left.spent, new.start, new.passed, new.asked)) costs.cost;
+      within = λ most is. omega (arith, left.booked, costs.kept most is, new.start);
+    }
 
 pub returns-in-Err : goal.returns-in-Err
 returns-in-Err g c =
     let of = c.in-Err.ensures in
-    record {
-      spends = of.spends;
-      views = λ file known. tt;
-      refuses = of.refuses;
-      cause = of.cause;
-      refusal = of.refusal;
-      short = of.short;
-      new = tt;
-      reliable = λ file good. tt;
-      buffer = tt;
-      cost = λ file known. tt;
-      held = tt;
-      needs = λ file known. tt;
-      kept = λ most is. tt;
-      within = of.within;
-      over = of.over;
-      tells = of.tells;
-      limited = of.limited;
-    }
-
-pub returns-clause-needs : goal.returns-clause-needs
-returns-clause-needs g c = c.in-Ok.ensures.needs
-
-pub returns-clause-kept : goal.returns-clause-kept
-returns-clause-kept g c = c.in-Ok.ensures.kept
+    record { views = tt; refuses = of.refuses; short = of.short; new = tt; buffer = tt; held = tt; costs = tt; refused = of.refused; handed_back = of.handed_back }
 
 pub returns-clause-views : goal.returns-clause-views
 returns-clause-views g c = c.in-Ok.ensures.views
@@ -60,8 +45,5 @@ returns-clause-short g c = c.in-Ok.ensures.short
 pub returns-clause-new : goal.returns-clause-new
 returns-clause-new g c = c.in-Ok.ensures.new
 
-pub returns-clause-reliable : goal.returns-clause-reliable
-returns-clause-reliable g c = c.in-Ok.ensures.reliable
-
-pub returns-clause-cost : goal.returns-clause-cost
-returns-clause-cost g c = c.in-Ok.ensures.cost
+pub returns-clause-costs : goal.returns-clause-costs
+returns-clause-costs g c = c.in-Ok.ensures.costs

@@ -27,7 +27,7 @@ returns-in-Err-clause-tells g c =
     let of = c.in-Err.ensures in
     let before = g.O.Printer.state c.args.out.now in
     subst (λ (f : ToolFault). Tells {T = g.row.E-Answer.Denot} directly g.E.Engine.pace c.args.source.store c.args.source.size before (Err f) before) (sym c.refused_beside.ensures)
-    (Tells-unopened g.row.E-Answer.Denot g.E.Engine.pace before c.beside-beside.result c.in-Err.refused.fault c.args.source c.in-Err.refused.source of.good of.refusal of.short of.cause)
+    (Tells-unopened g.row.E-Answer.Denot g.E.Engine.pace before c.beside-beside.result c.in-Err.refused.fault c.args.source c.in-Err.refused.source of.refused.fetches.good of.refused.refusal of.short of.refused.fetches.cause)
 
 pub returns-clause-runs : goal.returns-clause-runs
 returns-clause-runs g c = λ file known.
@@ -67,14 +67,14 @@ returns-clause-reads g c =
 
 pub returns-in-Err-clause-through : goal.returns-in-Err-clause-through
 returns-in-Err-clause-through g c =
-    let back = c.in-Err.ensures.handed_back in
+    let back = c.in-Err.ensures.refused.handed_back in
     let beside = c.beside-beside.result in
     let access : Access = record { limits = c.args.limits; choice = g.E.Engine.choice; pace = g.E.Engine.pace; held = g.E.Engine.held c.args.engine; aside = g.E.Engine.aside c.args.engine; beside = g.E.Engine.reads c.args.engine } in
     let memory = memory_opening g.row.E-Answer.Denot c.args.limits g.E.Engine.choice beside c.args.source c.in-Err.refused.fault c.in-Err.refused.source (search rules) (search rules)
-    (rw c.leave_memory.ensures at c.in-Err.ensures.over) (λ file known. rw (c.leave_memory.ensures, c.chosen.ensures) at (c.in-Err.ensures.within file known)) in
+    (rw c.leave_memory.ensures at c.in-Err.ensures.refused.over) (λ file known. rw (c.leave_memory.ensures, c.chosen.ensures) at (c.in-Err.ensures.within file known)) in
     subst (λ (f : ToolFault). IsReadThrough {T = g.row.E-Answer.Denot} access c.args.source (Err f) c.in-Err.refused.source) (sym c.refused_beside.ensures)
     (IsReadThrough.refused back.asked (early_opening g.row.E-Answer.Denot beside c.in-Err.refused.fault)
-    (over_opening g.row.E-Answer.Denot beside c.args.limits c.args.source c.in-Err.refused.fault c.in-Err.refused.source (kept_leaving beside c.args.limits c.args.source c.in-Err.refused.fault c.in-Err.refused.source (rw c.leave_memory.ensures at c.in-Err.ensures.kept))) (subst (λ (n : ℕ). HasMemoryCause {T = g.row.E-Answer.Denot} c.args.limits g.E.Engine.choice n c.args.source (Err (opening_beside beside c.in-Err.refused.fault))) c.beside-beside.ensures memory) back.bound back.inside)
+    (over_opening g.row.E-Answer.Denot beside c.args.limits c.args.source c.in-Err.refused.fault c.in-Err.refused.source (kept_leaving beside c.args.limits c.args.source c.in-Err.refused.fault c.in-Err.refused.source (rw c.leave_memory.ensures at c.in-Err.ensures.refused.fetches.kept))) (subst (λ (n : ℕ). HasMemoryCause {T = g.row.E-Answer.Denot} c.args.limits g.E.Engine.choice n c.args.source (Err (opening_beside beside c.in-Err.refused.fault))) c.beside-beside.ensures memory) back.bound back.inside)
 
 pub returns-clause-through : goal.returns-clause-through
 returns-clause-through g c =

@@ -25,10 +25,12 @@ returns-in-Ok-walk_all-clause-views g c =
     let sized = subst (λ (n : ℕ). IsSizeOf c.in-Ok.walk.source.store.content n) c.size-size.ensures.value c.size-size.ensures.content in
     let entries : c.header-entries.result.number_of_streams ≡ c.in-Ok.walk.header.number_of_streams = ap (λ (h : Header). h.number_of_streams) c.header-entries.ensures in
     let light : c.in-Ok.walk.held < 2 ^ 64 = omega (arith, c.in-Ok.ensures.opened.held, entries, c.args.limits.window_most) in
-    λ F known. (
-      viewed_lays g.row.A.Denot F c.args.limits.name c.args.choice (view_quiet g.row.A.Denot c.args.source c.args.limits.window c.args.limits.name c.args.choice c.in-Ok.walk c.walk_all.new.walk c.in-Ok-walk_all.field-0.counts.items c.in-Ok-walk_all.field-0.rooms.items c.in-Ok.ensures.opened c.in-Ok.ensures.of_file sized c.size-size.ensures.bytes of.pays of.counts.0 of.counts.1 of.goes light of.of_file of.bare F known),
-      view_of g.row.A.Denot c.args.source c.args.limits.window c.args.limits.name c.args.choice c.in-Ok.walk c.walk_all.new.walk c.in-Ok-walk_all.field-0.counts.items c.in-Ok-walk_all.field-0.rooms.items c.in-Ok.ensures.opened c.in-Ok.ensures.of_file sized c.size-size.ensures.bytes of.pays of.counts.0 of.counts.1 of.goes light of.of_file of.bare F known,
-    )
+    record {
+      lays_out = λ F known.
+          viewed_lays g.row.A.Denot F c.args.limits.name c.args.choice (view_quiet g.row.A.Denot c.args.source c.args.limits.window c.args.limits.name c.args.choice c.in-Ok.walk c.walk_all.new.walk c.in-Ok-walk_all.field-0.counts.items c.in-Ok-walk_all.field-0.rooms.items c.in-Ok.ensures.opened c.in-Ok.ensures.of_file sized c.size-size.ensures.bytes of.pays of.counts.0 of.counts.1 of.goes light of.of_file of.bare F known);
+      shows = view_of g.row.A.Denot c.args.source c.args.limits.window c.args.limits.name c.args.choice c.in-Ok.walk c.walk_all.new.walk c.in-Ok-walk_all.field-0.counts.items c.in-Ok-walk_all.field-0.rooms.items c.in-Ok.ensures.opened c.in-Ok.ensures.of_file sized c.size-size.ensures.bytes of.pays of.counts.0 of.counts.1 of.goes light of.of_file of.bare;
+      reliable = view_reliable g.row.A.Denot c.args.source c.args.limits.window c.args.limits.name c.args.choice c.in-Ok.walk c.walk_all.new.walk c.in-Ok-walk_all.field-0.counts.items c.in-Ok-walk_all.field-0.rooms.items c.in-Ok.ensures.opened c.in-Ok.ensures.of_file sized c.size-size.ensures.bytes of.pays of.counts.0 of.counts.1 of.goes light of.of_file of.bare;
+    }
 
 pub returns-in-Ok-walk_all-clause-refuses : goal.returns-in-Ok-walk_all-clause-refuses
 returns-in-Ok-walk_all-clause-refuses g c =
@@ -64,16 +66,8 @@ returns-in-Ok-walk_all-clause-new g c =
       last = refl;
     }
 
-pub returns-in-Ok-walk_all-clause-cost : goal.returns-in-Ok-walk_all-clause-cost
-returns-in-Ok-walk_all-clause-cost g c =
-    let of = c.in-Ok-walk_all.ensures in
-    let sized = subst (λ (n : ℕ). IsSizeOf c.in-Ok.walk.source.store.content n) c.size-size.ensures.value c.size-size.ensures.content in
-    let entries : c.header-entries.result.number_of_streams ≡ c.in-Ok.walk.header.number_of_streams = ap (λ (h : Header). h.number_of_streams) c.header-entries.ensures in
-    let light : c.in-Ok.walk.held < 2 ^ 64 = omega (arith, c.in-Ok.ensures.opened.held, entries, c.args.limits.window_most) in
-    view_cost g.row.A.Denot c.args.source c.args.limits.window c.args.limits.name c.args.choice c.in-Ok.walk c.walk_all.new.walk c.in-Ok-walk_all.field-0.counts.items c.in-Ok-walk_all.field-0.rooms.items c.in-Ok.ensures.opened c.in-Ok.ensures.of_file sized c.size-size.ensures.bytes of.pays of.counts.0 of.counts.1 of.goes light of.of_file of.bare
-
-pub returns-in-Ok-walk_all-clause-needs : goal.returns-in-Ok-walk_all-clause-needs
-returns-in-Ok-walk_all-clause-needs g c = λ F known.
+pub returns-in-Ok-walk_all-clause-costs : goal.returns-in-Ok-walk_all-clause-costs
+returns-in-Ok-walk_all-clause-costs g c =
     let of = c.in-Ok-walk_all.ensures in
     let sized = subst (λ (n : ℕ). IsSizeOf c.in-Ok.walk.source.store.content n) c.size-size.ensures.value c.size-size.ensures.content in
     let entries : c.header-entries.result.number_of_streams ≡ c.in-Ok.walk.header.number_of_streams = ap (λ (h : Header). h.number_of_streams) c.header-entries.ensures in
@@ -83,21 +77,15 @@ returns-in-Ok-walk_all-clause-needs g c = λ F known.
     let asks = c.in-Ok-walk_all.field-0.asks in
     let header = ap (λ (h : Header). h.number_of_streams) c.header.ensures in
     let needed : c.saturating_add.result ≡ raised (32 + 12 * v.header.number_of_streams + 3 * costs) asks = omega (arith, c.saturating_add.ensures, c.from.ensures, header) in
-    view_needs g.row.A.Denot c.args.source c.args.limits.window c.args.limits.name c.args.choice c.in-Ok.walk c.walk_all.new.walk c.in-Ok-walk_all.field-0.counts.items c.in-Ok-walk_all.field-0.rooms.items c.in-Ok.ensures.opened c.in-Ok.ensures.of_file sized c.size-size.ensures.bytes of.pays of.counts.0 of.counts.1 of.goes light of.of_file of.bare F known costs asks c.saturating_add.result of.costs.0 of.costs.1 (of.asks F (c.in-Ok.ensures.opened.fetches.fetches.same_content ∙ known)) needed
-
-pub returns-in-Ok-walk_all-clause-kept : goal.returns-in-Ok-walk_all-clause-kept
-returns-in-Ok-walk_all-clause-kept g c = λ most is.
-    subst (λ (n : ℕ). n ≤ most) c.fetched-spent.ensures.value
-    (walk_kept c.args.source c.args.limits.window c.args.choice c.in-Ok.walk c.walk_all.new.walk c.in-Ok.ensures.opened c.args.limits.budget c.in-Ok.ensures.kept c.in-Ok-walk_all.ensures.kept most is
-    c.fetched-spent.result c.fetched-spent.ensures.value (omega (arith, c.fetched-spent.type_inv)) c.fetched-spent.ensures.allowed)
-
-pub returns-in-Ok-walk_all-clause-reliable : goal.returns-in-Ok-walk_all-clause-reliable
-returns-in-Ok-walk_all-clause-reliable g c =
-    let of = c.in-Ok-walk_all.ensures in
-    let sized = subst (λ (n : ℕ). IsSizeOf c.in-Ok.walk.source.store.content n) c.size-size.ensures.value c.size-size.ensures.content in
-    let entries : c.header-entries.result.number_of_streams ≡ c.in-Ok.walk.header.number_of_streams = ap (λ (h : Header). h.number_of_streams) c.header-entries.ensures in
-    let light : c.in-Ok.walk.held < 2 ^ 64 = omega (arith, c.in-Ok.ensures.opened.held, entries, c.args.limits.window_most) in
-    view_reliable g.row.A.Denot c.args.source c.args.limits.window c.args.limits.name c.args.choice c.in-Ok.walk c.walk_all.new.walk c.in-Ok-walk_all.field-0.counts.items c.in-Ok-walk_all.field-0.rooms.items c.in-Ok.ensures.opened c.in-Ok.ensures.of_file sized c.size-size.ensures.bytes of.pays of.counts.0 of.counts.1 of.goes light of.of_file of.bare
+    record {
+      cost = view_cost g.row.A.Denot c.args.source c.args.limits.window c.args.limits.name c.args.choice c.in-Ok.walk c.walk_all.new.walk c.in-Ok-walk_all.field-0.counts.items c.in-Ok-walk_all.field-0.rooms.items c.in-Ok.ensures.opened c.in-Ok.ensures.of_file sized c.size-size.ensures.bytes of.pays of.counts.0 of.counts.1 of.goes light of.of_file of.bare;
+      needs = λ F known.
+          view_needs g.row.A.Denot c.args.source c.args.limits.window c.args.limits.name c.args.choice c.in-Ok.walk c.walk_all.new.walk c.in-Ok-walk_all.field-0.counts.items c.in-Ok-walk_all.field-0.rooms.items c.in-Ok.ensures.opened c.in-Ok.ensures.of_file sized c.size-size.ensures.bytes of.pays of.counts.0 of.counts.1 of.goes light of.of_file of.bare F known costs asks c.saturating_add.result of.costs.0 of.costs.1 (of.asks F (c.in-Ok.ensures.opened.fetches.fetches.same_content ∙ known)) needed;
+      kept = λ most is.
+          subst (λ (n : ℕ). n ≤ most) c.fetched-spent.ensures.value
+          (walk_kept c.args.source c.args.limits.window c.args.choice c.in-Ok.walk v c.in-Ok.ensures.opened c.args.limits.budget c.in-Ok.ensures.kept of.kept most is
+          c.fetched-spent.result c.fetched-spent.ensures.value (omega (arith, c.fetched-spent.type_inv)) c.fetched-spent.ensures.allowed);
+    }
 
 pub returns-in-Err-walk_all-clause-refuses : goal.returns-in-Err-walk_all-clause-refuses
 returns-in-Err-walk_all-clause-refuses g c = λ F known own.
@@ -105,45 +93,35 @@ returns-in-Err-walk_all-clause-refuses g c = λ F known own.
     run_refused c.args.source c.args.limits.window c.args.limits.name c.args.choice c.in-Ok.walk first.opened F known (first.of_file F known) c.in-Err-walk_all.fault
     (c.in-Err-walk_all.ensures.of_file F (first.opened.fetches.fetches.same_content ∙ known) own)
 
-pub returns-in-Err-walk_all-clause-refusal : goal.returns-in-Err-walk_all-clause-refusal
-returns-in-Err-walk_all-clause-refusal g c =
+pub returns-in-Err-walk_all-clause-refused : goal.returns-in-Err-walk_all-clause-refused
+returns-in-Err-walk_all-clause-refused g c =
+    let first = c.in-Ok.ensures in
     let of = c.in-Err-walk_all in
-    let cause = fetches_err {T = Unit {0}} c.args.source c.in-Ok.walk.source c.walk_all.new.walk.source c.in-Ok.ensures.opened.fetches of.fault of.ensures.fetches in
-    walk_refusal c.args.limits.budget c.args.source.size of.fault of.ensures.told cause.refusal
-
-pub returns-in-Err-walk_all-clause-tells : goal.returns-in-Err-walk_all-clause-tells
-returns-in-Err-walk_all-clause-tells g c =
-    let of = c.in-Err-walk_all in
-    tells_of {T = Unit {0}} of.fault c.args.source c.walk_all.new.walk.source
-    (fetches_err c.args.source c.in-Ok.walk.source c.walk_all.new.walk.source c.in-Ok.ensures.opened.fetches of.fault of.ensures.fetches)
-    (λ is file known. c.in-Ok.ensures.of_file file known)
-
-pub returns-in-Err-walk_all-clause-cause : goal.returns-in-Err-walk_all-clause-cause
-returns-in-Err-walk_all-clause-cause g c =
-    rw c.into_source.ensures.value
-    (fetches_err c.args.source c.in-Ok.walk.source c.walk_all.new.walk.source c.in-Ok.ensures.opened.fetches c.in-Err-walk_all.fault c.in-Err-walk_all.ensures.fetches)
-
-pub returns-in-Err-walk_all-clause-spends : goal.returns-in-Err-walk_all-clause-spends
-returns-in-Err-walk_all-clause-spends g c =
-    walk_spent c.args.source c.args.limits.window c.args.choice c.in-Ok.walk c.walk_all.new.walk c.in-Ok.ensures.opened c.in-Err-walk_all.ensures.pays
-    c.into_source.result c.into_source.ensures.booked c.fetched-fetched.ensures.allowed
-
-pub returns-in-Err-walk_all-clause-within : goal.returns-in-Err-walk_all-clause-within
-returns-in-Err-walk_all-clause-within g c = λ most is.
-    walk_within c.args.source c.args.limits.window c.args.choice c.in-Ok.walk c.walk_all.new.walk c.in-Ok.ensures.opened c.args.limits.budget c.in-Ok.ensures.kept c.in-Err-walk_all.ensures.kept most is
-    c.into_source.result c.into_source.ensures.booked c.fetched-fetched.ensures.allowed
-
-pub returns-in-Err-walk_all-clause-over : goal.returns-in-Err-walk_all-clause-over
-returns-in-Err-walk_all-clause-over g c = λ F known.
-    let first = c.in-Ok.ensures.opened in
-    let at_walk = first.fetches.fetches.same_content ∙ known in
+    let cause = fetches_err {T = Unit {0}} c.args.source c.in-Ok.walk.source c.walk_all.new.walk.source first.opened.fetches of.fault of.ensures.fetches in
     record {
-      short = walk_short c.args.source c.args.limits.window c.args.choice c.in-Ok.walk first c.args.limits.budget F known c.in-Err-walk_all.fault (c.in-Err-walk_all.ensures.over F at_walk);
-      place = walk_ends c.args.source c.args.limits.window c.args.choice c.in-Ok.walk first c.args.limits.budget F known (c.in-Ok.ensures.of_file F known) c.in-Err-walk_all.fault (c.in-Err-walk_all.ensures.place F at_walk);
+      refusal = walk_refusal c.args.limits.budget c.args.source.size of.fault of.ensures.told cause.refusal;
+      good = cause.good;
+      tells = tells_of of.fault c.args.source c.walk_all.new.walk.source cause (λ is file known. first.of_file file known);
+      limited =
+          walk_limited c.args.limits c.args.source.store.content c.args.limits.budget of.fault of.ensures.told
+          (walk_holds c.args.source c.args.limits.window c.args.choice c.in-Ok.walk first.opened c.args.limits first.memory);
+      over = λ F known.
+          let at_walk = first.opened.fetches.fetches.same_content ∙ known in
+          record {
+            short = walk_short c.args.source c.args.limits.window c.args.choice c.in-Ok.walk first.opened c.args.limits.budget F known of.fault (of.ensures.over F at_walk);
+            place = walk_ends c.args.source c.args.limits.window c.args.choice c.in-Ok.walk first.opened c.args.limits.budget F known (first.of_file F known) of.fault (of.ensures.place F at_walk);
+          };
     }
 
-pub returns-in-Err-walk_all-clause-limited : goal.returns-in-Err-walk_all-clause-limited
-returns-in-Err-walk_all-clause-limited g c =
+pub returns-in-Err-walk_all-clause-handed_back : goal.returns-in-Err-walk_all-clause-handed_back
+returns-in-Err-walk_all-clause-handed_back g c =
     let first = c.in-Ok.ensures in
-    walk_limited c.args.limits c.args.source.store.content c.args.limits.budget c.in-Err-walk_all.fault c.in-Err-walk_all.ensures.told
-    (walk_holds c.args.source c.args.limits.window c.args.choice c.in-Ok.walk first.opened c.args.limits first.memory)
+    let of = c.in-Err-walk_all in
+    let ended = c.into_source.ensures in
+    record {
+      cause = rw ended.value (fetches_err c.args.source c.in-Ok.walk.source c.walk_all.new.walk.source first.opened.fetches of.fault of.ensures.fetches);
+      spends = walk_spent c.args.source c.args.limits.window c.args.choice c.in-Ok.walk c.walk_all.new.walk first.opened of.ensures.pays c.into_source.result ended.booked c.fetched-fetched.ensures.allowed;
+      within = λ most is.
+          walk_within c.args.source c.args.limits.window c.args.choice c.in-Ok.walk c.walk_all.new.walk first.opened c.args.limits.budget first.kept of.ensures.kept most is
+          c.into_source.result ended.booked c.fetched-fetched.ensures.allowed;
+    }

@@ -1,75 +1,32 @@
-use Rattle.std.proofs.Common.{◌≡◌, ◌∙◌, ◌≤◌, ℕ, List, None, Some, Ok, Err, ap, arith, inr, refl, rules, subst, true, vec_capacity}
+use Rattle.std.proofs.Common.{◌≡◌, ◌∙◌, ◌≤◌, ℕ, List, None, Some, Result, Ok, Err, ap, arith, inl, inr, refl, rules, subst, true, vec_capacity}
 use Rattle.mdmp_wire.specs.Header.{header_at}
 use Rattle.std.proofs.lemmas.Bool.{le-ltb, lt-ltb}
-use Rattle.mdmp_source.specs.Source.{FetchesAtMost}
+use Rattle.mdmp_source.specs.Source.{SourceState, FetchesAtMost}
 use Rattle.mdmp_source.specs.SourceLaws.{fetches_then}
 use Rattle.mdmp_lister.specs.declared.choice.Choice.{Choice}
+use Rattle.mdmp_lister.specs.declared.fault.FetchFault.{FetchFault}
+use Rattle.mdmp_lister.specs.declared.fault.OpenFault.{OpenFault}
+use Rattle.mdmp_lister.specs.declared.fault.OpenFault.TheVariants.{Memory, MemoryLimit, TooManyRanges}
+use Rattle.mdmp_lister.specs.declared.limits.Limits.{Limits}
+use Rattle.mdmp_lister.specs.declared.walk.Walk.{Walk}
+use Rattle.mdmp_lister.specs.Fault.{IsCaused}
 use Rattle.mdmp_lister.specs.Format.Bounds.{held_bound}
 use Rattle.mdmp_lister.specs.Format.Numbers.{range_count}
 use Rattle.mdmp_lister.specs.Format.Refusal.{directory_refusal, most_ranges, opening_fault}
-use Rattle.mdmp_lister.specs.Memory.{is_within}
-use Rattle.mdmp_lister.specs.Opening.{IsOfHead, refusal_of_fetch}
+use Rattle.mdmp_lister.specs.Memory.{TellsMemory, is_within, opening_fault_within}
+use Rattle.mdmp_lister.specs.Meter.{IsBooked, KeepsTo, counts_of}
+use Rattle.mdmp_lister.specs.NextFetch.{TellsNextOpening}
+use Rattle.mdmp_lister.specs.Opening.{IsOfHead, IsOpenRefusal, IsOpeningOver, refusal_of_fetch, unread_of}
+use Rattle.mdmp_lister.specs.Refused.{IsRefusedLister}
 use Rattle.mdmp_lister.specs.StreamHead.{heads_ahead}
+use Rattle.mdmp_lister.specs.Walk.{CountsRanges, IsNewWalk}
 use Rattle.mdmp_lister.proofs.Budgets.{over_fetched}
 use Rattle.mdmp_lister.proofs.Advancing.{IsCaused-counted, IsHandedBack-counted, KeepsToBudget-counted}
 use Rattle.mdmp_lister.proofs.Fetches.{not_unread, unread_caused}
-use Rattle.mdmp_lister.proofs.Memory.{lister_within}
+use Rattle.mdmp_lister.proofs.Memory.{lister_within, tells_memory-fetch, tells_memory-walk}
 use Rattle.mdmp_lister.proofs.Openings.{heads-next, next-counted}
 use Rattle.mdmp_lister.proofs.Refusals.{IsHandedBack_bare, not_of_head, not_of_memory, open_refusal, refusal_of-directory, refusal_of_fetch-any, refusal_of_fetch-caused, refusal_of_fetch-long}
 use Rattle.mdmp_lister.proofs.lister.Lister.open.Goals as goal
-
-pub returns-in-Err-count_ranges-clause-handed_back : goal.returns-in-Err-count_ranges-clause-handed_back
-returns-in-Err-count_ranges-clause-handed_back g c =
-    rw c.refused.ensures.made
-    (IsHandedBack-counted c.args.source c.args.choice c.args.limits c.in-Ok.walk c.count_ranges.new.self c.count_ranges.result _ c.in-Ok.ensures.new c.count_ranges.ensures (λ of. not_of_head _ (subst IsOfHead c.from.ensures of)))
-
-pub returns-in-Err-count_ranges-clause-kept : goal.returns-in-Err-count_ranges-clause-kept
-returns-in-Err-count_ranges-clause-kept g c =
-    let refused = c.refused.ensures in
-    let fault = c.in-Err-count_ranges.fault in
-    let counts = c.in-Err-count_ranges.ensures in
-    rw (refused.made, c.from.ensures)
-    (KeepsToBudget-counted c.args.source c.args.choice c.args.limits c.in-Ok.walk c.count_ranges.new.self (Err fault) c.in-Ok.ensures.new counts refused.booked refused.kept (refusal_of_fetch fault)
-    (over_fetched 16 fault c.count_ranges.new.self.meter counts.refused))
-
-pub returns-in-Err-clause-next : goal.returns-in-Err-clause-next
-returns-in-Err-clause-next g c = next-counted c.args.limits c.args.source (Some c.args.choice) c.in-Err.refused.fault c.in-Err.refused.source c.in-Err.ensures.next
-
-pub returns-in-Err-count_ranges-clause-next : goal.returns-in-Err-count_ranges-clause-next
-returns-in-Err-count_ranges-clause-next g c =
-    let refused = c.refused.ensures in
-    rw (refused.made, c.from.ensures)
-    (heads-next c.args.source c.args.choice c.args.limits c.in-Ok.walk c.count_ranges.new.self c.in-Err-count_ranges.fault c.in-Ok.ensures.new c.in-Err-count_ranges.ensures refused.booked refused.kept)
-
-pub returns-then-count-gt-MOST_RANGES-clause-kept : goal.returns-then-count-gt-MOST_RANGES-clause-kept
-returns-then-count-gt-MOST_RANGES-clause-kept g c =
-    let refused = c.refused-then-count-gt-MOST_RANGES.ensures in
-    rw refused.made (KeepsToBudget-counted c.args.source c.args.choice c.args.limits c.in-Ok.walk c.count_ranges.new.self c.count_ranges.result c.in-Ok.ensures.new c.count_ranges.ensures refused.booked refused.kept _ tt)
-
-pub returns-then-not-holds-clause-kept : goal.returns-then-not-holds-clause-kept
-returns-then-not-holds-clause-kept g c =
-    let refused = c.refused-then-not-holds.ensures in
-    rw refused.made (KeepsToBudget-counted c.args.source c.args.choice c.args.limits c.in-Ok.walk c.count_ranges.new.self c.count_ranges.result c.in-Ok.ensures.new c.count_ranges.ensures refused.booked refused.kept _ tt)
-
-pub returns-in-Err-with_room-clause-kept : goal.returns-in-Err-with_room-clause-kept
-returns-in-Err-with_room-clause-kept g c =
-    let refused = c.refused-in-Err-with_room.ensures in
-    rw refused.made (KeepsToBudget-counted c.args.source c.args.choice c.args.limits c.in-Ok.walk c.count_ranges.new.self c.count_ranges.result c.in-Ok.ensures.new c.count_ranges.ensures refused.booked refused.kept _ tt)
-
-pub returns-then-count-gt-MOST_RANGES-clause-handed_back : goal.returns-then-count-gt-MOST_RANGES-clause-handed_back
-returns-then-count-gt-MOST_RANGES-clause-handed_back g c =
-    rw c.refused-then-count-gt-MOST_RANGES.ensures.made
-    (IsHandedBack-counted c.args.source c.args.choice c.args.limits c.in-Ok.walk c.count_ranges.new.self c.count_ranges.result _ c.in-Ok.ensures.new c.count_ranges.ensures (λ of. of))
-
-pub returns-then-not-holds-clause-handed_back : goal.returns-then-not-holds-clause-handed_back
-returns-then-not-holds-clause-handed_back g c =
-    rw c.refused-then-not-holds.ensures.made
-    (IsHandedBack-counted c.args.source c.args.choice c.args.limits c.in-Ok.walk c.count_ranges.new.self c.count_ranges.result _ c.in-Ok.ensures.new c.count_ranges.ensures (λ of. of))
-
-pub returns-in-Err-with_room-clause-handed_back : goal.returns-in-Err-with_room-clause-handed_back
-returns-in-Err-with_room-clause-handed_back g c =
-    rw c.refused-in-Err-with_room.ensures.made
-    (IsHandedBack-counted c.args.source c.args.choice c.args.limits c.in-Ok.walk c.count_ranges.new.self c.count_ranges.result _ c.in-Ok.ensures.new c.count_ranges.ensures (λ of. of))
 
 -- a file whose header and directory have no fault, and whose chosen lists have so many ranges, may be opened
 few_ranges : (file : List ℕ) (choice : Choice) (count : ℕ) → directory_refusal file ≡ None → count ≡ range_count file choice → count ≤ most_ranges → opening_fault file choice ≡ None
@@ -86,18 +43,6 @@ pub returns-in-Ok-with_room-clause-opens : goal.returns-in-Ok-with_room-clause-o
 returns-in-Ok-with_room-clause-opens g c = λ file known.
     let new = c.in-Ok.ensures.new in
     few_ranges file c.args.choice c.in-Ok-count_ranges.count (new.reads.opens file known) (c.in-Ok-count_ranges.ensures.count file (new.spends.fetches.same_content ∙ known) ∙ ap (range_count file) new.choice_is) (omega arith)
-
-pub returns-in-Err-with_room-clause-memory : goal.returns-in-Err-with_room-clause-memory
-returns-in-Err-with_room-clause-memory g c = λ memory.
-    let new = c.in-Ok.ensures.new in
-    let counts = c.in-Ok-count_ranges.ensures in
-    let room = counts.same.room in
-    let count = c.in-Ok-count_ranges.count in
-    inr (λ file known.
-    let counted : count ≡ range_count file c.args.choice = counts.count file (new.spends.fetches.same_content ∙ known) ∙ ap (range_count file) new.choice_is in
-    let header : c.count_ranges.new.self.header ≡ header_at file 0 = counts.sound.header_is file (counts.books.fetches.same_content ∙ new.spends.fetches.same_content ∙ known) in
-    let holds : is_within c.args.limits.memory (held_bound c.args.limits.window c.args.limits.name c.count_ranges.new.self.header.number_of_streams count) ≡ true = search rules in
-    lister_within c.args.limits file c.args.choice c.count_ranges.new.self.header count (c.in-Ok.ensures.within file known) header counted (omega arith) holds)
 
 pub returns-in-Ok-with_room-clause-new : goal.returns-in-Ok-with_room-clause-new
 returns-in-Ok-with_room-clause-new g c =
@@ -146,42 +91,95 @@ returns-in-Ok-with_room-clause-new g c =
 pub returns-in-Err-clause-opens : goal.returns-in-Err-clause-opens
 returns-in-Err-clause-opens g c = λ file known. refusal_of-directory file c.args.choice c.args.source.size c.in-Err.refused.fault c.in-Err.ensures.refused.refusal (c.in-Err.ensures.refused.opens file known)
 
-pub returns-in-Err-clause-handed_back : goal.returns-in-Err-clause-handed_back
-returns-in-Err-clause-handed_back g c = IsHandedBack_bare c.args.choice c.args.source c.in-Err.refused.fault c.in-Err.refused.source c.in-Err.ensures.refused.handed_back
-
-pub returns-in-Err-clause-refusal : goal.returns-in-Err-clause-refusal
-returns-in-Err-clause-refusal g c = open_refusal c.args.source.size c.in-Err.refused.fault c.in-Err.ensures.refused.refusal
-
 pub returns-in-Err-count_ranges-clause-opens : goal.returns-in-Err-count_ranges-clause-opens
 returns-in-Err-count_ranges-clause-opens g c = λ file known. rw (c.refused.ensures.made, c.from.ensures) (refusal_of_fetch-any file c.args.choice c.in-Err-count_ranges.fault)
-
-pub returns-in-Err-count_ranges-clause-good : goal.returns-in-Err-count_ranges-clause-good
-returns-in-Err-count_ranges-clause-good g c =
-    let fault = c.in-Err-count_ranges.fault in
-    let caused = refusal_of_fetch-caused fault c.args.source c.count_ranges.new.self.meter.source
-    (IsCaused-counted c.args.source c.args.choice c.args.limits c.in-Ok.walk c.count_ranges.new.self (Err fault) c.in-Ok.ensures.new c.in-Err-count_ranges.ensures) in
-    rw (c.refused.ensures.made, c.from.ensures) (λ file good. not_unread (refusal_of_fetch fault) (caused.good file good))
-
-pub returns-in-Err-count_ranges-clause-refusal : goal.returns-in-Err-count_ranges-clause-refusal
-returns-in-Err-count_ranges-clause-refusal g c = rw (c.refused.ensures.made, c.from.ensures) (refusal_of_fetch-long c.args.source.size c.in-Err-count_ranges.fault c.in-Ok.ensures.new.reads.long)
-
-pub returns-in-Err-count_ranges-clause-memory : goal.returns-in-Err-count_ranges-clause-memory
-returns-in-Err-count_ranges-clause-memory g c = rw (c.refused.ensures.made, c.from.ensures) (λ memory. absurd (not_of_memory c.in-Err-count_ranges.fault memory))
-
-pub returns-in-Err-count_ranges-clause-cause : goal.returns-in-Err-count_ranges-clause-cause
-returns-in-Err-count_ranges-clause-cause g c =
-    let fault = c.in-Err-count_ranges.fault in
-    let caused = refusal_of_fetch-caused fault c.args.source c.count_ranges.new.self.meter.source
-    (IsCaused-counted c.args.source c.args.choice c.args.limits c.in-Ok.walk c.count_ranges.new.self (Err fault) c.in-Ok.ensures.new c.in-Err-count_ranges.ensures) in
-    rw (c.refused.ensures.made, c.from.ensures) (unread_caused (refusal_of_fetch fault) c.args.source c.count_ranges.new.self.meter.source caused)
-
-pub returns-then-count-gt-MOST_RANGES-clause-cause : goal.returns-then-count-gt-MOST_RANGES-clause-cause
-returns-then-count-gt-MOST_RANGES-clause-cause g c =
-    rw c.refused-then-count-gt-MOST_RANGES.ensures.made (IsCaused-counted c.args.source c.args.choice c.args.limits c.in-Ok.walk c.count_ranges.new.self (Ok c.in-Ok-count_ranges.count) c.in-Ok.ensures.new c.in-Ok-count_ranges.ensures).once
 
 pub returns-in-Err-with_room-clause-opens : goal.returns-in-Err-with_room-clause-opens
 returns-in-Err-with_room-clause-opens g c = λ file known. rw c.refused-in-Err-with_room.ensures.made (c.in-Ok.ensures.new.reads.opens file known)
 
-pub returns-in-Err-with_room-clause-cause : goal.returns-in-Err-with_room-clause-cause
-returns-in-Err-with_room-clause-cause g c =
-    rw c.refused-in-Err-with_room.ensures.made (IsCaused-counted c.args.source c.args.choice c.args.limits c.in-Ok.walk c.count_ranges.new.self (Ok c.in-Ok-count_ranges.count) c.in-Ok.ensures.new c.in-Ok-count_ranges.ensures).once
+-- ---- a refusal
+
+module _ {S A : Type 0} (source : SourceState) (choice : Choice) (limits : Limits) (w n : Walk S A) where
+  -- a lister is refused behind the heads: for bytes of them that were not obtained, or for what they count
+  refused_behind : (result : Result ℕ FetchFault) → IsNewWalk source choice limits w → CountsRanges w result n → IsBooked n.meter.source (counts_of n.meter) → KeepsTo n.meter.budget n.meter.fetched
+      → (fault : OpenFault) → (IsOfHead fault → ⊥) → IsOpenRefusal source.size fault
+      → (fault ≡ Memory → (file : List ℕ) → source.store.content ≡ Some file → opening_fault_within limits file choice ≡ None)
+      → TellsMemory limits source fault n.meter.source → IsCaused (unread_of fault) source n.meter.source
+      → IsOpeningOver 16 fault n.meter → TellsNextOpening (Some choice) limits source fault n.meter.source
+      → IsRefusedLister choice limits source fault n.meter.source
+  refused_behind result new counts booked kept fault late refusal memory over caused passed next = record {
+    refusal = refusal;
+    memory = λ same. inr (memory same);
+    over = over;
+    handed_back = IsHandedBack-counted source choice limits w n result fault new counts late;
+    fetches = record {
+      cause = unread_caused fault source n.meter.source caused;
+      good = λ file good. not_unread fault (caused.good file good);
+      kept = KeepsToBudget-counted source choice limits w n result new counts booked kept fault passed;
+      next = next;
+    };
+  }
+
+pub returns-in-Err-clause-refused : goal.returns-in-Err-clause-refused
+returns-in-Err-clause-refused g c =
+    let fault = c.in-Err.refused.fault in
+    let left = c.in-Err.refused.source in
+    let of = c.in-Err.ensures in
+    record {
+      refusal = open_refusal c.args.source.size fault of.refused.refusal;
+      memory = λ same. inl (of.refused.memory same);
+      over = tells_memory-walk c.args.limits c.args.source left fault of.over;
+      handed_back = IsHandedBack_bare c.args.choice c.args.source fault left of.refused.handed_back;
+      fetches = record { cause = of.refused.cause; good = of.refused.good; kept = of.kept; next = next-counted c.args.limits c.args.source (Some c.args.choice) fault left of.next };
+    }
+
+pub returns-in-Err-count_ranges-clause-refused : goal.returns-in-Err-count_ranges-clause-refused
+returns-in-Err-count_ranges-clause-refused g c =
+    let new = c.in-Ok.ensures.new in
+    let n = c.count_ranges.new.self in
+    let fault = c.in-Err-count_ranges.fault in
+    let counts = c.in-Err-count_ranges.ensures in
+    let refused = c.refused.ensures in
+    rw (refused.made, c.from.ensures)
+    (refused_behind c.args.source c.args.choice c.args.limits c.in-Ok.walk n (Err fault) new counts refused.booked refused.kept (refusal_of_fetch fault)
+    (not_of_head fault) (refusal_of_fetch-long c.args.source.size fault new.reads.long) (λ memory. absurd (not_of_memory fault memory)) (tells_memory-fetch c.args.limits c.args.source n.meter.source fault)
+    (refusal_of_fetch-caused fault c.args.source n.meter.source (IsCaused-counted c.args.source c.args.choice c.args.limits c.in-Ok.walk n (Err fault) new counts))
+    (over_fetched 16 fault n.meter counts.refused) (heads-next c.args.source c.args.choice c.args.limits c.in-Ok.walk n fault new counts refused.booked refused.kept))
+
+pub returns-then-count-gt-MOST_RANGES-clause-refused : goal.returns-then-count-gt-MOST_RANGES-clause-refused
+returns-then-count-gt-MOST_RANGES-clause-refused g c =
+    let new = c.in-Ok.ensures.new in
+    let counts = c.in-Ok-count_ranges.ensures in
+    let count = c.in-Ok-count_ranges.count in
+    let refused = c.refused-then-count-gt-MOST_RANGES.ensures in
+    rw refused.made
+    (refused_behind c.args.source c.args.choice c.args.limits c.in-Ok.walk c.count_ranges.new.self (Ok count) new counts refused.booked refused.kept (TooManyRanges count)
+    (λ of. of) (new.reads.long, omega arith) (λ same. cc) tt (IsCaused-counted c.args.source c.args.choice c.args.limits c.in-Ok.walk c.count_ranges.new.self (Ok count) new counts) tt tt)
+
+pub returns-then-not-holds-clause-refused : goal.returns-then-not-holds-clause-refused
+returns-then-not-holds-clause-refused g c =
+    let new = c.in-Ok.ensures.new in
+    let counts = c.in-Ok-count_ranges.ensures in
+    let count = c.in-Ok-count_ranges.count in
+    let held = c.held-held.result in
+    let refused = c.refused-then-not-holds.ensures in
+    rw refused.made
+    (refused_behind c.args.source c.args.choice c.args.limits c.in-Ok.walk c.count_ranges.new.self (Ok count) new counts refused.booked refused.kept (MemoryLimit held)
+    (λ of. of) new.reads.long (λ same. cc) (search rules) (IsCaused-counted c.args.source c.args.choice c.args.limits c.in-Ok.walk c.count_ranges.new.self (Ok count) new counts) tt tt)
+
+pub returns-in-Err-with_room-clause-refused : goal.returns-in-Err-with_room-clause-refused
+returns-in-Err-with_room-clause-refused g c =
+    let new = c.in-Ok.ensures.new in
+    let n = c.count_ranges.new.self in
+    let counts = c.in-Ok-count_ranges.ensures in
+    let count = c.in-Ok-count_ranges.count in
+    let refused = c.refused-in-Err-with_room.ensures in
+    rw refused.made
+    (refused_behind c.args.source c.args.choice c.args.limits c.in-Ok.walk n (Ok count) new counts refused.booked refused.kept Memory
+    (λ of. of) new.reads.long
+    (λ same file known.
+    let counted : count ≡ range_count file c.args.choice = counts.count file (new.spends.fetches.same_content ∙ known) ∙ ap (range_count file) new.choice_is in
+    let header : n.header ≡ header_at file 0 = counts.sound.header_is file (counts.books.fetches.same_content ∙ new.spends.fetches.same_content ∙ known) in
+    let holds : is_within c.args.limits.memory (held_bound c.args.limits.window c.args.limits.name n.header.number_of_streams count) ≡ true = search rules in
+    lister_within c.args.limits file c.args.choice n.header count (c.in-Ok.ensures.within file known) header counted (omega arith) holds)
+    tt (IsCaused-counted c.args.source c.args.choice c.args.limits c.in-Ok.walk n (Ok count) new counts) tt tt)

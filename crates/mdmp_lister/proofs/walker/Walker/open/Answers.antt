@@ -29,3 +29,14 @@ returns-in-Ok-clause-new g c =
       position = refl;
       unbegun = entry_cost-unused _ _ new.current_is;
     }
+
+pub returns-in-Err-clause-refused : goal.returns-in-Err-clause-refused
+returns-in-Err-clause-refused g c =
+    let of = c.in-Err.ensures in
+    record {
+      refusal = of.refused.refusal;
+      memory = of.refused.memory;
+      over = of.over;
+      handed_back = of.refused.handed_back;
+      fetches = record { cause = of.refused.cause; good = of.refused.good; kept = of.kept; next = of.next };
+    }
