@@ -19,7 +19,7 @@ abbrev pub with_pending : BlockState → List ℕ → BlockState
 with_pending block text = record block { pending = block.pending ++ text }
 
 -- as long as the block has room for a line, what is printed goes into the block, and nothing is asked of the inner output
-abbrev pub FillsBlock : {E : Type 0} → BlockState → List ℕ → Result 𝟙 E → BlockState → Type 0
+abbrev pub FillsBlock : {E : Type 0} → BlockState → List ℕ → Result (Unit {0}) E → BlockState → Type 0
 FillsBlock old text result new = length old.pending + LINE_ROOM ≤ old.room → (result ≡ Ok tt) × (new ≡ with_pending old text)
 
 -- bytes moved from the front of what was pending to the inner output

@@ -3,6 +3,6 @@ use Rattle.std.proofs.lemmas.Result.{MatchResult-from_err}
 use Rattle.mdmp_source.specs.OutputLaws.{PutsPrefix-front}
 use Rattle.mdmp_print.proofs.line_out.LineOutPrinter.print.Goals as goal
 
-pub returns-in_err-reserve : goal.returns-in_err-reserve
-returns-in_err-reserve g c =
+pub returns-in_err-reserve-clause-puts : goal.returns-in_err-reserve-clause-puts
+returns-in_err-reserve-clause-puts g c =
     MatchResult-from_err _ _ _ c.from_residual.ensures.0 (λ _. PutsPrefix-front _ _ [] (g.P.Piece.text c.args.piece.now) c.in_err-reserve.ensures.nothing)
