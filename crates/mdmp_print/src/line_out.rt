@@ -121,6 +121,7 @@ impl<'b, O: Out> Printer for LineOut<'b, O> {
 
     #[inline(always)]
     fn print<P: Piece>(&mut self, piece: &P) -> Result<(), OutFailed>
+        requires { P.most ≤ LINE_ROOM }
         ensures puts { Puts result (output_state self.old) (P.text piece.now) (output_state self.new) }
         // What this output says beside any other.
         ensures fills { FillsBlock self.old (P.text piece.now) result self.new }
