@@ -2,7 +2,6 @@
 //!
 //! No function that a test calls here has a contract, so that the test knows nothing of what it did, and its own
 //! proof stays short. Each ends the test by itself where memory runs out.
-ghost use Rattle.mdmp_words.specs.Invocations.{IsPrintable};
 
 use crate::files::{SmallFile, bytes_of, remove_file};
 use crate::same::assert_same_at;
@@ -10,8 +9,8 @@ use mdmp_disk::{Disk, GivenFile, MemoryDisk};
 use mdmp_source::{PatchyOut, PatchyStore, Source};
 use mdmp_test_support::{FOR_LONG_TEXT, HeapCounts, MEMORY64, MeteredHeap, Refusal, Room, SYSTEM};
 use mdmp_tool::{
-    LINE_ROOM, Limits, LineForm, LineOut, Print, Span, TypeSet, copy_and_report, print_and_report,
-    run_args, run_on_disk, run_words,
+    CheckEngine, Engine, HexEngine, LINE_ROOM, Limits, LineForm, LineOut, ListEngine, TypeSet,
+    copy_and_report, print_and_report, run_args, run_on_disk, run_words,
 };
 use std::alloc::{AllocGlobal, Global};
 use std::fmt::Debug;
@@ -141,36 +140,76 @@ pub struct Ran {
     pub disk_heap: HeapCounts,
 }
 
-fn print_of(shown: Shown) -> Print
-    ensures { IsPrintable result }
+/// The status of an engine that prints, in the smallest blocks.
+fn engine_status<E: Engine>(
+    rt: &impl Abort,
+    alloc: Global,
+    heap: &MeteredHeap<Global>,
+    engine: E,
+    store: PatchyStore<'_>,
+    limits: Limits,
+    out: &mut PatchyOut<Global>,
+    err: &mut PatchyOut<Global>,
+) -> u8
+    requires { E.can_print engine }
 {
-    match shown {
-        Shown::Verdicts => Print::Check {
-            form: LineForm::Text,
-        },
-        Shown::Items => Print::List {
-            form: LineForm::Text,
-            pdb: false,
-        },
-        Shown::ItemsAndSymbols => Print::List {
-            form: LineForm::Text,
-            pdb: true,
-        },
-        Shown::VerdictObjects => Print::Check {
-            form: LineForm::Json,
-        },
-        Shown::Objects => Print::List {
-            form: LineForm::Json,
-            pdb: true,
-        },
-        Shown::Memory => Print::Hex(Span {
-            address: 16,
-            length: 2,
-        }),
-    }
+    let mut buffer = vec![in alloc; 0; LINE_ROOM].expect(rt, "memory for a block");
+    let mut blocks = LineOut::over(&mut buffer, out);
+    let source = Source::new(store);
+    print_and_report(engine, heap, source, limits, &mut blocks, err).answer
 }
 
-/// The status of a command that prints, in the smallest blocks.
+/// The status of a check whose lines have this form.
+fn check_status(
+    rt: &impl Abort,
+    alloc: Global,
+    heap: &MeteredHeap<Global>,
+    form: LineForm,
+    store: PatchyStore<'_>,
+    limits: Limits,
+    out: &mut PatchyOut<Global>,
+    err: &mut PatchyOut<Global>,
+) -> u8 {
+    let engine = CheckEngine { form };
+    engine_status(rt, alloc, heap, engine, store, limits, out, err)
+}
+
+/// The status of a list whose lines have this form.
+fn list_status(
+    rt: &impl Abort,
+    alloc: Global,
+    heap: &MeteredHeap<Global>,
+    form: LineForm,
+    pdb: bool,
+    store: PatchyStore<'_>,
+    limits: Limits,
+    out: &mut PatchyOut<Global>,
+    err: &mut PatchyOut<Global>,
+) -> u8 {
+    let aside = limits.aside;
+    let engine = ListEngine { form, pdb, aside };
+    engine_status(rt, alloc, heap, engine, store, limits, out, err)
+}
+
+/// The status of a command that prints two bytes from the address 16 on.
+fn hex_status(
+    rt: &impl Abort,
+    alloc: Global,
+    heap: &MeteredHeap<Global>,
+    store: PatchyStore<'_>,
+    limits: Limits,
+    out: &mut PatchyOut<Global>,
+    err: &mut PatchyOut<Global>,
+) -> u8 {
+    let engine = HexEngine {
+        alloc: heap,
+        address: 16,
+        length: 2,
+    };
+    engine_status(rt, alloc, heap, engine, store, limits, out, err)
+}
+
+/// The status of a command that prints.
 fn print_status(
     rt: &impl Abort,
     alloc: Global,
@@ -181,10 +220,17 @@ fn print_status(
     out: &mut PatchyOut<Global>,
     err: &mut PatchyOut<Global>,
 ) -> u8 {
-    let mut buffer = vec![in alloc; 0; LINE_ROOM].expect(rt, "memory for a block");
-    let mut blocks = LineOut::over(&mut buffer, out);
-    let source = Source::new(store);
-    print_and_report(heap, print_of(shown), source, limits, &mut blocks, err).answer
+    let (text, json) = (LineForm::Text, LineForm::Json);
+    match shown {
+        Shown::Verdicts => check_status(rt, alloc, heap, text, store, limits, out, err),
+        Shown::Items => list_status(rt, alloc, heap, text, false, store, limits, out, err),
+        Shown::ItemsAndSymbols => {
+            list_status(rt, alloc, heap, text, true, store, limits, out, err)
+        }
+        Shown::VerdictObjects => check_status(rt, alloc, heap, json, store, limits, out, err),
+        Shown::Objects => list_status(rt, alloc, heap, json, true, store, limits, out, err),
+        Shown::Memory => hex_status(rt, alloc, heap, store, limits, out, err),
+    }
 }
 
 /// The status of a copy.

@@ -1,7 +1,7 @@
 //! What the words of a command line ask for.
 use crate::same::assert_same_at;
 use mdmp_lister::{Limits, TypeSet};
-use mdmp_words::{Command, Invocation, LineForm, Print, invocation_of};
+use mdmp_words::{Command, Invocation, LineForm, invocation_of};
 use std::alloc::Global;
 use std::process::Abort;
 
@@ -22,19 +22,20 @@ fn form_words(form: LineForm) -> &'static str {
     }
 }
 
-/// What is to be printed, as a text, with the name in brackets.
-fn print_text(rt: &impl Abort, alloc: Global, file: &str, print: Print) -> String {
-    let text = match print {
-        Print::Check { form } => {
-            let form = form_words(form);
+/// What is to be done, as a text, with the names in brackets.
+fn command_text(rt: &impl Abort, alloc: Global, file: &str, command: &Command<'_>) -> String {
+    let text = match command {
+        Command::Check { form } => {
+            let form = form_words(*form);
             format!(in alloc; "check [{file}]{form}")
         }
-        Print::List { form, pdb } => {
-            let form = form_words(form);
-            let symbols = if pdb { " pdb" } else { "" };
+        Command::List { form, pdb } => {
+            let form = form_words(*form);
+            let symbols = if *pdb { " pdb" } else { "" };
             format!(in alloc; "list [{file}]{form}{symbols}")
         }
-        Print::Hex(span) => { format!(in alloc; "hex [{file}] {} {}", span.address, span.length) }
+        Command::Hex(span) => { format!(in alloc; "hex [{file}] {} {}", span.address, span.length) }
+        Command::Copy { target, types } => return copy_text(rt, alloc, file, *target, types),
     };
     text.expect(rt, "memory for a text")
 }
@@ -48,10 +49,7 @@ fn text_of(
     limits: Limits,
     command: &Command<'_>,
 ) -> String {
-    let command = match command {
-        Command::Print(print) => print_text(rt, alloc, file, *print),
-        Command::Copy { target, types } => copy_text(rt, alloc, file, *target, types),
-    };
+    let command = command_text(rt, alloc, file, command);
     let text = format!(in alloc;
         "{command} within {} {} {:?} {:?} {:?}",
         limits.window, limits.name, limits.budget, limits.memory, limits.aside

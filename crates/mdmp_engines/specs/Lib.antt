@@ -6,6 +6,7 @@ pub mod Engines
 pub mod Faults
 pub mod HexRuns
 pub mod JsonLaws
+pub mod Reports
 pub mod Runs
 pub mod Symbols
 pub mod Telling

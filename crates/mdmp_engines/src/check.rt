@@ -10,6 +10,7 @@ ghost use Rattle.mdmp_engines.specs.Engines.{IsOpened, IsSameRun, IsReadThrough,
 use crate::engine::{Engine, run, run_source};
 use crate::fault::{ToolFault, told_list};
 use crate::outcome::Outcome;
+use crate::report::report_check;
 use mdmp_lister::{Choice, Limits, Lister, RunFault, Stopped, Verdict, VerdictSink};
 use mdmp_print::{LineForm, Printer, print_verdict};
 use mdmp_source::{Out, OutFailed, Source, Store};
@@ -39,7 +40,7 @@ pub fn run_check<S: Store + Drop, A: Allocator + Copy, O: Out>(
 }
 
 /// Does what `run_check` does, and hands the source back, whose counts tell the cause of its faults.
-pub fn check_source<S: Store + Drop, A: Allocator + Copy, O: Out>(
+pub fn check_source<S: Store + Drop, A: Allocator + Copy, O: Printer>(
     alloc: A,
     source: Source<S>,
     limits: Limits,
@@ -56,7 +57,7 @@ pub fn check_source<S: Store + Drop, A: Allocator + Copy, O: Out>(
 
 /// The engine of `check`, which prints the line of an entry as it was read.
 #[derive(Clone, Copy)]
-pub(crate) struct CheckEngine {
+pub struct CheckEngine {
     /// How the lines are printed.
     pub form: LineForm,
 }
@@ -67,6 +68,7 @@ impl Engine for CheckEngine {
     ghost use Rattle.mdmp_engines.specs.CheckRuns.{CheckEnds};
     ghost use Rattle.mdmp_engines.specs.CheckText.{verdict_lines};
     ghost use Rattle.mdmp_engines.specs.Engines.{at_most, past_faults};
+    ghost use Rattle.mdmp_engines.specs.Reports.{IsCheckEnd};
 
     type Answer = u64;
 
@@ -86,6 +88,8 @@ impl Engine for CheckEngine {
 
     ghost text = { λ e file limit. verdict_lines e.form (verdicts file All limit) };
 
+    ghost IsReported = { IsCheckEnd };
+
     fn chosen(&self) -> Choice {
         Choice::All
     }
@@ -96,17 +100,19 @@ impl Engine for CheckEngine {
 
     fn print<S: Store + Drop, A: Allocator + Copy, O: Printer>(
         &self,
-        alloc: A,
         lister: &mut Lister<S, A>,
         out: &mut O,
     ) -> Result<u64, ToolFault> {
-        let _ = alloc;
         let mut lines = VerdictLines {
             out,
             form: self.form,
             bad: 0,
         };
         check_listed(lister, &mut lines)
+    }
+
+    fn report<W: Out>(answer: Result<u64, ToolFault>, err: &mut W) -> u8 {
+        report_check(answer, err)
     }
 }
 

@@ -13,9 +13,10 @@ use mdmp_print::{LineOut, Printer};
 use mdmp_source::{Out, OutFailed, Source, Store};
 use std::alloc::Allocator;
 
-/// A command over the listing of a file.
-pub(crate) trait Engine: Copy {
+/// A command over the listing of a file: which streams it lists, and what it prints of them.
+pub trait Engine: Copy {
     ghost use Rattle.std.specs.Prelude.{◌≡◌, ℕ, List, Option, Some, Result};
+    ghost use Rattle.mdmp_source.specs.Output.{OutState};
     ghost use Rattle.mdmp_lister.specs.declared.choice.Choice.{Choice};
     ghost use Rattle.mdmp_engines.specs.declared.fault.ToolFault.{ToolFault};
     ghost use Rattle.mdmp_engines.specs.Causes.{HasBudgetCause, IsWithinMemory, KeepsAside};
@@ -48,6 +49,9 @@ pub(crate) trait Engine: Copy {
     // All that it prints of such a file.
     ghost text: { Self → List ℕ → ℕ → List ℕ };
 
+    // How its answer is reported.
+    ghost IsReported: { Result Self.Answer ToolFault → ℕ → OutState → OutState → Type 0 };
+
     /// The streams that are listed.
     fn chosen(&self) -> Choice
         ensures { result ≡ choice };
@@ -59,7 +63,6 @@ pub(crate) trait Engine: Copy {
     /// Prints what there is to print of a file that was opened.
     fn print<S: Store + Drop, A: Allocator + Copy, O: Printer>(
         &self,
-        alloc: A,
         lister: &mut Lister<S, A>,
         out: &mut O,
     ) -> Result<Self::Answer, ToolFault>
@@ -74,6 +77,10 @@ pub(crate) trait Engine: Copy {
         ensures aside { KeepsAside (aside self.now) result lister.new }
         ensures read { KeepsReads (reads self.now) pace lister.new }
         ensures within { IsWithinMemory result };
+
+    /// Reports its answer to `err`, and returns the exit status. If `err` refuses, the status is the same.
+    fn report<W: Out>(answer: Result<Self::Answer, ToolFault>, err: &mut W) -> u8
+        ensures { IsReported answer result (W.state err.old) (W.state err.new) };
 }
 
 /// Runs a command over a store.
@@ -133,7 +140,7 @@ pub(crate) fn run_source<E: Engine, S: Store + Drop, A: Allocator + Copy, O: Pri
             };
         }
     };
-    let answer = engine.print(alloc, &mut lister, out);
+    let answer = engine.print(&mut lister, out);
     // The proof learns here within which bounds the lister stayed.
     let _counts = lister.counts();
     Outcome {
@@ -154,8 +161,10 @@ fn refused_beside(fault: OpenFault, beside: u64) -> ToolFault
     }
 }
 
-/// Runs a command over a source through blocks, and writes what is pending at the end.
-pub(crate) fn run_in_blocks<E: Engine, S: Store + Drop, A: Allocator + Copy, O: Out>(
+/// Runs a command over a source, by few writes: the lines reach the inner output in blocks, and what is
+/// pending at the end, or before a fault, is flushed. Where the inner output refuses a block, the last one
+/// too, the answer is the output's fault.
+pub fn run_in_blocks<E: Engine, S: Store + Drop, A: Allocator + Copy, O: Out>(
     engine: E,
     alloc: A,
     source: Source<S>,

@@ -10,6 +10,7 @@ ghost use Rattle.mdmp_print.specs.HexText.{length_limit};
 use crate::engine::{Engine, run, run_source};
 use crate::fault::{ToolFault, told_list};
 use crate::outcome::Outcome;
+use crate::report::report;
 use mdmp_lister::{Choice, Limits, Lister};
 use mdmp_print::{Printer, print_hex_lines};
 use mdmp_source::{Out, OutFailed, Source, Store};
@@ -38,11 +39,16 @@ pub fn run_hex<S: Store + Drop, A: Allocator + Copy, O: Out>(
     ensures aside { MayReachAside None limits (S.state store).size result }
     ensures read { ReadsStore (hex_access length limits) (S.state store) result }
 {
-    run(HexEngine { address, length }, alloc, store, limits, out)
+    let engine = HexEngine {
+        alloc,
+        address,
+        length,
+    };
+    run(engine, alloc, store, limits, out)
 }
 
 /// Does what `run_hex` does, and hands the source back, whose counts tell the cause of its faults.
-pub fn hex_source<S: Store + Drop, A: Allocator + Copy, O: Out>(
+pub fn hex_source<S: Store + Drop, A: Allocator + Copy, O: Printer>(
     alloc: A,
     source: Source<S>,
     limits: Limits,
@@ -57,22 +63,32 @@ pub fn hex_source<S: Store + Drop, A: Allocator + Copy, O: Out>(
     ensures reads { ReadsSource source result.answer result.source }
     ensures through { IsReadThrough (hex_access length limits) source result.answer result.source }
 {
-    run_source(HexEngine { address, length }, alloc, source, limits, out)
+    let engine = HexEngine {
+        alloc,
+        address,
+        length,
+    };
+    run_source(engine, alloc, source, limits, out)
 }
 
 /// The engine of `hex`, which reads all before it prints.
 #[derive(Clone, Copy)]
-pub(crate) struct HexEngine {
-    pub(crate) address: u64,
-    pub(crate) length: u32,
+pub struct HexEngine<A: Allocator + Copy> {
+    /// Where it takes the memory of what it reads.
+    pub alloc: A,
+    /// The first address.
+    pub address: u64,
+    /// How many bytes it prints.
+    pub length: u32,
 }
 
-impl Engine for HexEngine {
+impl<A: Allocator + Copy> Engine for HexEngine<A> {
     ghost use Rattle.std.specs.Prelude.{◌≤◌, ◌+◌, ◌*◌};
     ghost use Rattle.mdmp_map.specs.Ranges.{address_end};
     ghost use Rattle.mdmp_lister.specs.Format.Listing.{listing, memory_lists};
     ghost use Rattle.mdmp_engines.specs.Engines.{at_most, at_the_end};
     ghost use Rattle.mdmp_engines.specs.HexRuns.{HexEnds, run_hex_text};
+    ghost use Rattle.mdmp_engines.specs.Reports.{IsEnd};
 
     type Answer = ();
 
@@ -92,6 +108,8 @@ impl Engine for HexEngine {
 
     ghost text = { λ hex file limit. run_hex_text file (listing file memory_lists limit) hex.address hex.length };
 
+    ghost IsReported = { IsEnd };
+
     fn chosen(&self) -> Choice {
         Choice::memory_lists()
     }
@@ -100,20 +118,23 @@ impl Engine for HexEngine {
         2 * u64::from(self.length)
     }
 
-    fn print<S: Store + Drop, A: Allocator + Copy, O: Printer>(
+    fn print<S: Store + Drop, B: Allocator + Copy, O: Printer>(
         &self,
-        alloc: A,
-        lister: &mut Lister<S, A>,
+        lister: &mut Lister<S, B>,
         out: &mut O,
     ) -> Result<(), ToolFault> {
-        hex_listed(alloc, lister, self.address, self.length, out)
+        hex_listed(self.alloc, lister, self.address, self.length, out)
+    }
+
+    fn report<W: Out>(answer: Result<(), ToolFault>, err: &mut W) -> u8 {
+        report(answer, err)
     }
 }
 
 /// Lists the ranges that are left, and prints the bytes of some addresses by them.
-fn hex_listed<S: Store + Drop, A: Allocator + Copy, O: Printer>(
+fn hex_listed<S: Store + Drop, A: Allocator + Copy, B: Allocator + Copy, O: Printer>(
     alloc: A,
-    lister: &mut Lister<S, A>,
+    lister: &mut Lister<S, B>,
     address: u64,
     length: u32,
     out: &mut O,

@@ -4,19 +4,18 @@
 //! of `specs/Text.antt`, whole or up to the first bad location, and of one that fails the first part
 //! of it. [`run_check`] writes the text of `specs/CheckText.antt`, a line for each entry, and answers
 //! how many are bad. [`run_hex`] writes the text of `specs/HexText.antt` of mdmp_print, or nothing where the store
-//! fails or the file's memory lists have a bad location. [`check_in_blocks`], [`list_in_blocks`] and
-//! [`hex_in_blocks`] do the same by few writes. [`run_copy`] writes the dump of the streams of some
+//! fails or the file's memory lists have a bad location. [`run_copy`] writes the dump of the streams of some
 //! types as a file of its own, a first part of it where the output refuses or the store fails, or
-//! nothing.
+//! nothing. [`list_source`], [`check_source`], [`hex_source`] and [`copy_source`] do the same over a source, and
+//! hand it back. A command that prints is an [`Engine`]; [`run_in_blocks`] runs any of them by few writes.
 //! A [`LineForm`] says whether the lines of `list` and `check` are words or objects of JSON
 //! (`specs/JsonLines.antt` of mdmp_print); all else is the same. [`objects_are_json_texts`] is the law that of any
 //! file these objects are JSON Lines: each is a line of UTF-8 that reads back as it.
-//! A [`ToolFault`] has the exit status of [`status`] and the line of [`fault_line`].
+//! A [`ToolFault`] has the exit status of [`status`] and the line of [`fault_line`]; [`report`] writes the line.
 //!
 //! It reads no command line and opens no file.
 #![tactic(auto)]
 
-mod blocks;
 mod check;
 mod copy;
 mod engine;
@@ -27,16 +26,18 @@ mod hex;
 mod json_law;
 mod list;
 mod outcome;
+mod report;
 
-pub use crate::blocks::{check_in_blocks, hex_in_blocks, list_in_blocks};
-pub use crate::check::{check_source, run_check};
+pub use crate::check::{CheckEngine, check_source, run_check};
 pub use crate::copy::{copied, copy_source, first_not_copied, run_copy};
+pub use crate::engine::{Engine, run_in_blocks};
 pub use crate::fault::{ToolFault, status};
 pub use crate::fault_lines::fault_line;
-pub use crate::hex::{hex_source, run_hex};
+pub use crate::hex::{HexEngine, hex_source, run_hex};
 pub use crate::json_law::objects_are_json_texts;
-pub use crate::list::{list_next, list_source, run_list};
+pub use crate::list::{ListEngine, list_next, list_source, run_list};
 pub use crate::outcome::Outcome;
+pub use crate::report::report;
 pub use mdmp_dump::{PartName, ReadFault};
 pub use mdmp_lister::{FaultKind, Limits, ListFault, OpenFault, TypeSet};
 pub use mdmp_print::{LINE_ROOM, LineForm, LineOut, Printer, print_dump};

@@ -13,6 +13,7 @@ ghost use Rattle.mdmp_engines.specs.Text.{symbols_text};
 use crate::engine::{Engine, run, run_source};
 use crate::fault::{ToolFault, told_list};
 use crate::outcome::Outcome;
+use crate::report::report;
 use mdmp_lister::{Choice, Item, Limits, Lister};
 use mdmp_print::{LineForm, ModulePlace, Printer, print_dump, print_item, print_symbols};
 use mdmp_source::{Extent, Location, Out, OutFailed, Source, Store};
@@ -46,7 +47,7 @@ pub fn run_list<S: Store + Drop, A: Allocator + Copy, O: Out>(
 }
 
 /// Does what `run_list` does, and hands the source back, whose counts tell the cause of its faults.
-pub fn list_source<S: Store + Drop, A: Allocator + Copy, O: Out>(
+pub fn list_source<S: Store + Drop, A: Allocator + Copy, O: Printer>(
     alloc: A,
     source: Source<S>,
     limits: Limits,
@@ -65,7 +66,7 @@ pub fn list_source<S: Store + Drop, A: Allocator + Copy, O: Out>(
 
 /// The engine of `list`, which prints each item as it is read.
 #[derive(Clone, Copy)]
-pub(crate) struct ListEngine {
+pub struct ListEngine {
     /// How the lines are printed.
     pub form: LineForm,
     /// Whether CodeView records are told.
@@ -81,6 +82,7 @@ impl Engine for ListEngine {
     ghost use Rattle.mdmp_lister.specs.Format.Listing.{listing};
     ghost use Rattle.mdmp_engines.specs.Engines.{list_beside, up_to_a_fault};
     ghost use Rattle.mdmp_print.specs.Forms.{dump_line_in};
+    ghost use Rattle.mdmp_engines.specs.Reports.{IsEnd};
     ghost use Rattle.mdmp_engines.specs.Runs.{ListEnds};
     ghost use Rattle.mdmp_engines.specs.Text.{run_text};
 
@@ -102,6 +104,8 @@ impl Engine for ListEngine {
 
     ghost text = { λ e file limit. dump_line_in e.form (header_at file 0) ++ run_text e.form e.pdb file limit (listing file All limit) };
 
+    ghost IsReported = { IsEnd };
+
     fn chosen(&self) -> Choice {
         Choice::All
     }
@@ -112,12 +116,14 @@ impl Engine for ListEngine {
 
     fn print<S: Store + Drop, A: Allocator + Copy, O: Printer>(
         &self,
-        alloc: A,
         lister: &mut Lister<S, A>,
         out: &mut O,
     ) -> Result<(), ToolFault> {
-        let _ = alloc;
         print_listing(lister, self.form, self.pdb, self.aside, out)
+    }
+
+    fn report<W: Out>(answer: Result<(), ToolFault>, err: &mut W) -> u8 {
+        report(answer, err)
     }
 }
 

@@ -1,5 +1,4 @@
 pub mod CopyEnds
 pub mod Loans
 pub mod StandingCopy
-pub mod Telling
 pub mod Wording

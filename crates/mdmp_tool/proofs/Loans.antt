@@ -5,14 +5,11 @@ use Rattle.mdmp_source.specs.Output.{HasRefused, OutState, PutsAll, PutsPrefix, 
 use Rattle.mdmp_source.specs.Source.{SourceState}
 use Rattle.mdmp_source.specs.Store.{StoreState}
 use Rattle.mdmp_lister.specs.declared.choice.Choice.{Choice}
-use Rattle.mdmp_lister.specs.declared.limits.Limits.{Limits}
 use Rattle.mdmp_engines.specs.declared.fault.ToolFault.{ToolFault}
 use Rattle.mdmp_engines.specs.declared.fault.ToolFault.TheVariants.{Opening, List as BadList, Source, Budget, Memory, MemoryLimit, AsideLimit, Out}
-use Rattle.mdmp_words.specs.declared.invocation.Print.{Print}
-use Rattle.mdmp_words.specs.declared.invocation.Print.TheVariants.{Check, List as Listing, Hex}
 use Rattle.mdmp_engines.specs.Causes.{HasOutCause}
-use Rattle.mdmp_tool.specs.Commands.{HasPrinted, HasRun}
-use Rattle.mdmp_engines.specs.Engines.{IsFlushed, Pace, RefusesWithin, RunsThrough, StopsShort, Tells, WritesText, in_blocks, Access, check_access, hex_access, list_access}
+use Rattle.mdmp_tool.specs.Commands.{HasRun, HasRunThrough}
+use Rattle.mdmp_engines.specs.Engines.{IsFlushed, Pace, RefusesWithin, RunsThrough, StopsShort, Tells, WritesText, in_blocks, Access}
 use Rattle.mdmp_engines.proofs.BlockLemmas.{at_fault, quiet_from}
 
 -- ---- the loans stay
@@ -121,8 +118,8 @@ module _ (name last : ℕ) (start behind stop inner_old inner_new : OutState) (b
       (subst (λ (y : OutState). HasRun access End Through pace old inner_old err_before status new y err_after) stops ran))
 
   -- what was printed to it was printed to its lender
-  pub printed_lent : (print : Print) (limits : Limits) (old : SourceState) (err_before : OutState) (status : ℕ) (new : SourceState) (err_after : OutState)
-      → HasPrinted print limits old inner_old err_before status new inner_new err_after → HasPrinted print limits old start err_before status new stop err_after
-  printed_lent (Check form) limits old err_before status new err_after ran = ran_lent (check_access limits) _ _ _ old err_before status new err_after (λ file. runs_lent name start stop _ file _ _ _) ran
-  printed_lent (Listing form pdb) limits old err_before status new err_after ran = ran_lent (list_access pdb limits) _ _ _ old err_before status new err_after (λ file. runs_lent name start stop _ file _ _ _) ran
-  printed_lent (Hex span) limits old err_before status new err_after ran = ran_lent (hex_access span.length limits) _ _ _ old err_before status new err_after (λ file. runs_lent name start stop _ file _ _ _) ran
+  pub printed_lent : {T : Type 0} (access : Access) (End : Result T ToolFault → ℕ → OutState → OutState → Type 0) (Ends : List ℕ → ℕ → Result T ToolFault → Type 0) (text : List ℕ → ℕ → List ℕ)
+      (old : SourceState) (err_before : OutState) (status : ℕ) (new : SourceState) (err_after : OutState)
+      → HasRunThrough access End Ends text old inner_old err_before status new inner_new err_after → HasRunThrough access End Ends text old start err_before status new stop err_after
+  printed_lent access End Ends text old err_before status new err_after ran =
+      ran_lent access access.pace End _ old err_before status new err_after (λ file. runs_lent name start stop access.pace file access.choice _ _) ran

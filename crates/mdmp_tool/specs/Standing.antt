@@ -7,7 +7,7 @@ use Rattle.mdmp_writer.specs.Written.{written}
 use Rattle.mdmp_disk.specs.Disk.{DiskState, bytes_of_file}
 use Rattle.mdmp_engines.specs.declared.fault.ToolFault.{ToolFault}
 use Rattle.mdmp_engines.specs.declared.fault.ToolFault.TheVariants.{Out, Source}
-use Rattle.mdmp_tool.specs.Commands.{IsEnd}
+use Rattle.mdmp_engines.specs.Reports.{IsEnd}
 use Rattle.mdmp_engines.specs.Engines.{IsFirstPart}
 use Rattle.mdmp_tool.specs.Words.{DiskChange, Outputs}
 

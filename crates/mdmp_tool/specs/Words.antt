@@ -6,9 +6,10 @@ use Rattle.mdmp_source.specs.Output.{OutState, PutsAll, PutsPrefix, unlent}
 use Rattle.mdmp_source.specs.Source.{SourceState}
 use Rattle.mdmp_disk.specs.Disk.{DiskState, FileAt, FileState, IsOpenedFile, IsPresent, KeepsOthers, bytes_of_file, make_counted, open_counted, opened_once, present, open_refused}
 use Rattle.mdmp_lister.specs.declared.limits.Limits.{Limits}
-use Rattle.mdmp_tool.specs.Commands.{HasCopied, HasPrinted, IsLineTold}
+use Rattle.mdmp_tool.specs.Commands.{HasChecked, HasCopied, HasPrintedMemory, HasPrintedList}
 use Rattle.mdmp_engines.specs.Copying.{first_not_copied}
 use Rattle.mdmp_engines.specs.Faults.{fault_text, exit_status}
+use Rattle.mdmp_engines.specs.Reports.{IsLineTold}
 use Rattle.mdmp_words.specs.Invocations.{AsksFor, AsksNothing, IsValid}
 use Rattle.mdmp_engines.specs.declared.fault.ToolFault.{ToolFault}
 use Rattle.mdmp_engines.specs.declared.fault.ToolFault.TheVariants.{Memory, NotCopied, Out}
@@ -16,7 +17,6 @@ use Rattle.mdmp_words.specs.declared.invocation.Invocation.{Invocation}
 use Rattle.mdmp_words.specs.declared.invocation.Invocation.TheVariants as asks
 use Rattle.mdmp_words.specs.declared.invocation.Command.{Command}
 use Rattle.mdmp_words.specs.declared.invocation.Command.TheVariants as commands
-use Rattle.mdmp_words.specs.declared.invocation.Print.{Print}
 
 -- both outputs, before and after
 pub record Outputs : Type 0 where
@@ -75,20 +75,24 @@ pub record IsOver (file : FileAt) (source : SourceState) : Type 0 where
 abbrev pub MayRefuse : FileAt → Type 0
 MayRefuse found = (file : FileState) → found ≡ present file → IsTrue file.is_reliable → ⊥
 
+-- what a command over a source did: to the source, to both outputs, and its status
+abbrev pub Running : Type 1
+Running = SourceState → OutState → OutState → ℕ → SourceState → OutState → OutState → Type 0
+
 -- this was printed of a file of which that is known
-pub record Prints (print : Print) (limits : Limits) (found : FileAt) (before : Outputs) (status : ℕ) (after : Outputs) : Type 0 where
+pub record Prints (Printed : Running) (found : FileAt) (before : Outputs) (status : ℕ) (after : Outputs) : Type 0 where
   pub old : SourceState
   pub new : SourceState
   pub opened : IsOver found old
-  pub printed : HasPrinted print limits old before.out before.err status new after.out after.err
+  pub printed : Printed old before.out before.err status new after.out after.err
 
--- how a command ends that prints this of the file of this name, within these limits: the disk was asked for that file,
+-- how a command ends that prints this of the file of this name: the disk was asked for that file,
 -- once, and for nothing else
-pub data EndsPrint (print : Print) (limits : Limits) (file : List ℕ) (disk : DiskChange) (before : Outputs) (status : ℕ) (after : Outputs) : Type 0 where
+pub data EndsPrint (Printed : Running) (file : List ℕ) (disk : DiskChange) (before : Outputs) (status : ℕ) (after : Outputs) : Type 0 where
   unopened : disk.new ≡ open_refused disk.old → MayRefuse (disk.old.files file) → Refuses 3 (unopened_text file) before status after
-      → EndsPrint print limits file disk before status after
-  wanting : disk.new ≡ opened_once disk.old → RefusesFault Memory before status after → EndsPrint print limits file disk before status after
-  printed : disk.new ≡ opened_once disk.old → Prints print limits (disk.old.files file) before status after → EndsPrint print limits file disk before status after
+      → EndsPrint Printed file disk before status after
+  wanting : disk.new ≡ opened_once disk.old → RefusesFault Memory before status after → EndsPrint Printed file disk before status after
+  printed : disk.new ≡ opened_once disk.old → Prints Printed (disk.old.files file) before status after → EndsPrint Printed file disk before status after
 
 -- the streams of these types were copied out of one file into another, which was made under a name that had none, and holds
 -- what was copied; every other file is as it was
@@ -117,7 +121,9 @@ pub data EndsCopy (Z : Type 0) (types : List ℕ) (limits : Limits) (file target
   copied : first_not_copied types ≡ None → CopiesTo Z types limits file target disk before status after → EndsCopy Z types limits file target disk before status after
 
 abbrev pub EndsCommand : Type 0 → Command → Limits → List ℕ → DiskChange → Outputs → ℕ → Outputs → Type 0
-EndsCommand Z (commands.Print print) limits file disk before status after = EndsPrint print limits file disk before status after
+EndsCommand Z (commands.Check form) limits file disk before status after = EndsPrint (HasChecked form limits) file disk before status after
+EndsCommand Z (commands.List form pdb) limits file disk before status after = EndsPrint (HasPrintedList form pdb limits) file disk before status after
+EndsCommand Z (commands.Hex span) limits file disk before status after = EndsPrint (HasPrintedMemory span limits) file disk before status after
 EndsCommand Z (commands.Copy target types) limits file disk before status after = EndsCopy Z types limits file target.now disk before status after
 
 -- ---- words

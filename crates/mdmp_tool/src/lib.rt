@@ -17,9 +17,10 @@ pub use crate::running::{copy_and_report, print_and_report};
 pub use crate::standing::what_is_copied_stands;
 pub use crate::words::{run_on_disk, run_words};
 pub use mdmp_engines::{
-    FaultKind, LINE_ROOM, LayoutFault, Limits, LineForm, LineOut, ListFault, OpenFault, Outcome,
-    PartName, Printer, ReadFault, ToolFault, TypeSet, check_in_blocks, check_source, copied,
-    copy_source, fault_line, hex_in_blocks, hex_source, list_in_blocks, list_next, list_source,
-    objects_are_json_texts, print_dump, run_check, run_copy, run_hex, run_list, status,
+    CheckEngine, Engine, FaultKind, HexEngine, LINE_ROOM, LayoutFault, Limits, LineForm, LineOut,
+    ListEngine, ListFault, OpenFault, Outcome, PartName, Printer, ReadFault, ToolFault, TypeSet,
+    check_source, copied, copy_source, fault_line, first_not_copied, hex_source, list_next,
+    list_source, objects_are_json_texts, print_dump, report, run_check, run_copy, run_hex,
+    run_in_blocks, run_list, status,
 };
-pub use mdmp_words::{Command, Invocation, Print, Span, invocation_of};
+pub use mdmp_words::{Command, Invocation, Span, invocation_of};

@@ -4,10 +4,9 @@ ghost use Rattle.std.specs.IoError.{error_kind};
 ghost use Rattle.mdmp_source.specs.Output.{OutState};
 ghost use Rattle.mdmp_tool.specs.Program.{EndsGiven, EndsSomehow, EndsUnread, words_behind};
 
-use crate::running::report;
 use crate::words::{refuse_words, run_on_disk};
 use mdmp_disk::{Disk, SystemDisk};
-use mdmp_engines::ToolFault;
+use mdmp_engines::{ToolFault, report};
 use mdmp_source::Out;
 use std::alloc::{AllocError, AllocGlobal, Allocator, Global};
 use std::env::Env;

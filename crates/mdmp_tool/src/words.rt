@@ -2,19 +2,21 @@
 ghost use Rattle.std.specs.Prelude.{codes, ◌≡◌, ◌≤◌, ◌⊎◌, ◌∷◌, []};
 ghost use Rattle.std.specs.List.{concat};
 ghost use Rattle.mdmp_source.specs.Output.{OutState};
-ghost use Rattle.mdmp_tool.specs.Commands.{IsLineTold};
-ghost use Rattle.mdmp_words.specs.Invocations.{IsPrintable, IsValid, IsCommandWithin};
+ghost use Rattle.mdmp_engines.specs.Reports.{IsLineTold};
+ghost use Rattle.mdmp_tool.specs.Commands.{HasRunThrough};
 ghost use Rattle.mdmp_disk.specs.System.{no_requests, system};
 ghost use Rattle.mdmp_disk.specs.declared.disk.Requests.{Requests};
-ghost use Rattle.mdmp_tool.specs.Words.{EndsAsked, EndsCommand, EndsCopy, EndsPrint, EndsWords, Helps, HelpsInPart};
+ghost use Rattle.mdmp_tool.specs.Words.{EndsCopy, EndsPrint, EndsWords, Helps, HelpsInPart};
 
-use crate::running::{copy_and_report, print_and_report, report};
+use crate::running::{copy_and_report, print_and_report};
 use mdmp_disk::{Disk, SystemDisk};
-use mdmp_engines::{ToolFault, first_not_copied};
+use mdmp_engines::{
+    CheckEngine, Engine, HexEngine, ListEngine, ToolFault, first_not_copied, report,
+};
 use mdmp_lister::{Limits, TypeSet};
 use mdmp_print::{LineOut, print_error, print_error_named};
 use mdmp_source::{Out, OutFailed, Source, write_all};
-use mdmp_words::{Command, Invocation, Print, invocation_of};
+use mdmp_words::{Command, Invocation, Span, invocation_of};
 use std::alloc::{AllocGlobal, Allocator};
 use std::rt::Files;
 
@@ -54,26 +56,32 @@ pub fn run_on_disk<R: AllocGlobal, D: Disk, A: Allocator + Copy, O: Out, E: Out>
 ) -> u8
     ensures { EndsWords A words.now (record { old = D.state disk.old; new = D.state disk.new }) (record { out = O.state out.old; err = E.state err.old }) result (record { out = O.state out.new; err = E.state err.new }) }
 {
-    run_asked(disk, alloc, invocation_of(rt.alloc(), words), out, err)
-}
-
-/// Does what some words ask for, and returns the exit status.
-fn run_asked<D: Disk, A: Allocator + Copy, O: Out, E: Out>(
-    disk: &mut D,
-    alloc: A,
-    asked: Invocation<'_>,
-    out: &mut O,
-    err: &mut E,
-) -> u8
-    requires { IsValid asked }
-    ensures { EndsAsked A asked.entry (record { old = D.state disk.old; new = D.state disk.new }) (record { out = O.state out.old; err = E.state err.old }) result (record { out = O.state out.new; err = E.state err.new }) }
-{
-    match asked {
+    match invocation_of(rt.alloc(), words) {
         Invocation::Run {
             file,
             limits,
             command,
-        } => run_command(disk, alloc, command, limits, file, out, err),
+        } => match command {
+            Command::Check { form } => {
+                print_file(disk, alloc, CheckEngine { form }, limits, file, out, err)
+            }
+            Command::List { form, pdb } => {
+                let aside = limits.aside;
+                let engine = ListEngine { form, pdb, aside };
+                print_file(disk, alloc, engine, limits, file, out, err)
+            }
+            Command::Hex(Span { address, length }) => {
+                let engine = HexEngine {
+                    alloc,
+                    address,
+                    length,
+                };
+                print_file(disk, alloc, engine, limits, file, out, err)
+            }
+            Command::Copy { target, types } => {
+                copy_file(disk, alloc, types, limits, file, target, err)
+            }
+        },
         Invocation::Help(text) => write_help(&text, out, err),
         Invocation::Refused(text) => {
             let _ = write_all(err, text.as_bytes());
@@ -95,48 +103,30 @@ fn write_help<O: Out, E: Out>(text: &str, out: &mut O, err: &mut E) -> u8
     }
 }
 
-/// Runs a command.
-fn run_command<D: Disk, A: Allocator + Copy, O: Out, E: Out>(
+/// Prints what an engine prints of the file of this name.
+fn print_file<E: Engine, D: Disk, A: Allocator + Copy, O: Out, W: Out>(
     disk: &mut D,
     alloc: A,
-    command: Command<'_>,
+    engine: E,
     limits: Limits,
     file: &str,
     out: &mut O,
-    err: &mut E,
+    err: &mut W,
 ) -> u8
-    requires { IsCommandWithin command }
-    ensures { EndsCommand A command.entry limits file.now (record { old = D.state disk.old; new = D.state disk.new }) (record { out = O.state out.old; err = E.state err.old }) result (record { out = O.state out.new; err = E.state err.new }) }
-{
-    match command {
-        Command::Print(print) => print_file(disk, alloc, print, limits, file, out, err),
-        Command::Copy { target, types } => copy_file(disk, alloc, types, limits, file, target, err),
-    }
-}
-
-/// Prints what is asked for of the file of this name.
-fn print_file<D: Disk, A: Allocator + Copy, O: Out, E: Out>(
-    disk: &mut D,
-    alloc: A,
-    print: Print,
-    limits: Limits,
-    file: &str,
-    out: &mut O,
-    err: &mut E,
-) -> u8
-    requires { IsPrintable print }
-    ensures { EndsPrint print limits file.now (record { old = D.state disk.old; new = D.state disk.new }) (record { out = O.state out.old; err = E.state err.old }) result (record { out = O.state out.new; err = E.state err.new }) }
+    requires { E.can_print engine }
+    ensures { EndsPrint (HasRunThrough (record { limits = limits; choice = E.choice; pace = E.pace; held = E.held engine; aside = E.aside engine; beside = E.reads engine }) E.IsReported (E.Ends engine) (E.text engine))
+        file.now (record { old = D.state disk.old; new = D.state disk.new }) (record { out = O.state out.old; err = W.state err.old }) result (record { out = O.state out.new; err = W.state err.new }) }
 {
     let Ok(store) = disk.open(file) else {
         return refuse_name(b"cannot open ", file, err);
     };
     let Ok(mut buffer) = vec![in alloc; 0; BLOCK] else {
-        return report::<(), E>(Err(ToolFault::Memory), err);
+        return report::<(), W>(Err(ToolFault::Memory), err);
     };
     let mut blocks = LineOut::over(&mut buffer, out);
     let status = print_and_report(
+        engine,
         alloc,
-        print,
         Source::new(store),
         limits,
         &mut blocks,

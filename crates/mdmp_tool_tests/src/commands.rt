@@ -8,9 +8,9 @@ use mdmp_lister::{Choice, Lister, TypeSet};
 use mdmp_source::{Out, PatchyOut, Source, Store, write_all};
 use mdmp_test_support::Room;
 use mdmp_tool::{
-    LINE_ROOM, Limits, LineForm, LineOut, OpenFault, Outcome, ToolFault, check_in_blocks,
-    check_source, copy_source, hex_in_blocks, hex_source, list_in_blocks, list_next, list_source,
-    print_dump, run_check, run_copy, run_hex, run_list,
+    CheckEngine, HexEngine, LINE_ROOM, Limits, LineForm, LineOut, ListEngine, OpenFault, Outcome,
+    ToolFault, check_source, copy_source, hex_source, list_next, list_source, print_dump,
+    run_check, run_copy, run_hex, run_in_blocks, run_list,
 };
 use std::alloc::{Allocator, Global};
 use std::process::Abort;
@@ -193,18 +193,26 @@ fn end_by_blocks<S: Store + Drop, A: Allocator + Copy, O: Out>(
     let limits = run.limits;
     let text = LineForm::Text;
     match run.task {
-        Task::Check => end_of(check_in_blocks(heap, source, limits, text, blocks)),
-        Task::List | Task::Symbols => end_of_uncounted(list_in_blocks(
-            heap,
-            source,
-            limits,
-            text,
-            has_symbols(run.task),
-            blocks,
-        )),
+        Task::Check => {
+            let engine = CheckEngine { form: text };
+            end_of(run_in_blocks(engine, heap, source, limits, blocks))
+        }
+        Task::List | Task::Symbols => {
+            let engine = ListEngine {
+                form: text,
+                pdb: has_symbols(run.task),
+                aside: limits.aside,
+            };
+            end_of_uncounted(run_in_blocks(engine, heap, source, limits, blocks))
+        }
         Task::Hex(span) => {
             let AddressSpan { address, length } = limited(rt, span);
-            end_of_uncounted(hex_in_blocks(heap, source, limits, address, length, blocks))
+            let engine = HexEngine {
+                alloc: heap,
+                address,
+                length,
+            };
+            end_of_uncounted(run_in_blocks(engine, heap, source, limits, blocks))
         }
         Task::Copy(_) => rt.panic("no copy in blocks"),
     }

@@ -16,11 +16,9 @@ use Rattle.mdmp_words.specs.declared.number_words.Span.{Span}
 use Rattle.mdmp_words.specs.declared.invocation.Invocation.{Invocation}
 use Rattle.mdmp_words.specs.declared.invocation.Invocation.TheVariants.{Run, Help, Refused, InvalidValue, Memory}
 use Rattle.mdmp_words.specs.declared.invocation.Command.{Command}
-use Rattle.mdmp_words.specs.declared.invocation.Command.TheVariants.{Print as Printing, Copy}
+use Rattle.mdmp_words.specs.declared.invocation.Command.TheVariants.{Check, List as Listing, Hex, Copy}
 use Rattle.mdmp_print.specs.declared.form.LineForm.{LineForm}
 use Rattle.mdmp_print.specs.declared.form.LineForm.TheVariants as forms
-use Rattle.mdmp_words.specs.declared.invocation.Print.{Print}
-use Rattle.mdmp_words.specs.declared.invocation.Print.TheVariants.{Check, List as Listing, Hex}
 
 -- ---- commands as plain values
 
@@ -37,13 +35,10 @@ pub record Plain : Type 0 where
   pub sizes : Sizes
   pub command : PlainCommand
 
-abbrev pub plain_print : Print → PlainCommand
-plain_print (Check form) = check form
-plain_print (Listing form pdb) = list form pdb
-plain_print (Hex span) = hex span
-
 abbrev pub plain_command : Command → PlainCommand
-plain_command (Printing print) = plain_print print
+plain_command (Check form) = check form
+plain_command (Listing form pdb) = list form pdb
+plain_command (Hex span) = hex span
 plain_command (Copy target types) = copy target.now types
 
 abbrev pub plain_over : List ℕ → Limits → Command → Plain
@@ -155,13 +150,10 @@ AsksFor words Memory = Unit {0}
 -- ---- what is true of each answer
 
 -- the addresses whose bytes are to be printed are not too many, and pass no last address
-abbrev pub IsPrintable : Print → Type 0
-IsPrintable (Check form) = Unit {0}
-IsPrintable (Listing form pdb) = Unit {0}
-IsPrintable (Hex span) = (span.length ≤ length_limit) × (span.address + span.length ≤ address_end)
-
 abbrev pub IsCommandWithin : Command → Type 0
-IsCommandWithin (Printing print) = IsPrintable print
+IsCommandWithin (Check form) = Unit {0}
+IsCommandWithin (Listing form pdb) = Unit {0}
+IsCommandWithin (Hex span) = (span.length ≤ length_limit) × (span.address + span.length ≤ address_end)
 IsCommandWithin (Copy target types) = Unit {0}
 
 -- a command is to be run that can be
@@ -171,14 +163,6 @@ IsRunWithin (Help text) = ⊥
 IsRunWithin (Refused text) = ⊥
 IsRunWithin InvalidValue = ⊥
 IsRunWithin Memory = ⊥
-
--- this command is to be run
-abbrev pub RunsCommand : Command → Invocation → Type 0
-RunsCommand wanted (Run file limits command) = command ≡ wanted
-RunsCommand wanted (Help text) = ⊥
-RunsCommand wanted (Refused text) = ⊥
-RunsCommand wanted InvalidValue = ⊥
-RunsCommand wanted Memory = ⊥
 
 -- a command that is to be run can be
 abbrev pub IsValid : Invocation → Type 0

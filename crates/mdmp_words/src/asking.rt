@@ -3,10 +3,10 @@ ghost use Rattle.std.specs.Prelude.{◌≡◌, [], IfSome, map, option_map, opti
 ghost use Rattle.clap.specs.Words.{all_of, first_of, found_of, rows_of, subcommand_rows_of};
 ghost use Rattle.clap.specs.Values.{kind_of};
 ghost use Rattle.mdmp_words.specs.OptionWords.{texts_of};
-ghost use Rattle.mdmp_words.specs.Invocations.{AsksFor, AsksIn, AsksNothing, IsRunWithin, IsTextOf, IsValid, RunsCommand, check_named, copy_named, form_named, hex_named, is_set, limit_texts, list_named, named_over, plain_command, plain_run, request_by};
+ghost use Rattle.mdmp_words.specs.Invocations.{AsksFor, AsksIn, AsksNothing, IsRunWithin, IsTextOf, IsCommandWithin, IsValid, check_named, copy_named, form_named, hex_named, is_set, limit_texts, list_named, named_over, plain_command, plain_run, request_by};
 
 use crate::command_line::command_line;
-use crate::invocation::{Command, Invocation, Print};
+use crate::invocation::{Command, Invocation};
 use crate::number_words::span_of;
 use crate::option_words::{LimitWords, limits_of, types_of};
 use clap::error::ErrorKind;
@@ -88,9 +88,9 @@ fn check_invocation<'a>(matches: &ArgMatches<'a>) -> Option<Invocation<'a>>
     invocation_over(
         matches,
         "FILE",
-        Command::Print(Print::Check {
+        Command::Check {
             form: form_of(matches),
-        }),
+        },
     )
 }
 
@@ -100,7 +100,7 @@ fn list_invocation<'a>(matches: &ArgMatches<'a>) -> Option<Invocation<'a>>
 {
     let form = form_of(matches);
     let pdb = is_set(matches, "pdb");
-    invocation_over(matches, "FILE", Command::Print(Print::List { form, pdb }))
+    invocation_over(matches, "FILE", Command::List { form, pdb })
 }
 
 /// How the lines are printed.
@@ -119,7 +119,7 @@ fn hex_invocation<'a>(matches: &ArgMatches<'a>) -> Option<Invocation<'a>>
     ensures within { IfSome result IsRunWithin }
 {
     let span = span_of(word_of(matches, "ADDRESS")?, word_of(matches, "LENGTH")?)?;
-    invocation_over(matches, "FILE", Command::Print(Print::Hex(span)))
+    invocation_over(matches, "FILE", Command::Hex(span))
 }
 
 fn copy_invocation<'a>(matches: &ArgMatches<'a>) -> Option<Invocation<'a>>
@@ -137,9 +137,10 @@ fn invocation_over<'a>(
     id: &str,
     command: Command<'a>,
 ) -> Option<Invocation<'a>>
+    requires { IsCommandWithin command }
     ensures named { option_and_then plain_run result
         ≡ named_over (rows_of (found_of matches.now)) id.now (plain_command command.entry) }
-    ensures same { IfSome result (RunsCommand command.entry) }
+    ensures within { IfSome result IsRunWithin }
 {
     let limits = limits_of(limit_words(matches))?;
     let file = word_of(matches, id)?;

@@ -25,30 +25,23 @@ pub enum Invocation<'a> {
     Memory,
 }
 
-/// What is printed of a file.
-#[derive(Clone, Copy)]
-pub enum Print {
-    /// Of each entry whether it is good.
+/// What is done with a file.
+#[derive(Drop)]
+pub enum Command<'a> {
+    /// It is printed of each entry whether it is good.
     Check {
         /// How the lines are printed.
         form: LineForm,
     },
-    /// What the file holds.
+    /// What the file holds is printed.
     List {
         /// How the lines are printed.
         form: LineForm,
         /// Whether the symbol file of each module is printed too.
         pdb: bool,
     },
-    /// The bytes at these addresses.
+    /// The bytes at these addresses are printed.
     Hex(Span),
-}
-
-/// What is done with a file.
-#[derive(Drop)]
-pub enum Command<'a> {
-    /// Something is printed of it.
-    Print(Print),
     /// The streams of some types are copied.
     Copy {
         /// The name of the file that is written.

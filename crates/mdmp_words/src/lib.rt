@@ -15,6 +15,6 @@ mod option_words;
 mod type_names;
 
 pub use crate::asking::invocation_of;
-pub use crate::invocation::{Command, Invocation, Print};
+pub use crate::invocation::{Command, Invocation};
 pub use crate::number_words::Span;
 pub use mdmp_print::LineForm;

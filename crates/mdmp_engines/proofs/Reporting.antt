@@ -3,7 +3,7 @@ use Rattle.std.proofs.Common.{◌⊎◌, ℕ, List, inl, inr}
 use Rattle.std.specs.Prelude.{Result, Ok, Err}
 use Rattle.mdmp_source.specs.Output.{OutState, Puts, PutsAll, PutsPrefix}
 use Rattle.mdmp_print.specs.Lines.{error_line}
-use Rattle.mdmp_tool.specs.Commands.{IsLineTold}
+use Rattle.mdmp_engines.specs.Reports.{IsLineTold}
 
 -- a text went out, or a first part of it
 pub either-put : {T E : Type 0} (r : Result T E) (before after : OutState) (text : List ℕ) → Puts r before text after → PutsAll before text after ⊎ PutsPrefix before text after
