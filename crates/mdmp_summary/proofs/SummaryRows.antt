@@ -1,0 +1,123 @@
+-- Worked files, summed up by the definition.
+use Rattle.std.proofs.Common.{◌≡◌, ℕ, zero, suc, ◌+◌, ◌%◌, List, [], ◌∷◌, ◌++◌, Some, None, refl, take}
+use Rattle.std.specs.Option.{option_map}
+use Rattle.mdmp_wire.specs.declared.module.ModuleRecord.{ModuleRecord}
+use Rattle.mdmp_wire.specs.declared.thread_name.ThreadNameRecord.{ThreadNameRecord}
+use Rattle.mdmp_wire.specs.Number.{number_at, numbers_at, array_at, le, zeros}
+use Rattle.mdmp_lister.specs.declared.fault.FaultKind.TheVariants.{StreamOutside}
+use Rattle.mdmp_lister.specs.Format.Name.{name_at}
+use Rattle.mdmp_lister.specs.Format.Shape.{shape_of}
+use Rattle.mdmp_lister.specs.Format.Item.{sizes_before}
+use Rattle.mdmp_lister.specs.Format.Listing.{entries_from, only_chosen}
+use Rattle.mdmp_lister.proofs.Files.{crash_file, entry, head, location, misc_file, three_ranges_file}
+use Rattle.mdmp_lister.proofs.RowWords.{fault_of}
+use Rattle.mdmp_summary.specs.Summary.{summary_of}
+use Rattle.mdmp_summary.specs.declared.part.Part.TheVariants.{Context, Misc, Memory}
+use Rattle.mdmp_summary.specs.declared.summary.Crash.{Crash}
+
+-- a thread with its stack and context, and an exception of an unknown system
+bare-address : option_map (λ (c : Crash). c.address) (summary_of crash_file 0).crash ≡ Some 0x401000
+unfolding number_at numbers_at array_at le name_at shape_of entries_from only_chosen sizes_before
+bare-address = refl
+
+bare-counts : (summary_of crash_file 0).counts ≡ record { streams = 2; threads = 1; modules = 0; exceptions = 1; ranges = 0; memory = 0 }
+unfolding number_at numbers_at array_at le name_at shape_of entries_from only_chosen sizes_before
+bare-counts = refl
+
+bare-outside : (summary_of crash_file 0).outside ≡ record { count = 0; first = None }
+unfolding number_at numbers_at array_at le name_at shape_of entries_from only_chosen sizes_before
+bare-outside = refl
+
+-- the same, cut before the last byte of the exception's context: nothing of the listing is lost, but a part is
+cut-outside : (summary_of (take 291 crash_file) 0).outside ≡ record { count = 1; first = Some (record { entry = 1; index = 0; part = Context; offset = 288; size = 4 }) }
+unfolding number_at numbers_at array_at le name_at shape_of entries_from only_chosen sizes_before
+cut-outside = refl
+
+cut-fault : (summary_of (take 291 crash_file) 0).fault ≡ None
+unfolding number_at numbers_at array_at le name_at shape_of entries_from only_chosen sizes_before
+cut-fault = refl
+
+-- cut where the exception's record is: what is listed before the fault counts
+lost-fault : (summary_of (take 287 crash_file) 0).fault ≡ Some (fault_of 1 None StreamOutside 120 168)
+unfolding number_at numbers_at array_at le name_at shape_of entries_from only_chosen sizes_before
+lost-fault = refl
+
+lost-crash : (summary_of (take 287 crash_file) 0).crash ≡ None
+unfolding number_at numbers_at array_at le name_at shape_of entries_from only_chosen sizes_before
+lost-crash = refl
+
+lost-counts : (summary_of (take 287 crash_file) 0).counts ≡ record { streams = 2; threads = 1; modules = 0; exceptions = 0; ranges = 0; memory = 0 }
+unfolding number_at numbers_at array_at le name_at shape_of entries_from only_chosen sizes_before
+lost-counts = refl
+
+-- three ranges, of which one lies outside and one inside
+ranges-memory : (summary_of three_ranges_file 0).counts.memory ≡ 4
+unfolding number_at numbers_at array_at le name_at shape_of entries_from only_chosen sizes_before
+ranges-memory = refl
+
+ranges-outside : (summary_of three_ranges_file 0).outside ≡ record { count = 1; first = Some (record { entry = 0; index = 1; part = Memory; offset = 97; size = 4 }) }
+unfolding number_at numbers_at array_at le name_at shape_of entries_from only_chosen sizes_before
+ranges-outside = refl
+
+misc-outside : (summary_of misc_file 0).outside ≡ record { count = 1; first = Some (record { entry = 0; index = 0; part = Misc; offset = 0xFFFFFFFF; size = 30 }) }
+unfolding number_at numbers_at array_at le name_at shape_of entries_from only_chosen sizes_before
+misc-outside = refl
+
+-- ---- a crash of Linux on x64
+
+-- byte k of a context is k, counted anew from 256 on: Rip is 0xfffefdfcfbfaf9f8
+bytes_from : ℕ → ℕ → List ℕ
+bytes_from at zero = []
+bytes_from at (suc n) = at % 256 ∷ bytes_from (at + 1) n
+
+-- a system of this platform and architecture
+abbrev system : ℕ → ℕ → List ℕ
+system platform architecture = le 2 architecture ++ zeros 18 ++ le 4 platform ++ zeros 32
+
+-- an exception of a thread, whose context stands there
+abbrev exception : ℕ → ℕ → ℕ → ℕ → ℕ → List ℕ
+exception thread code address size rva = le 4 thread ++ zeros 4 ++ le 4 code ++ zeros 12 ++ le 8 address ++ zeros 128 ++ location size rva
+
+-- a module of this base and size
+abbrev module_sized : ℕ → ℕ → List ℕ
+module_sized base size = le 8 base ++ le 4 size ++ zeros 96
+
+-- exceptions and modules before the system that says what they mean; two modules hold the address, and a third ends at it
+abbrev linux_file : ℕ → ℕ → List ℕ
+linux_file platform code =
+    head 5 32 ++ entry 6 168 92 ++ entry 6 168 260 ++ entry 4 328 428 ++ entry 7 56 756 ++ entry 24 28 812
+    ++ exception 6 19 5 0 0 ++ exception 7 code 16 256 840
+    ++ le 4 3 ++ module_sized 0xfffefdfcfbfaf9f0 8 ++ module_sized 0xfffefdfcfbfaf9f1 8 ++ module_sized 0xfffefdfcfbfaf9f8 9
+    ++ system platform 9
+    ++ le 4 2 ++ le 4 6 ++ zeros 8 ++ le 4 7 ++ zeros 8
+    ++ bytes_from 0 256
+
+-- what is looked at of a crash: its thread, the address that ran, the base of its module, and the thread that its name is of
+abbrev looked_at : Crash → List ℕ
+looked_at c = c.exception.fields.thread_id ∷ c.address ∷ []
+
+linux-crash : option_map looked_at (summary_of (linux_file 0x8201 11) 0).crash ≡ Some (7 ∷ 0xfffefdfcfbfaf9f8 ∷ [])
+unfolding number_at numbers_at array_at le name_at shape_of entries_from only_chosen sizes_before bytes_from
+linux-crash = refl
+
+linux-holder : option_map (λ (c : Crash). option_map (λ (m : ModuleRecord). m.base_of_image) c.holder) (summary_of (linux_file 0x8201 11) 0).crash ≡ Some (Some 0xfffefdfcfbfaf9f1)
+unfolding number_at numbers_at array_at le name_at shape_of entries_from only_chosen sizes_before bytes_from
+linux-holder = refl
+
+linux-name : option_map (λ (c : Crash). option_map (λ (t : ThreadNameRecord). t.thread_id) c.thread_name) (summary_of (linux_file 0x8201 11) 0).crash ≡ Some (Some 7)
+unfolding number_at numbers_at array_at le name_at shape_of entries_from only_chosen sizes_before bytes_from
+linux-name = refl
+
+-- the same on Windows, where the first exception is the crash, whose address ran
+windows-crash : option_map looked_at (summary_of (linux_file 2 11) 0).crash ≡ Some (6 ∷ 5 ∷ [])
+unfolding number_at numbers_at array_at le name_at shape_of entries_from only_chosen sizes_before bytes_from
+windows-crash = refl
+
+-- two threads that were stopped
+stopped-crash : (summary_of (linux_file 0x8201 20) 0).crash ≡ None
+unfolding number_at numbers_at array_at le name_at shape_of entries_from only_chosen sizes_before bytes_from
+stopped-crash = refl
+
+stopped-counts : (summary_of (linux_file 0x8201 20) 0).counts ≡ record { streams = 5; threads = 0; modules = 3; exceptions = 2; ranges = 0; memory = 0 }
+unfolding number_at numbers_at array_at le name_at shape_of entries_from only_chosen sizes_before bytes_from
+stopped-counts = refl

@@ -1,0 +1,13 @@
+pub mod Context
+pub mod Crash
+pub mod Gathering
+pub mod Identity
+pub mod Keeping
+pub mod Looking
+pub mod Part
+pub mod Reach
+pub mod Search
+pub mod Summary
+pub mod Summing
+pub mod Walking
+pub mod Whole
