@@ -1,18 +1,20 @@
 -- What goes over a list a value at a time is what is said of the whole list.
 use Rattle.std.proofs.Common.{◌≡◌, ℕ, suc, ◌+◌, List, [], ◌∷◌, ◌++◌, Bool, Option, Some, None, length, refl, ap, sym, ◌∙◌, arith}
 use Rattle.std.specs.Prelude.{filter, flat_map, fold, sum}
+use Rattle.std.proofs.lemmas.Bool.Decides.{nat_tests}
 use Rattle.std.proofs.lemmas.List.Elements.{filter-append}
 use Rattle.std.proofs.lemmas.List.Sums.{sum_by-cons}
 use Rattle.mdmp_source.specs.Count.{raised}
 use Rattle.mdmp_lister.specs.Format.Item.{plain}
+use Rattle.mdmp_wire.specs.declared.module.ModuleRecord.{ModuleRecord}
 use Rattle.mdmp_lister.specs.declared.item.Item.{Item}
 use Rattle.mdmp_lister.specs.declared.item.Item.TheVariants as items
 use Rattle.mdmp_summary.specs.Crash.{breaks_nothing, exceptions_seen, stops_nothing}
 use Rattle.mdmp_summary.specs.Gathering.{exceptions_in, gathered, memory_in, modules_in, nothing_gathered, ranges_in, streams_in, systems_in, thread_names_in, threads_in}
 use Rattle.mdmp_summary.specs.Keeping.{counted_on, first, kept, summed_on}
-use Rattle.mdmp_summary.specs.Looking.{gathering_of, searched}
+use Rattle.mdmp_summary.specs.Gathered.{gathering_of, searched}
 use Rattle.mdmp_summary.specs.Part.{parts_outside, parts_seen}
-use Rattle.mdmp_summary.specs.Search.{found, holds, is_name_of, nothing_found}
+use Rattle.mdmp_summary.specs.Search.{begins_below, found, higher, highest, holds, is_name_of, nearest_below, nothing_found}
 use Rattle.mdmp_summary.specs.Summary.{exceptions, modules, outside, systems, thread_names}
 use Rattle.mdmp_summary.specs.declared.gathering.Gathering.{Gathering}
 use Rattle.mdmp_summary.specs.declared.part.PartOutside.{PartOutside}
@@ -140,6 +142,33 @@ gathered_all items = gathered_over nothing_gathered items ∙ (λ i. record {
   outside = record { count = counted_on-is 0 (outside items) i; first = kept-none (outside items) i };
 })
 
+-- ---- the module with the greatest base
+
+higher-none : (m : Option ModuleRecord) → m ≡ higher m None
+higher-none None = refl
+higher-none (Some m) = refl
+
+tests_then : (a b c : ModuleRecord) → higher (higher (Some a) (Some b)) (Some c) ≡ higher (Some a) (higher (Some b) (Some c))
+tests_then a b c = grind (arith, nat_tests)
+
+higher-assoc : (a b c : Option ModuleRecord) → higher (higher a b) c ≡ higher a (higher b c)
+higher-assoc None b c = refl
+higher-assoc (Some a) None c = refl
+higher-assoc (Some a) (Some b) None = sym (higher-none (higher (Some a) (Some b)))
+higher-assoc (Some a) (Some b) (Some c) = tests_then a b c
+
+highest-append : (xs ys : List ModuleRecord) → highest (xs ++ ys) ≡ higher (highest xs) (highest ys)
+highest-append [] ys = refl
+highest-append (x ∷ xs) ys = ap (higher (Some x)) (highest-append xs ys) ∙ sym (higher-assoc (Some x) (highest xs) (highest ys))
+
+-- what is nearest among some modules and then some others
+nearest-append : (address : ℕ) (old : Option ModuleRecord) (xs ys : List ModuleRecord)
+    → higher (higher old (nearest_below address xs)) (nearest_below address ys) ≡ higher old (nearest_below address (xs ++ ys))
+nearest-append address old xs ys =
+    let below = begins_below address in
+    higher-assoc old (highest (filter below xs)) (highest (filter below ys))
+    ∙ ap (higher old) (sym (highest-append (filter below xs) (filter below ys)) ∙ ap highest (sym (filter-append below xs ys)))
+
 -- ---- what is found
 
 abbrev found_on : Search → List Item → Search
@@ -147,15 +176,17 @@ found_on old items = record {
   address = old.address;
   thread = old.thread;
   holder = kept old.holder (filter (holds old.address) (modules items));
+  nearest = higher old.nearest (nearest_below old.address (modules items));
   name = kept old.name (filter (is_name_of old.thread) (thread_names items));
 }
 
 found_over : (old : Search) (items : List Item) → fold found old items ≡ found_on old items
-found_over old [] = refl
+found_over old [] = λ i. record { address = old.address; thread = old.thread; holder = old.holder; nearest = higher-none old.nearest i; name = old.name }
 found_over old (x ∷ xs) = found_over (found old x) xs ∙ (λ i. record {
   address = old.address;
   thread = old.thread;
   holder = kept-filter (holds old.address) old.holder (modules_in x) (modules xs) i;
+  nearest = nearest-append old.address old.nearest (modules_in x) (modules xs) i;
   name = kept-filter (is_name_of old.thread) old.name (thread_names_in x) (thread_names xs) i;
 })
 
@@ -164,5 +195,6 @@ found_all address thread items = found_over (nothing_found address thread) items
   address = address;
   thread = thread;
   holder = kept-none (filter (holds address) (modules items)) i;
+  nearest = nearest_below address (modules items);
   name = kept-none (filter (is_name_of thread) (thread_names items)) i;
 })

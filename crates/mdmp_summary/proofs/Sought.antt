@@ -1,13 +1,10 @@
 -- A listing of all entries, gone over again from its first one.
-use Rattle.std.proofs.Common.{◌≡◌, ℕ, zero, suc, ◌-◌, ◌<◌, List, Option, Some, false, ap, ◌∙◌, arith, refl}
+use Rattle.std.proofs.Common.{◌≡◌, ℕ, zero, suc, ◌-◌, ◌<◌, List, Option, Some, ap, ◌∙◌, arith, refl}
 use Rattle.std.specs.Prelude.{map}
 use Rattle.std.specs.Option.{option_map}
 use Rattle.mdmp_lister.specs.declared.choice.Choice.{Choice}
 use Rattle.mdmp_lister.specs.declared.choice.Choice.TheVariants.{All}
-use Rattle.mdmp_lister.specs.declared.fault.FaultKind.{FaultKind}
-use Rattle.mdmp_lister.specs.declared.fault.FaultKind.TheVariants.{Source, Budget}
-use Rattle.mdmp_lister.specs.Fault.{IsUnobtained, is_unobtained}
-use Rattle.mdmp_lister.specs.Format.Listing.{Run, all_joined, entries_from, entry_count, entry_listing, entry_of, joined, listing, listing_sought, nothing, only_chosen}
+use Rattle.mdmp_lister.specs.Format.Listing.{Run, all_joined, entries_from, entry_count, entry_listing, entry_of, joined, listing, listing_sought, only_chosen}
 
 -- the n entries from the first one on
 abbrev first_entries : List ℕ → ℕ → ℕ → Run
@@ -22,13 +19,6 @@ sought_from F limit (suc m) some = let e : suc m - 1 ≡ m = omega arith in rw e
 sought_all : (F : List ℕ) (limit : ℕ) → 0 < entry_count F → listing_sought F All limit 0 ≡ listing F All limit
 sought_all F limit some = sought_from F limit (entry_count F) some
 
-none_from : (F : List ℕ) (limit n : ℕ) → n ≡ 0 → first_entries F limit n ≡ nothing
-unfolding entries_from only_chosen
-none_from F limit n e = rw e refl
-
-pub listing_none : (F : List ℕ) (limit : ℕ) → entry_count F ≡ 0 → listing F All limit ≡ nothing
-listing_none F limit none = none_from F limit (entry_count F) none
-
 -- where the first entry of a known file is sought, all is left
 pub sought_left : (F : List ℕ) (choice : Choice) (limit : ℕ) (content : Option (List ℕ)) → content ≡ Some F → choice ≡ All → 0 < entry_count F
     → option_map (λ G. listing_sought G choice limit 0) content ≡ Some (listing F All limit)
@@ -36,10 +26,3 @@ sought_left F choice limit content known all some =
     ap (option_map (λ G. listing_sought G choice limit 0)) known
     ∙ ap (λ (c : Choice). Some (listing_sought F c limit 0)) all
     ∙ ap Some (sought_all F limit some)
-
--- ---- faults
-
-pub obtained : (kind : FaultKind) → is_unobtained kind ≡ false → IsUnobtained kind → ⊥
-obtained (Source fault) same = λ _. cc
-obtained Budget same = λ _. cc
-obtained _ same = λ is. is

@@ -1,4 +1,4 @@
--- What the items of a listing say, kind by kind, and what is gathered of them an item at a time.
+-- What an item is, kind by kind, and what is gathered an item at a time.
 use Rattle.std.specs.Prelude.{ℕ, List, [], ◌∷◌, None}
 use Rattle.mdmp_source.specs.declared.location.Extent.{Extent}
 use Rattle.mdmp_source.specs.declared.location.Extent.TheVariants.{Empty, Absent, Inside, Outside}
@@ -16,7 +16,7 @@ use Rattle.mdmp_summary.specs.Keeping.{counted_on, kept, summed_on}
 use Rattle.mdmp_summary.specs.Part.{parts_outside, parts_seen}
 use Rattle.mdmp_summary.specs.declared.gathering.Gathering.{Gathering}
 
--- ---- what an item is
+-- ---- an item, by its kind: a list of one or none
 
 abbrev pub streams_in : Item → List StreamItem
 streams_in (items.Stream x) = x ∷ []
@@ -46,7 +46,7 @@ abbrev pub ranges_in : Item → List RangeItem
 ranges_in (items.Range x) = x ∷ []
 ranges_in x = []
 
--- how many bytes of a range of this extent and size lie inside the file: all of them, or none
+-- how many bytes of a range of this extent and size lie inside the file: all or none
 abbrev pub inside_bytes : Extent → ℕ → ℕ
 inside_bytes Inside size = size
 inside_bytes Empty size = 0
@@ -69,7 +69,7 @@ nothing_gathered = record {
   outside = record { count = 0; first = None };
 }
 
--- once an item was met
+-- after an item
 abbrev pub gathered : Gathering → Item → Gathering
 gathered old x = record {
   system = kept old.system (systems_in x);

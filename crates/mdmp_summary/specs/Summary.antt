@@ -1,5 +1,5 @@
--- What a dump says of a crash, and of itself: over the items of its listing, which may end at a fault.
-use Rattle.std.specs.Prelude.{ℕ, List, length, flat_map, filter, min, sum, Option, Some, None}
+-- What a dump tells of a crash and of itself, by the items of all its entries.
+use Rattle.std.specs.Prelude.{ℕ, ◌-◌, List, length, flat_map, filter, min, sum, Option, Some, None}
 use Rattle.std.specs.Option.{option_map}
 use Rattle.mdmp_source.specs.Extent.{extent_of}
 use Rattle.mdmp_source.specs.Range.{bytes_at}
@@ -10,17 +10,16 @@ use Rattle.mdmp_wire.specs.Header.{header_at}
 use Rattle.mdmp_wire.specs.declared.module.ModuleRecord.{ModuleRecord}
 use Rattle.mdmp_wire.specs.declared.system.SystemRecord.{SystemRecord}
 use Rattle.mdmp_wire.specs.declared.thread_name.ThreadNameRecord.{ThreadNameRecord}
-use Rattle.mdmp_lister.specs.declared.choice.Choice.TheVariants.{All}
 use Rattle.mdmp_lister.specs.declared.item.ExceptionItem.{ExceptionItem}
 use Rattle.mdmp_lister.specs.declared.item.Item.{Item}
-use Rattle.mdmp_lister.specs.Format.Listing.{Run, listing}
+use Rattle.mdmp_summary.specs.BadEntries.{all_items, entry_faults, told_bad}
 use Rattle.mdmp_summary.specs.Context.{registers_at}
 use Rattle.mdmp_summary.specs.Crash.{crash_on, platform_of}
 use Rattle.mdmp_summary.specs.Gathering.{exceptions_in, memory_in, modules_in, ranges_in, streams_in, systems_in, thread_names_in, threads_in}
 use Rattle.mdmp_summary.specs.Keeping.{counted, first}
 use Rattle.mdmp_summary.specs.Part.{parts_outside}
 use Rattle.mdmp_summary.specs.Reach.{reached_on}
-use Rattle.mdmp_summary.specs.Search.{holds, is_name_of}
+use Rattle.mdmp_summary.specs.Search.{holds, is_name_of, nearest_below}
 use Rattle.mdmp_summary.specs.declared.context.Registers.{Registers}
 use Rattle.mdmp_summary.specs.declared.crash.Platform.{Platform}
 use Rattle.mdmp_summary.specs.declared.crash.Platform.TheVariants.{Apple, Linux, Other, Windows}
@@ -28,6 +27,7 @@ use Rattle.mdmp_summary.specs.declared.gathering.ItemCounts.{ItemCounts}
 use Rattle.mdmp_summary.specs.declared.part.PartOutside.{PartOutside}
 use Rattle.mdmp_summary.specs.declared.part.PartsOutside.{PartsOutside}
 use Rattle.mdmp_summary.specs.declared.summary.Crash.{Crash}
+use Rattle.mdmp_summary.specs.declared.summary.ModulePlace.{ModulePlace}
 use Rattle.mdmp_summary.specs.declared.summary.Summary.{Summary}
 
 -- ---- the items, kind by kind
@@ -64,7 +64,7 @@ told_outside parts = record { count = counted (length parts); first = first part
 
 -- ---- where the thread was
 
--- of a context so many bytes are read at most: the three registers of each known layout stand in them
+-- so many bytes of a context are read at most; the three registers of each known layout are among them
 abbrev pub context_room : ℕ
 context_room = 272
 
@@ -75,7 +75,7 @@ registers_inside F architecture at Empty = None
 registers_inside F architecture at Absent = None
 registers_inside F architecture at Outside = None
 
--- the registers in the context at a location, where the system is known
+-- the registers in the context at a location, if the system is known
 abbrev pub registers_of : List ℕ → Option SystemRecord → Location → Option Registers
 registers_of F (Some system) at = registers_inside F system.processor_architecture at (extent_of at (length F))
 registers_of F None at = None
@@ -84,8 +84,8 @@ abbrev pub platform_in : Option SystemRecord → Platform
 platform_in (Some system) = platform_of system.platform_id
 platform_in None = Other
 
--- the address that ran: on Windows ExceptionAddress, elsewhere the instruction pointer, or ExceptionAddress where that is
--- not known
+-- the address that ran: on Windows ExceptionAddress, on other systems the instruction pointer, or ExceptionAddress if there
+-- are no registers
 abbrev pub address_ran : Platform → ℕ → Option Registers → ℕ
 address_ran Windows address registers = address
 address_ran Linux address (Some r) = r.instruction
@@ -97,35 +97,44 @@ address_ran Other address None = address
 
 -- ---- the crash
 
+-- a module, and how far an address is above its base
+abbrev pub place_of : ℕ → ModuleRecord → ModulePlace
+place_of address m = record { fields = m; offset = address - m.base_of_image }
+
+-- the nearest module, if no module holds the address
+abbrev pub near_of : Option ModuleRecord → Option ModuleRecord → Option ModuleRecord
+near_of (Some holder) nearest = None
+near_of None nearest = nearest
+
 -- what is told of the exception that is the crash, of a dump of this system
 abbrev pub crash_told : List ℕ → List Item → Option SystemRecord → ExceptionItem → Crash
 crash_told F items system x =
     let registers = registers_of F system x.fields.thread_context in
     let address = address_ran (platform_in system) x.fields.exception_address registers in
+    let holder = first (filter (holds address) (modules items)) in
     record {
       exception = x;
       registers = registers;
       address = address;
       reached = reached_on (platform_in system) x.fields;
-      holder = first (filter (holds address) (modules items));
+      holder = option_map (place_of address) holder;
+      near = option_map (place_of address) (near_of holder (nearest_below address (modules items)));
       thread_name = first (filter (is_name_of x.fields.thread_id) (thread_names items));
     }
 
 -- ---- a whole file
 
-abbrev pub summary_in : List ℕ → Run → Summary
-summary_in F run =
-    let system = first (systems run.items) in
+-- the summary of a file that can be listed, where a name of more than `limit` bytes is told by its length
+abbrev pub summary_of : List ℕ → ℕ → Summary
+summary_of F limit =
+    let items = all_items F limit in
+    let system = first (systems items) in
     record {
       header = header_at F 0;
       system = system;
-      program = first (modules run.items);
-      crash = option_map (crash_told F run.items system) (crash_on (platform_in system) (exceptions run.items));
-      counts = item_counts run.items;
-      outside = told_outside (outside run.items);
-      fault = run.fault;
+      program = first (modules items);
+      crash = option_map (crash_told F items system) (crash_on (platform_in system) (exceptions items));
+      counts = item_counts items;
+      outside = told_outside (outside items);
+      bad = told_bad (entry_faults F limit);
     }
-
--- of a file that can be listed, where names of more than `limit` bytes are told by their length
-abbrev pub summary_of : List ℕ → ℕ → Summary
-summary_of F limit = summary_in F (listing F All limit)

@@ -1,4 +1,4 @@
-//! What a first look at all items gathers.
+//! What the first pass gathers from all items.
 ghost use Rattle.std.specs.Prelude.{◌≡◌};
 ghost use Rattle.mdmp_summary.specs.Gathering.{inside_bytes};
 
@@ -10,7 +10,7 @@ use mdmp_lister::{ExceptionItem, Item, ModuleItem, RangeItem, ThreadItem};
 use mdmp_source::Extent;
 use mdmp_wire::{ModuleRecord, SystemRecord};
 
-/// How many items of each kind a listing gives, up to its first fault.
+/// How many items of each kind the entries have, each entry up to its own error.
 #[derive(Clone, Copy, Debug, PartialEq, Eq)]
 pub struct ItemCounts {
     /// Entries of the directory.
@@ -20,11 +20,11 @@ pub struct ItemCounts {
     pub exceptions: u128,
     /// Ranges of memory, of both kinds of memory list.
     pub ranges: u128,
-    /// The bytes of those ranges that lie inside the file.
+    /// The bytes of the ranges that lie inside the file.
     pub memory: u128,
 }
 
-/// What was gathered of the items so far: of each kind the first, and counts.
+/// What was gathered so far: of each kind the first item that counts, and numbers.
 #[derive(Clone, Copy)]
 pub(crate) struct Gathering {
     pub(crate) system: Option<SystemRecord>,
@@ -38,7 +38,7 @@ impl Gathering {
     ghost use Rattle.mdmp_lister.specs.declared.item.Item.TheVariants.{Exception, Module, Range, Thread};
     ghost use Rattle.mdmp_summary.specs.Gathering.{gathered, nothing_gathered};
 
-    /// No item was met yet.
+    /// Before the first item.
     pub(crate) fn new() -> Self
         ensures { result ≡ nothing_gathered }
     {
@@ -111,7 +111,7 @@ impl Gathering {
         self.outside.look(x.extent, memory);
     }
 
-    /// Meets the next item.
+    /// Takes the next item.
     fn gather(&mut self, item: &Item<'_>)
         ensures { self.new ≡ gathered self.old item.now }
     {
@@ -127,7 +127,7 @@ impl Gathering {
     }
 }
 
-/// How many bytes of a range lie inside the file: all of them, or none.
+/// How many bytes of a range lie inside the file: all or none.
 fn inside_bytes(range: &RangeItem) -> u128
     ensures { result ≡ inside_bytes range.now.extent range.now.size }
 {

@@ -1,22 +1,24 @@
-//! What a second look at all items finds: the module that holds an address, and the name of a thread.
-ghost use Rattle.std.specs.Prelude.{◌≡◌};
-ghost use Rattle.mdmp_summary.specs.Search.{holds};
+//! What is searched among all items: the modules at an address, and the name of a thread.
+ghost use Rattle.std.specs.Prelude.{◌≡◌, Some};
+ghost use Rattle.mdmp_summary.specs.Search.{higher, holds};
 
 use crate::fold::Fold;
 use crate::keeping::keep;
 use mdmp_lister::Item;
 use mdmp_wire::{ModuleRecord, ThreadNameRecord};
 
-/// What is looked for, and what was found so far: of each the first.
+/// What is searched, and what was found so far.
 #[derive(Clone, Copy)]
 pub(crate) struct Search {
     /// An address of the dumped process.
     pub(crate) address: u64,
     /// The id of a thread.
     pub(crate) thread: u32,
-    /// The module that holds the address.
+    /// The first module that holds the address.
     pub(crate) holder: Option<ModuleRecord>,
-    /// The name of the thread.
+    /// The module with the greatest base at or below the address.
+    pub(crate) nearest: Option<ModuleRecord>,
+    /// The first name of the thread.
     pub(crate) name: Option<ThreadNameRecord>,
 }
 
@@ -28,10 +30,24 @@ fn holds(fields: &ModuleRecord, address: u64) -> bool
     fields.base_of_image <= address && u128::from(address) < end
 }
 
+/// Keeps a module, unless the one that was kept before it has the same base or a greater one.
+fn keep_higher(place: &mut Option<ModuleRecord>, fields: &ModuleRecord)
+    ensures { place.new ≡ higher place.old (Some fields.now) }
+{
+    match place {
+        Some(kept) => {
+            if kept.base_of_image < fields.base_of_image {
+                *place = Some(*fields);
+            }
+        }
+        None => *place = Some(*fields),
+    }
+}
+
 impl Search {
     ghost use Rattle.mdmp_summary.specs.Search.{found, module_found, name_found, nothing_found};
 
-    /// Nothing was found yet.
+    /// Before the first item.
     pub(crate) fn new(address: u64, thread: u32) -> Self
         ensures { result ≡ nothing_found address thread }
     {
@@ -39,6 +55,7 @@ impl Search {
             address,
             thread,
             holder: None,
+            nearest: None,
             name: None,
         }
     }
@@ -46,6 +63,9 @@ impl Search {
     fn take_module(&mut self, fields: &ModuleRecord)
         ensures { self.new ≡ module_found self.old fields.now }
     {
+        if fields.base_of_image <= self.address {
+            keep_higher(&mut self.nearest, fields);
+        }
         if holds(fields, self.address) {
             keep(&mut self.holder, *fields);
         }
@@ -59,7 +79,7 @@ impl Search {
         }
     }
 
-    /// Meets the next item.
+    /// Takes the next item.
     fn search(&mut self, item: &Item<'_>)
         ensures { self.new ≡ found self.old item.now }
     {

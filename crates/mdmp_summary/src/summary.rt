@@ -1,5 +1,6 @@
 //! What a summary is.
 
+use crate::bad_entries::BadEntries;
 use crate::context::Registers;
 use crate::gathering::ItemCounts;
 use crate::part::PartsOutside;
@@ -8,25 +9,39 @@ use mdmp_lister::{ExceptionItem, ListFault, OpenFault};
 use mdmp_source::SourceFault;
 use mdmp_wire::{Header, ModuleRecord, SystemRecord, ThreadNameRecord};
 
+/// A module, and an address at its base or above it.
+#[derive(Clone, Copy, Debug, PartialEq, Eq)]
+pub struct ModulePlace {
+    /// The record of the module.
+    pub fields: ModuleRecord,
+    /// How many bytes the address is above `BaseOfImage`.
+    pub offset: u64,
+}
+
 /// The crash of a dump: the first exception record that is one.
 #[derive(Clone, Copy, Debug, PartialEq, Eq)]
 pub struct Crash {
-    /// The record, and what its `ThreadContext` names.
+    /// The record, and the extent of its `ThreadContext`.
     pub exception: ExceptionItem,
-    /// Where the thread was; none where its context is not inside the file or its layout is not known.
+    /// The registers of the thread. There are none if its context lies outside the file, or if its layout is
+    /// not known.
     pub registers: Option<Registers>,
-    /// The address that ran: on Windows `ExceptionAddress`, elsewhere the instruction pointer, or
-    /// `ExceptionAddress` where that is not known.
+    /// The address that ran: on Windows `ExceptionAddress`, on other systems the instruction pointer, or
+    /// `ExceptionAddress` if there are no registers.
     pub address: u64,
-    /// The address that the thread reached for, where the code says so.
+    /// The address that the thread tried to reach, if the code tells it.
     pub reached: Option<Reached>,
     /// The first module that holds the address that ran.
-    pub holder: Option<ModuleRecord>,
+    pub holder: Option<ModulePlace>,
+    /// If no module holds the address that ran: the module with the greatest base at or below it.
+    pub near: Option<ModulePlace>,
     /// The first name of the thread.
     pub thread_name: Option<ThreadNameRecord>,
 }
 
-/// What a dump says of a crash, and of itself. Names are places in the file: mdmp_lister reads them.
+/// What a dump tells of a crash and of itself. A name is an RVA here: mdmp_lister reads it.
+///
+/// It covers all entries, each up to its own error.
 #[derive(Clone, Copy, Debug, PartialEq, Eq)]
 pub struct Summary {
     /// The header of the file.
@@ -35,14 +50,14 @@ pub struct Summary {
     pub system: Option<SystemRecord>,
     /// The first module: the program.
     pub program: Option<ModuleRecord>,
-    /// The crash, where there is one.
+    /// The crash, if there is one.
     pub crash: Option<Crash>,
-    /// How much was listed.
+    /// How many items of each kind there are.
     pub counts: ItemCounts,
-    /// Which parts of the records lie outside the file.
+    /// The parts of records that lie outside the file.
     pub outside: PartsOutside,
-    /// The first fault of the listing. What is listed before it counts.
-    pub fault: Option<ListFault>,
+    /// The entries with an error, which are those that `check` calls bad.
+    pub bad: BadEntries,
 }
 
 /// Why there is no summary.
@@ -50,8 +65,8 @@ pub struct Summary {
 pub enum SummaryFault {
     /// The file can't be listed at all.
     Opening(OpenFault),
-    /// Bytes of the listing were not obtained: the store failed, or the budget was reached.
+    /// Bytes that an entry needs were not read: the store failed, or the read limit was reached.
     List(ListFault),
-    /// The store failed where the registers were read.
+    /// The store failed while the registers were read.
     Source(SourceFault),
 }

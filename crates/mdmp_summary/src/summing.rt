@@ -1,23 +1,25 @@
-//! A summary, made by two looks at a file.
+//! A summary, made by two passes over a file.
 ghost use Rattle.std.specs.Prelude.{◌≡◌, ℕ, List, None, Some, false, IfErr, IfOk, MatchResult};
-ghost use Rattle.mdmp_source.specs.Source.{FetchesAtMost};
+ghost use Rattle.std.specs.Option.{option_map};
 ghost use Rattle.mdmp_source.specs.Store.{IsGood};
-ghost use Rattle.mdmp_lister.specs.Format.Listing.{listing};
-ghost use Rattle.mdmp_lister.specs.Format.Refusal.{directory_refusal};
+ghost use Rattle.mdmp_lister.specs.Memory.{walk_fault};
 ghost use Rattle.mdmp_lister.specs.Walker.{is_failed};
 ghost use Rattle.mdmp_lister.specs.declared.choice.Choice.TheVariants.{All};
-ghost use Rattle.mdmp_summary.specs.Looking.{IsSameListing};
-ghost use Rattle.mdmp_summary.specs.Summary.{address_ran, crash_told, platform_in, summary_of};
-ghost use Rattle.mdmp_summary.specs.Summing.{IsLookFault, IsOpeningFault, IsRefusedLook, IsSummaryFault, IsUnreadIn, crash_cost, summary_cost};
+ghost use Rattle.mdmp_summary.specs.Spending.{Spends};
+ghost use Rattle.mdmp_summary.specs.BadEntries.{all_items};
+ghost use Rattle.mdmp_summary.specs.Summary.{address_ran, crash_told, near_of, place_of, platform_in, summary_of};
+ghost use Rattle.mdmp_summary.specs.Summing.{IsCallFault, IsFileFault, IsSummaryFault, IsUnreadIn};
+ghost use Rattle.mdmp_summary.specs.Walking.{IsSameListing};
 
 use crate::context::Registers;
+use crate::context_reading::read_registers;
 use crate::crash::Platform;
-use crate::looking::{gather_rest, read_registers, search_all};
+use crate::passes::{gather_all, search_all};
 use crate::reach::reached_on;
-use crate::summary::{Crash, Summary, SummaryFault};
+use crate::summary::{Crash, ModulePlace, Summary, SummaryFault};
 use mdmp_lister::{Choice, ExceptionItem, Limits, Walker};
 use mdmp_source::{Source, Store};
-use mdmp_wire::SystemRecord;
+use mdmp_wire::{ModuleRecord, SystemRecord};
 use std::alloc::Allocator;
 
 /// The platform that a system record names.
@@ -41,8 +43,30 @@ fn address_ran(platform: Platform, address: u64, registers: Option<Registers>) -
     }
 }
 
-/// Tells the crash that an exception is, of a dump of this system.
-#[tactic(auto, using(crate::proofs::Told::same_listing_then))]
+/// A module, and how far an address is above its base.
+fn place_of(address: u64, fields: Option<ModuleRecord>) -> Option<ModulePlace>
+    ensures { result ≡ option_map (place_of address) fields }
+{
+    match fields {
+        Some(fields) => Some(ModulePlace {
+            fields,
+            offset: address.saturating_sub(fields.base_of_image),
+        }),
+        None => None,
+    }
+}
+
+/// The nearest module, if no module holds the address.
+fn near_of(holder: Option<ModuleRecord>, nearest: Option<ModuleRecord>) -> Option<ModuleRecord>
+    ensures { result ≡ near_of holder nearest }
+{
+    match holder {
+        Some(_) => None,
+        None => nearest,
+    }
+}
+
+/// Tells the crash that an exception is, by the system of the dump.
 fn tell_crash<S: Store + Drop, A: Allocator + Copy>(
     walker: &mut Walker<S, A>,
     system: Option<SystemRecord>,
@@ -51,12 +75,10 @@ fn tell_crash<S: Store + Drop, A: Allocator + Copy>(
     requires all { walker.old.list.choice ≡ All }
     requires going { is_failed walker.old.list.stop ≡ false }
     ensures tells { (file : List ℕ) → walker.old.list.source.store.content ≡ Some file
-        → IfOk result (λ crash. crash ≡ crash_told file (listing file All walker.old.list.limit).items system exception) }
-    ensures unobtained { IfErr result IsLookFault }
+        → IfOk result (λ crash. crash ≡ crash_told file (all_items file walker.old.list.limit) system exception) }
+    ensures fault { IfErr result (IsCallFault walker.old.list walker.new.list) }
     ensures good { (file : List ℕ) → IsGood walker.old.list.source.store file → IfErr result (λ fault. IsUnreadIn fault → ⊥) }
-    ensures refused { IfErr result (IsRefusedLook walker.new.list) }
-    ensures fetches { (file : List ℕ) → walker.old.list.source.store.content ≡ Some file
-        → FetchesAtMost (crash_cost file walker.old.list) walker.old.list.source walker.new.list.source }
+    ensures spends { Spends 1 1 walker.old walker.new }
     ensures same { IsSameListing walker.old.list walker.new.list }
 {
     let registers = match read_registers(walker, system, exception.fields.thread_context) {
@@ -71,37 +93,36 @@ fn tell_crash<S: Store + Drop, A: Allocator + Copy>(
             registers,
             address,
             reached: reached_on(platform, &exception.fields),
-            holder: search.holder,
+            holder: place_of(address, search.holder),
+            near: place_of(address, near_of(search.holder, search.nearest)),
             thread_name: search.name,
         }),
         Err(fault) => Err(SummaryFault::List(fault)),
     }
 }
 
-/// Makes the summary of what a walker lists, of which nothing was given yet: by one look at its listing
-/// and, where it has a crash, a second one and the bytes of a context. It takes no memory.
+/// Makes the summary of the file that a walker has open: by one pass over all entries and, if there is a
+/// crash, a second one. It begins at the first entry, whatever the walker gave before. It takes no memory.
 ///
-/// The answer is a fault only where bytes were not obtained, by the store or within the budget. Then
-/// nothing more is fetched.
-#[tactic(auto, using(crate::proofs::Told::same_listing_then))]
+/// Both passes count against the walker's read limit. Of a context at most 272 bytes are read outside the
+/// listing, so they do not count.
+///
+/// It returns an error only if the store failed or the read limit was reached. After an error nothing more
+/// is read.
 pub fn summarize_listing<S: Store + Drop, A: Allocator + Copy>(
     walker: &mut Walker<S, A>,
 ) -> Result<Summary, SummaryFault>
     requires all { walker.old.list.choice ≡ All }
-    requires fresh { (file : List ℕ) → walker.old.list.source.store.content ≡ Some file
-        → walker.old.list.left ≡ Some (listing file All walker.old.list.limit) }
-    requires unread { walker.old.list.unread ≡ 0 }
+    requires going { is_failed walker.old.list.stop ≡ false }
     ensures sums { (file : List ℕ) → walker.old.list.source.store.content ≡ Some file
         → IfOk result (λ summary. summary ≡ summary_of file walker.old.list.limit) }
-    ensures unobtained { IfErr result IsLookFault }
+    ensures fault { IfErr result (IsCallFault walker.old.list walker.new.list) }
     ensures good { (file : List ℕ) → IsGood walker.old.list.source.store file → IfErr result (λ fault. IsUnreadIn fault → ⊥) }
-    ensures refused { IfErr result (IsRefusedLook walker.new.list) }
-    ensures fetches { (file : List ℕ) → walker.old.list.source.store.content ≡ Some file
-        → FetchesAtMost (summary_cost file walker.old.list) walker.old.list.source walker.new.list.source }
+    ensures spends { Spends 2 1 walker.old walker.new }
     ensures same { IsSameListing walker.old.list walker.new.list }
 {
     let header = walker.header();
-    let told = match gather_rest(walker) {
+    let told = match gather_all(walker) {
         Ok(told) => told,
         Err(fault) => return Err(SummaryFault::List(fault)),
     };
@@ -115,17 +136,19 @@ pub fn summarize_listing<S: Store + Drop, A: Allocator + Copy>(
     }
 }
 
-/// Opens a file and makes its summary. Memory is taken as the file is opened: the window, the directory
-/// and a name; behind that none is.
+/// Opens a file and makes its summary. Memory is taken while the file is opened: the window, the directory
+/// and a name, whose sum the limits bound. No memory is taken after that.
+///
+/// The read limit holds for the opening and both passes together.
 pub fn summarize<S: Store + Drop, A: Allocator + Copy>(
     alloc: A,
     source: Source<S>,
     limits: Limits,
 ) -> Result<Summary, SummaryFault>
     ensures sums { (file : List ℕ) → source.store.content ≡ Some file
-        → MatchResult result (λ summary. (directory_refusal file ≡ None) × (summary ≡ summary_of file limits.name)) (IsSummaryFault file) }
-    // A file of which every byte is given has a summary, unless it is refused or memory is wanting.
-    ensures succeeds { (file : List ℕ) → IsGood source.store file → limits.budget ≡ None → IfErr result (IsOpeningFault file) }
+        → MatchResult result (λ summary. (walk_fault limits file ≡ None) × (summary ≡ summary_of file limits.name)) (IsSummaryFault limits file) }
+    // If each read succeeds and there is no read limit, only the file itself or too little memory is an error.
+    ensures succeeds { (file : List ℕ) → IsGood source.store file → limits.budget ≡ None → IfErr result (IsFileFault limits file) }
 {
     match Walker::open(alloc, source, limits, Choice::All) {
         Ok(mut walker) => summarize_listing(&mut walker),
