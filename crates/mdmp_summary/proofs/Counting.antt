@@ -1,5 +1,5 @@
 -- A pass so far over a file that is known: its items, and the errors of entries.
-use Rattle.std.proofs.Common.{◌≡◌, ◌≤◌, ◌<◌, ◌+◌, ◌∙◌, ℕ, List, [], ◌∷◌, ◌++◌, Option, Some, None, ap, sym, refl, append_assoc, arith, length, length-append}
+use Rattle.std.proofs.Common.{◌≡◌, ◌≤◌, ◌+◌, ◌∙◌, ℕ, List, [], ◌∷◌, ◌++◌, Some, None, ap, sym, refl, append_assoc, arith, length, length-append}
 use Rattle.std.specs.Option.{option_map}
 use Rattle.std.specs.Prelude.{fold}
 use Rattle.std.proofs.lemmas.List.{append-nil}
@@ -12,7 +12,7 @@ use Rattle.mdmp_lister.specs.Lister.{ListerState, listing_behind}
 use Rattle.mdmp_summary.specs.BadEntries.{all_items, entry_faults, told_bad}
 use Rattle.mdmp_summary.specs.Keeping.{first, kept}
 use Rattle.mdmp_summary.specs.declared.bad_entries.BadEntries.{BadEntries}
-use Rattle.mdmp_summary.proofs.BadEntries.{all_left, faults_behind, faults_from_first, goes_on_behind, items_behind, items_from_first, listing_all, none_left}
+use Rattle.mdmp_summary.proofs.Entries.{all_left, faults_behind, faults_from_first, goes_on_behind, items_behind, items_from_first, listing_all, none_left}
 
 -- these errors were met, and these items given; the others are left from some entry on
 pub record CountsOn (F : List ℕ) (limit : ℕ) (now : ListerState) (met : List ListFault) (items : List Item) : Type 0 where

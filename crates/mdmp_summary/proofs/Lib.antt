@@ -1,8 +1,8 @@
-pub mod BadEntries
 mod ContextRows
 pub mod Contexts
 pub mod Counting
 mod CrashRows
+pub mod Entries
 pub mod Folded
 pub mod Folds
 mod IdentityRows

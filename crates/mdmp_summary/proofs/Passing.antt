@@ -1,5 +1,5 @@
 -- What a pass over all entries fetches, a look at a time.
-use Rattle.std.proofs.Common.{◌≡◌, ◌≤◌, ◌<◌, ◌+◌, ◌*◌, ◌^◌, ◌∙◌, ℕ, List, Result, Err, ap, arith, drop, refl, subst, sym, false}
+use Rattle.std.proofs.Common.{◌≡◌, ◌≤◌, ◌+◌, ◌*◌, ◌∙◌, ℕ, Result, Err, ap, arith, drop, refl, subst, sym, false}
 use Rattle.std.proofs.Math.Nat.{mul-le-mul_right}
 use Rattle.mdmp_lister.specs.declared.fault.ListFault.{ListFault}
 use Rattle.mdmp_lister.specs.declared.meter.Amount.{Amount}

@@ -1,13 +1,11 @@
 -- What a look and a pass fetch, by what was counted as each entry began.
-use Rattle.std.proofs.Common.{◌≡◌, ◌≤◌, ◌<◌, ◌+◌, ◌-◌, ◌*◌, ◌^◌, ◌∙◌, ℕ, zero, suc, List, Option, Some, None, Result, Ok, Err, Bool, true, false, ap, arith, drop, get_or, length, refl, slice_get, subst, sym, is_some}
-use Rattle.std.specs.Prelude.{IfSome, IsTrue}
+use Rattle.std.proofs.Common.{◌≡◌, ◌≤◌, ◌<◌, ◌+◌, ◌-◌, ◌*◌, ◌^◌, ◌∙◌, ℕ, zero, suc, List, Option, Some, None, Result, Ok, Err, true, false, ap, arith, drop, get_or, length, refl, slice_get, subst, sym}
 use Rattle.std.proofs.lemmas.Option.{get_or_from_slice_get, slice_get_within}
 use Rattle.mdmp_wire.specs.declared.entry.Entry.{Entry}
 use Rattle.mdmp_lister.specs.declared.choice.Choice.{Choice}
 use Rattle.mdmp_lister.specs.declared.choice.Choice.TheVariants.{All}
 use Rattle.mdmp_lister.specs.declared.fault.ListFault.{ListFault}
 use Rattle.mdmp_lister.specs.declared.item.Item.{Item}
-use Rattle.mdmp_lister.specs.declared.item.Item.TheVariants as items
 use Rattle.mdmp_lister.specs.declared.item.StreamItem.{StreamItem}
 use Rattle.mdmp_lister.specs.declared.meter.MeterCounts.{MeterCounts}
 use Rattle.mdmp_lister.specs.declared.position.Position.{Position}
@@ -17,7 +15,7 @@ use Rattle.mdmp_lister.specs.declared.step.Step.TheVariants as step
 use Rattle.mdmp_lister.specs.Following.{Cursor, Follows, GivesChosenEntry, GivesNextEntry, GoesOn, Standing}
 use Rattle.mdmp_lister.specs.Following as following
 use Rattle.mdmp_lister.specs.Format.Item.{plain}
-use Rattle.mdmp_lister.specs.Format.Listing.{is_chosen, stream_item}
+use Rattle.mdmp_lister.specs.Format.Listing.{is_chosen}
 use Rattle.mdmp_lister.specs.Format.Summary.{Summary, entry_begun, number_behind, summary_of}
 use Rattle.mdmp_lister.specs.Listed.{cost_of, entry_cost}
 use Rattle.mdmp_lister.specs.Lister.{AnswersNext, IsSameLister, ListerState, cursor_in}
@@ -26,7 +24,7 @@ use Rattle.mdmp_lister.specs.Walk.Positions.{mark_by, position_by}
 use Rattle.mdmp_lister.specs.Walker.{GivesEntry, WalkerLeaves, WalkerState, seeks}
 use Rattle.mdmp_lister.proofs.Listed.{cost_by-more, cost_by-passed}
 use Rattle.mdmp_lister.proofs.Summary.{summary_of-item_of, summary_of-plain}
-use Rattle.mdmp_summary.specs.Spending.{CountsNames, KeepsSettled, LookPaid, PassPaid, PaysLook, PaysPass, RisesByNames, ahead, ahead_after, all_listed, name_room, next_number, settled}
+use Rattle.mdmp_summary.specs.Spending.{CountsNames, KeepsSettled, LookPaid, PaysLook, RisesByNames, ahead, ahead_after, name_room, next_number, settled}
 
 -- ---- numbers
 
@@ -61,13 +59,13 @@ module _ (choice : Choice) (z : ℕ) (es : List Entry) (d : Entry) where
 -- ---- a Stream item begins an entry
 
 -- it is of the next chosen entry, or of the one that was sought
-record BeginsEntry (v : ListerState) (from : ℕ) (s : StreamItem) : Type 0 where
-  number : ℕ
-  entry : Entry
-  behind : from ≤ number
-  is : slice_get v.entries number ≡ Some entry
-  chosen : is_chosen v.choice entry.stream_type ≡ true
-  item_is : s ≡ record { entry = number; stream_type = entry.stream_type; location = entry.location }
+pub record BeginsEntry (v : ListerState) (from : ℕ) (s : StreamItem) : Type 0 where
+  pub number : ℕ
+  pub entry : Entry
+  pub behind : from ≤ number
+  pub is : slice_get v.entries number ≡ Some entry
+  pub chosen : is_chosen v.choice entry.stream_type ≡ true
+  pub item_is : s ≡ record { entry = number; stream_type = entry.stream_type; location = entry.location }
 
 -- an item begins the entry that its step does
 told_stream : (z : ℕ) (s : Step) (x : Item) → TellsItem z s (plain x) → (summary_of x).stream ≡ stream_told s

@@ -2,7 +2,7 @@
 use Rattle.std.proofs.Common.{◌≡◌, ℕ, ◌+◌, List, Option, None, Result, Ok, Err, refl, subst, sym, ◌∙◌, false, true}
 use Rattle.std.specs.Prelude.{IfErr, IfOk, IsTrue, MatchResult}
 use Rattle.mdmp_source.specs.Count.{raised}
-use Rattle.mdmp_source.specs.Source.{FetchesAtMost, FetchesSome, IsTold, SourceState}
+use Rattle.mdmp_source.specs.Source.{FetchesAtMost, FetchesSome, SourceState}
 use Rattle.mdmp_source.specs.SourceLaws.{fetches_then, told_later}
 use Rattle.mdmp_source.specs.Store.{IsGood}
 use Rattle.mdmp_lister.specs.declared.fault.FaultKind.{FaultKind}

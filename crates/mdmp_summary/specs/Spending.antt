@@ -1,12 +1,11 @@
 -- What a summary fetches: at most the listed streams twice, and for each name that is reached its length and the limit on names.
-use Rattle.std.specs.Prelude.{◌≡◌, ◌≤◌, ◌<◌, ◌+◌, ◌*◌, ◌^◌, ℕ, List, drop, Result, Ok, Err}
+use Rattle.std.specs.Prelude.{◌≡◌, ◌≤◌, ◌<◌, ◌+◌, ◌*◌, ◌^◌, ℕ, drop, Result, Ok, Err}
 use Rattle.mdmp_source.specs.Source.{FetchesAtMost}
 use Rattle.mdmp_lister.specs.declared.fault.ListFault.{ListFault}
 use Rattle.mdmp_lister.specs.declared.meter.MeterCounts.{MeterCounts}
 use Rattle.mdmp_lister.specs.declared.position.Position.{Position}
 use Rattle.mdmp_lister.specs.declared.position.Position.TheVariants.{Begun, Sought, Within}
 use Rattle.mdmp_lister.specs.Listed.{cost_of, entry_cost}
-use Rattle.mdmp_lister.specs.Lister.{ListerState}
 use Rattle.mdmp_lister.specs.Meter.{SpendsAside}
 use Rattle.mdmp_lister.specs.Walker.{WalkerState}
 use Rattle.mdmp_summary.specs.Summary.{context_room}

@@ -1,5 +1,5 @@
 -- What a summary of a file that was just opened fetches.
-use Rattle.std.proofs.Common.{◌≡◌, ◌≤◌, ◌+◌, ◌*◌, ◌∙◌, ℕ, ap, arith, refl, subst, sym}
+use Rattle.std.proofs.Common.{◌≡◌, ◌≤◌, ◌+◌, ◌*◌, ◌∙◌, ℕ, ap, arith, subst, sym}
 use Rattle.mdmp_source.specs.Source.{SourceState}
 use Rattle.mdmp_lister.specs.declared.choice.Choice.{Choice}
 use Rattle.mdmp_lister.specs.declared.limits.Limits.{Limits}

@@ -1,6 +1,5 @@
-use Rattle.std.proofs.Common.{Ok, Err, None, ◌≡◌, ◌<◌, ◌+◌, List, [], ◌∷◌, ◌++◌, ap, arith, refl, sym, ◌∙◌, false}
+use Rattle.std.proofs.Common.{Ok, Err, ◌≡◌, ◌<◌, ◌+◌, List, [], ◌∷◌, ◌++◌, ap, arith, refl, sym, ◌∙◌, false}
 use Rattle.std.specs.Prelude.{fold}
-use Rattle.mdmp_lister.specs.declared.fault.ListFault.{ListFault}
 use Rattle.mdmp_lister.specs.declared.item.Item.{Item}
 use Rattle.mdmp_wire.specs.declared.header.Header.{Header}
 use Rattle.mdmp_lister.specs.Fault.{is_unobtained}
@@ -8,7 +7,7 @@ use Rattle.mdmp_lister.specs.Format.Listing.{entry_count}
 use Rattle.mdmp_lister.specs.Lister.{is_for_good}
 use Rattle.mdmp_summary.specs.BadEntries.{told_bad}
 use Rattle.mdmp_summary.specs.declared.bad_entries.BadEntries.{BadEntries}
-use Rattle.mdmp_summary.proofs.BadEntries.{no_faults, no_items}
+use Rattle.mdmp_summary.proofs.Entries.{no_faults, no_items}
 use Rattle.mdmp_summary.proofs.Counting.{bad_on, counts_begin, counts_more, faults_end, folds_on, items_end, skipped_left}
 use Rattle.mdmp_summary.proofs.Passing.{passed_done, passed_end, passed_skip, passed_sought, spends_more, spends_none}
 use Rattle.mdmp_summary.proofs.Sought.{sought_left}

@@ -1,4 +1,4 @@
-use Rattle.std.proofs.Common.{◌≡◌, ◌+◌, ◌∙◌, [], ◌∷◌, ◌++◌, Some, None, refl, subst, sym}
+use Rattle.std.proofs.Common.{◌≡◌, ◌∙◌, [], ◌∷◌, ◌++◌, Some, None, refl, subst, sym}
 use Rattle.std.specs.Prelude.{slice_get}
 use Rattle.mdmp_wire.specs.declared.entry.Entry.{Entry}
 use Rattle.mdmp_lister.specs.Fault.{IsToldIn}
@@ -99,12 +99,15 @@ returns-in-Err-clause-fault g c =
     let leaves = rw c.in-Err.is at c.next.follows.holds-at-none in
     let f = c.in-Err.fault in
     let fetches = leaves.list.spends.fetches in
+    let old = c.args.walker.now.list in
+    let now = c.loop-item.walker.list in
+    let new = c.next.follows.lender-at-none.list in
     record {
-      told = subst (λ (e : Entry). IsToldIn e f c.args.walker.now.list.source _) (sym leaves.list.places.current)
-          (told_in_later _ f so_far.same_file.count _ _ _ so_far.same_file.fetches (leaves.list.told so_far.going));
+      told = subst (λ (e : Entry). IsToldIn e f old.source new.source) (sym leaves.list.places.current)
+          (told_in_later now.current f so_far.same_file.count old.source now.source new.source so_far.same_file.fetches (leaves.list.told so_far.going));
       unchanged = leaves.unchanged;
       refused = leaves.list.spends.refused;
-      next = run_fetch c.loop-item.walker.list _ f leaves.list.same fetches.same_content fetches.same_size leaves.list.places.current (leaves.list.next so_far.going);
+      next = run_fetch now new f leaves.list.same fetches.same_content fetches.same_size leaves.list.places.current (leaves.list.next so_far.going);
     }
 
 pub returns-in-Err-clause-good : goal.returns-in-Err-clause-good

@@ -1,5 +1,5 @@
 -- A listing ends at its first bad entry, and the entries after it follow.
-use Rattle.std.proofs.Common.{◌≡◌, ◌≤◌, ◌<◌, ◌+◌, ◌-◌, ◌∙◌, ℕ, zero, suc, List, [], ◌∷◌, ◌++◌, Option, Some, None, Result, Ok, Err, length, map, IfSome, refl, ap, sym, append_assoc, arith}
+use Rattle.std.proofs.Common.{◌≡◌, ◌≤◌, ◌<◌, ◌+◌, ◌-◌, ◌*◌, ◌∙◌, ℕ, zero, suc, List, [], ◌∷◌, ◌++◌, Option, Some, None, Result, Ok, Err, length, map, IfSome, refl, ap, sym, append_assoc, arith}
 use Rattle.std.specs.Prelude.{flat_map}
 use Rattle.mdmp_lister.specs.declared.choice.Choice.TheVariants.{All}
 use Rattle.mdmp_lister.specs.declared.fault.Fault.{Fault}
