@@ -6,7 +6,7 @@ use Rattle.mdmp_lister.specs.declared.item.ExceptionItem.{ExceptionItem}
 use Rattle.mdmp_wire.specs.declared.exception.ExceptionRecord.{ExceptionRecord}
 use Rattle.mdmp_summary.specs.Crash.{crash_on, platform_of}
 use Rattle.mdmp_summary.specs.Reach.{reached_on}
-use Rattle.mdmp_summary.specs.declared.reach.Access.TheVariants.{Execute, Unknown, Write}
+use Rattle.mdmp_summary.specs.declared.reach.AccessKind.TheVariants.{Execute, Unknown, Write}
 use Rattle.mdmp_summary.specs.declared.crash.Platform.TheVariants.{Apple, Linux, Other, Windows}
 
 -- an exception with this code

@@ -13,7 +13,7 @@ use Rattle.mdmp_lister.specs.Format.Item.{item_at}
 use Rattle.mdmp_lister.specs.Format.Kind.{kind_of}
 use Rattle.mdmp_lister.specs.Format.Listing.{Numbered, Run, all_joined, chosen, chosen_from, entries_from, entry_body, entry_count, entry_listing, entry_of, item_then, items_from, joined, listing, listing_from, only_chosen, records_of, shaped}
 use Rattle.mdmp_lister.specs.Format.Shape.{location_fault, shape_of}
-use Rattle.mdmp_summary.specs.BadEntries.{all_items, entry_faults, fault_in}
+use Rattle.mdmp_summary.specs.BadEntries.{all_items, entry_faults, entry_fault}
 
 -- ---- the error of an entry names it
 
@@ -50,7 +50,7 @@ abbrev run_of : List ℕ → ℕ → List Numbered → Run
 run_of F limit xs = all_joined (map (entry_listing F limit) xs)
 
 abbrev faults_by : List ℕ → ℕ → List Numbered → List ListFault
-faults_by F limit xs = flat_map (λ x. fault_in (entry_listing F limit x).fault) xs
+faults_by F limit xs = flat_map (λ x. entry_fault (entry_listing F limit x).fault) xs
 
 abbrev faults_of : List ℕ → ℕ → ℕ → ℕ → List ListFault
 faults_of F limit n k = faults_by F limit (some_entries F n k)
@@ -72,7 +72,7 @@ module _ (F : List ℕ) (limit m k : ℕ) (items : List Item) (more : Run) where
   first_bad-next : (fault : Option ListFault) (f : ListFault) → IfSome fault (λ g. g.entry ≡ k)
       → (more.fault ≡ Some f → IsFirstBad F limit m (k + 1) f (faults_of F limit m (k + 1)) (given_of F limit m (k + 1)) more.items)
       → (joined (record { items = items; fault = fault }) more).fault ≡ Some f
-      → IsFirstBad F limit (suc m) k f (fault_in fault ++ faults_of F limit m (k + 1)) (items ++ given_of F limit m (k + 1)) (joined (record { items = items; fault = fault }) more).items
+      → IsFirstBad F limit (suc m) k f (entry_fault fault ++ faults_of F limit m (k + 1)) (items ++ given_of F limit m (k + 1)) (joined (record { items = items; fault = fault }) more).items
   first_bad-next None f of behind same =
       let then = behind same in
       let fewer : suc m - (then.before + 1 + 1) ≡ m - (then.before + 1) = omega arith in
@@ -119,7 +119,7 @@ none_given F limit (suc m) k same =
     none_given-next run.items run.fault (run_of F limit (some_entries F m (k + 1))) (given_of F limit m (k + 1)) (none_given F limit m (k + 1)) same
 
 none_bad-next : (items : List Item) (fault : Option ListFault) (more : Run) (faults : List ListFault) → (more.fault ≡ None → faults ≡ [])
-    → (joined (record { items = items; fault = fault }) more).fault ≡ None → fault_in fault ++ faults ≡ []
+    → (joined (record { items = items; fault = fault }) more).fault ≡ None → entry_fault fault ++ faults ≡ []
 none_bad-next items None more faults behind same = behind same
 none_bad-next items (Some g) more faults behind same = absurd (cc)
 
@@ -174,9 +174,9 @@ listing_all F limit = let e : entry_count F ≡ entry_count F - 0 = omega arith 
 
 -- the errors of verdicts are those of the entries
 judged : (F : List ℕ) (limit : ℕ) (xs : List Numbered)
-    → flat_map (λ (v : Verdict). fault_in v.fault) (map (λ (x : Numbered). record { entry = x.number; fault = (entry_listing F limit x).fault }) xs) ≡ faults_by F limit xs
+    → flat_map (λ (v : Verdict). entry_fault v.fault) (map (λ (x : Numbered). record { entry = x.number; fault = (entry_listing F limit x).fault }) xs) ≡ faults_by F limit xs
 judged F limit [] = refl
-judged F limit (x ∷ xs) = ap (λ (fs : List ListFault). fault_in (entry_listing F limit x).fault ++ fs) (judged F limit xs)
+judged F limit (x ∷ xs) = ap (λ (fs : List ListFault). entry_fault (entry_listing F limit x).fault ++ fs) (judged F limit xs)
 
 pub faults_from_first : (F : List ℕ) (limit : ℕ) → entry_faults F limit ≡ faults_behind F limit 0
 faults_from_first F limit = judged F limit (chosen F All) ∙ (let e : entry_count F ≡ entry_count F - 0 = omega arith in ap (λ n. faults_of F limit n 0) e)

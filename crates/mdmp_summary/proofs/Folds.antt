@@ -10,16 +10,16 @@ use Rattle.mdmp_wire.specs.declared.module.ModuleRecord.{ModuleRecord}
 use Rattle.mdmp_lister.specs.declared.item.Item.{Item}
 use Rattle.mdmp_lister.specs.declared.item.Item.TheVariants as items
 use Rattle.mdmp_summary.specs.Crash.{breaks_nothing, exceptions_seen, stops_nothing}
-use Rattle.mdmp_summary.specs.Gathering.{exceptions_in, gathered, memory_in, modules_in, nothing_gathered, ranges_in, streams_in, systems_in, thread_names_in, threads_in}
+use Rattle.mdmp_summary.specs.Gathering.{exceptions_given, gathered_with, memory_given, modules_given, nothing_gathered, ranges_given, streams_given, systems_given, thread_names_given, threads_given}
 use Rattle.mdmp_summary.specs.Keeping.{counted_on, first, kept, summed_on}
-use Rattle.mdmp_summary.specs.Gathered.{gathering_of, searched}
+use Rattle.mdmp_summary.specs.Passes.{gathering_of, searched}
 use Rattle.mdmp_summary.specs.Part.{parts_outside, parts_seen}
-use Rattle.mdmp_summary.specs.Search.{begins_below, found, higher, highest, holds, is_name_of, nearest_below, nothing_found}
+use Rattle.mdmp_summary.specs.Search.{begins_below, found, higher, highest, holds_address, is_name_of, nearest_below, nothing_found}
 use Rattle.mdmp_summary.specs.Summary.{exceptions, modules, outside, systems, thread_names}
 use Rattle.mdmp_summary.specs.declared.gathering.Gathering.{Gathering}
 use Rattle.mdmp_summary.specs.declared.part.PartOutside.{PartOutside}
 use Rattle.mdmp_summary.specs.declared.part.PartsOutside.{PartsOutside}
-use Rattle.mdmp_summary.specs.declared.search.Search.{Search}
+use Rattle.mdmp_summary.specs.declared.search.CrashSearch.{CrashSearch}
 
 -- ---- one list behind another
 
@@ -49,11 +49,11 @@ parts_seen_append old xs ys = λ i. record { count = counted_on-append old.count
 -- ---- items whose names are lent
 
 -- the place that a name is lent from does not matter
-pub gathered_plain : (old : Gathering) (x : Item) → gathered old (plain x) ≡ gathered old x
+pub gathered_plain : (old : Gathering) (x : Item) → gathered_with old (plain x) ≡ gathered_with old x
 gathered_plain old (items.Module m) = refl
 gathered_plain old _ = refl
 
-pub found_plain : (old : Search) (x : Item) → found old (plain x) ≡ found old x
+pub found_plain : (old : CrashSearch) (x : Item) → found old (plain x) ≡ found old x
 found_plain old (items.Module m) = refl
 found_plain old _ = refl
 
@@ -91,38 +91,38 @@ gathered_on old items = record {
   program = kept old.program (modules items);
   exceptions = exceptions_seen old.exceptions (exceptions items);
   counts = record {
-    streams = counted_on old.counts.streams (flat_map streams_in items);
-    threads = counted_on old.counts.threads (flat_map threads_in items);
+    streams = counted_on old.counts.streams (flat_map streams_given items);
+    threads = counted_on old.counts.threads (flat_map threads_given items);
     modules = counted_on old.counts.modules (modules items);
     exceptions = counted_on old.counts.exceptions (exceptions items);
-    ranges = counted_on old.counts.ranges (flat_map ranges_in items);
-    memory = summed_on old.counts.memory (flat_map memory_in items);
+    ranges = counted_on old.counts.ranges (flat_map ranges_given items);
+    memory = summed_on old.counts.memory (flat_map memory_given items);
   };
   outside = parts_seen old.outside (outside items);
 }
 
-gathered_over : (old : Gathering) (items : List Item) → fold gathered old items ≡ gathered_on old items
+gathered_over : (old : Gathering) (items : List Item) → fold gathered_with old items ≡ gathered_on old items
 gathered_over old [] = refl
-gathered_over old (x ∷ xs) = gathered_over (gathered old x) xs ∙ (λ i. record {
-  system = kept-append old.system (systems_in x) (systems xs) i;
-  program = kept-append old.program (modules_in x) (modules xs) i;
+gathered_over old (x ∷ xs) = gathered_over (gathered_with old x) xs ∙ (λ i. record {
+  system = kept-append old.system (systems_given x) (systems xs) i;
+  program = kept-append old.program (modules_given x) (modules xs) i;
   exceptions = record {
-    first = kept-append old.exceptions.first (exceptions_in x) (exceptions xs) i;
-    unbroken = kept-filter breaks_nothing old.exceptions.unbroken (exceptions_in x) (exceptions xs) i;
-    unstopped = kept-filter stops_nothing old.exceptions.unstopped (exceptions_in x) (exceptions xs) i;
+    first = kept-append old.exceptions.first (exceptions_given x) (exceptions xs) i;
+    unbroken = kept-filter breaks_nothing old.exceptions.unbroken (exceptions_given x) (exceptions xs) i;
+    unstopped = kept-filter stops_nothing old.exceptions.unstopped (exceptions_given x) (exceptions xs) i;
   };
   counts = record {
-    streams = counted_on-append old.counts.streams (streams_in x) (flat_map streams_in xs) i;
-    threads = counted_on-append old.counts.threads (threads_in x) (flat_map threads_in xs) i;
-    modules = counted_on-append old.counts.modules (modules_in x) (modules xs) i;
-    exceptions = counted_on-append old.counts.exceptions (exceptions_in x) (exceptions xs) i;
-    ranges = counted_on-append old.counts.ranges (ranges_in x) (flat_map ranges_in xs) i;
-    memory = summed_on-append old.counts.memory (memory_in x) (flat_map memory_in xs) i;
+    streams = counted_on-append old.counts.streams (streams_given x) (flat_map streams_given xs) i;
+    threads = counted_on-append old.counts.threads (threads_given x) (flat_map threads_given xs) i;
+    modules = counted_on-append old.counts.modules (modules_given x) (modules xs) i;
+    exceptions = counted_on-append old.counts.exceptions (exceptions_given x) (exceptions xs) i;
+    ranges = counted_on-append old.counts.ranges (ranges_given x) (flat_map ranges_given xs) i;
+    memory = summed_on-append old.counts.memory (memory_given x) (flat_map memory_given xs) i;
   };
   outside = parts_seen_append old.outside (parts_outside x) (outside xs) i;
 })
 
-pub gathered_all : (items : List Item) → fold gathered nothing_gathered items ≡ gathering_of items
+pub gathered_all : (items : List Item) → fold gathered_with nothing_gathered items ≡ gathering_of items
 gathered_all items = gathered_over nothing_gathered items ∙ (λ i. record {
   system = kept-none (systems items) i;
   program = kept-none (modules items) i;
@@ -132,12 +132,12 @@ gathered_all items = gathered_over nothing_gathered items ∙ (λ i. record {
     unstopped = kept-none (filter stops_nothing (exceptions items)) i;
   };
   counts = record {
-    streams = counted_on-is 0 (flat_map streams_in items) i;
-    threads = counted_on-is 0 (flat_map threads_in items) i;
+    streams = counted_on-is 0 (flat_map streams_given items) i;
+    threads = counted_on-is 0 (flat_map threads_given items) i;
     modules = counted_on-is 0 (modules items) i;
     exceptions = counted_on-is 0 (exceptions items) i;
-    ranges = counted_on-is 0 (flat_map ranges_in items) i;
-    memory = summed_on-is 0 (flat_map memory_in items) i;
+    ranges = counted_on-is 0 (flat_map ranges_given items) i;
+    memory = summed_on-is 0 (flat_map memory_given items) i;
   };
   outside = record { count = counted_on-is 0 (outside items) i; first = kept-none (outside items) i };
 })
@@ -171,30 +171,30 @@ nearest-append address old xs ys =
 
 -- ---- what is found
 
-abbrev found_on : Search → List Item → Search
+abbrev found_on : CrashSearch → List Item → CrashSearch
 found_on old items = record {
   address = old.address;
   thread = old.thread;
-  holder = kept old.holder (filter (holds old.address) (modules items));
+  holder = kept old.holder (filter (holds_address old.address) (modules items));
   nearest = higher old.nearest (nearest_below old.address (modules items));
   name = kept old.name (filter (is_name_of old.thread) (thread_names items));
 }
 
-found_over : (old : Search) (items : List Item) → fold found old items ≡ found_on old items
+found_over : (old : CrashSearch) (items : List Item) → fold found old items ≡ found_on old items
 found_over old [] = λ i. record { address = old.address; thread = old.thread; holder = old.holder; nearest = higher-none old.nearest i; name = old.name }
 found_over old (x ∷ xs) = found_over (found old x) xs ∙ (λ i. record {
   address = old.address;
   thread = old.thread;
-  holder = kept-filter (holds old.address) old.holder (modules_in x) (modules xs) i;
-  nearest = nearest-append old.address old.nearest (modules_in x) (modules xs) i;
-  name = kept-filter (is_name_of old.thread) old.name (thread_names_in x) (thread_names xs) i;
+  holder = kept-filter (holds_address old.address) old.holder (modules_given x) (modules xs) i;
+  nearest = nearest-append old.address old.nearest (modules_given x) (modules xs) i;
+  name = kept-filter (is_name_of old.thread) old.name (thread_names_given x) (thread_names xs) i;
 })
 
 pub found_all : (address thread : ℕ) (items : List Item) → fold found (nothing_found address thread) items ≡ searched address thread items
 found_all address thread items = found_over (nothing_found address thread) items ∙ (λ i. record {
   address = address;
   thread = thread;
-  holder = kept-none (filter (holds address) (modules items)) i;
+  holder = kept-none (filter (holds_address address) (modules items)) i;
   nearest = nearest_below address (modules items);
   name = kept-none (filter (is_name_of thread) (thread_names items)) i;
 })

@@ -9,7 +9,7 @@ use Rattle.mdmp_lister.specs.declared.position.Position.TheVariants.{Begun, Soug
 use Rattle.mdmp_lister.specs.Listed.{cost_of, entry_cost}
 use Rattle.mdmp_lister.specs.Lister.{IsSameLister, ListerState}
 use Rattle.mdmp_lister.specs.Walker.{WalkerState, is_sought, seeks}
-use Rattle.mdmp_summary.specs.Spending.{CountsNames, KeepsSettled, LookPaid, PassPaid, PaysLook, ReadsContext, RisesByNames, Spends, ahead, ahead_after, all_listed, name_room, next_number, settled}
+use Rattle.mdmp_summary.specs.Spending.{CountsNames, KeepsSettled, LookPaid, PassPaid, PaysLook, ReadsContext, RisesByNames, SpendsPasses, ahead, ahead_after, all_listed, room_for_name, next_number, settled}
 use Rattle.mdmp_summary.specs.Walking.{IsSameListing}
 use Rattle.mdmp_summary.proofs.Paying.{few_names, rises_then}
 
@@ -17,7 +17,7 @@ use Rattle.mdmp_summary.proofs.Paying.{few_names, rises_then}
 
 -- what may be counted of all entries
 pub record PassedBy (count : MeterCounts → ℕ) (old now : WalkerState) : Type 0 where
-  pub rises : RisesByNames (name_room old) (settled count old + 1 * all_listed old) old.mark.names (settled count now + ahead now) now.mark.names
+  pub rises : RisesByNames (room_for_name old) (settled count old + 1 * all_listed old) old.mark.names (settled count now + ahead now) now.mark.names
   pub kept : KeepsSettled count old → KeepsSettled count now
 
 pub record HasPassed (old now : WalkerState) : Type 0 where
@@ -33,7 +33,7 @@ module _ (old new : WalkerState) (stays : new.list ≡ record old.list { left = 
   sought_by count =
       let one : settled count new ≡ settled count old = λ i. count (mark i) + entry_cost (stays i).source.size (stays i).current in
       let all : ahead new ≡ all_listed old = λ i. cost_of (stays i).choice (stays i).source.size (drop (next_number (position i) (stays i).passed) (stays i).entries) in
-      let names : new.mark.names * name_room old ≡ old.mark.names * name_room old = ap (λ (m : MeterCounts). m.names * name_room old) mark in
+      let names : new.mark.names * room_for_name old ≡ old.mark.names * room_for_name old = ap (λ (m : MeterCounts). m.names * room_for_name old) mark in
       record {
         rises = omega (arith, one, all, names);
         kept = λ kept. subst (λ (m : MeterCounts). RisesByNames (new.list.limit + 4) (count m + entry_cost new.list.source.size new.list.current) m.names (count new.list.counts) new.list.counts.names) (sym mark)
@@ -52,9 +52,9 @@ module _ (old new : WalkerState) (stays : new.list ≡ record old.list { left = 
 
 module _ (old now mid : WalkerState) (same : now.list.limit ≡ old.list.limit) where
   look_then : (count : MeterCounts → ℕ) (result : Result (Unit {0}) ListFault) → PassedBy count old now → LookPaid count now result mid
-      → RisesByNames (name_room old) (settled count old + 1 * all_listed old) old.mark.names (settled count mid + ahead_after result mid) mid.mark.names
+      → RisesByNames (room_for_name old) (settled count old + 1 * all_listed old) old.mark.names (settled count mid + ahead_after result mid) mid.mark.names
   look_then count result so_far look =
-      rises_then (name_room old) (settled count old + 1 * all_listed old) old.mark.names (settled count now + ahead now) now.mark.names (settled count mid + ahead_after result mid) mid.mark.names so_far.rises
+      rises_then (room_for_name old) (settled count old + 1 * all_listed old) old.mark.names (settled count now + ahead now) now.mark.names (settled count mid + ahead_after result mid) mid.mark.names so_far.rises
       (subst (λ l. RisesByNames (l + 4) (settled count now + ahead now) now.mark.names (settled count mid + ahead_after result mid) mid.mark.names) same look.rises)
 
   end_by : (count : MeterCounts → ℕ) (result : Result (Unit {0}) ListFault) → PassedBy count old now → LookPaid count now result mid → PassPaid count 1 old mid
@@ -62,7 +62,7 @@ module _ (old now mid : WalkerState) (same : now.list.limit ≡ old.list.limit) 
       let rises = look_then count result so_far look in
       record { rises = omega (arith, rises); kept = λ kept. look.kept }
 
-  pub passed_end : (result : Result (Unit {0}) ListFault) → HasPassed old now → PaysLook now result mid → Spends 1 0 old mid
+  pub passed_end : (result : Result (Unit {0}) ListFault) → HasPassed old now → PaysLook now result mid → SpendsPasses 1 0 old mid
   passed_end result so_far look =
       let same_aside : mid.list.counts.aside ≡ old.list.counts.aside = look.aside ∙ so_far.aside in
       let bytes = ap (λ (a : Amount). a.bytes) same_aside in
@@ -90,14 +90,14 @@ module _ (old now mid : WalkerState) (same : now.list.limit ≡ old.list.limit) 
         number_still new.position new.list.passed still ∙ passed ∙ sym (number_still mid.position mid.list.passed position) in
         let one : settled count new ≡ settled count mid = λ i. count (mark i) + entry_cost (source i).size (current i) in
         let rest : ahead new ≡ ahead mid = λ i. cost_of (skips.choice i) (source i).size (drop (at i) (skips.entries i)) in
-        let names : new.mark.names * name_room old ≡ mid.mark.names * name_room old = ap (λ (m : MeterCounts). m.names * name_room old) mark in
+        let names : new.mark.names * room_for_name old ≡ mid.mark.names * room_for_name old = ap (λ (m : MeterCounts). m.names * room_for_name old) mark in
         record {
           rises = omega (arith, rises, one, rest, names);
           kept = λ kept.
               subst (λ l. RisesByNames (l + 4) (settled count new) new.mark.names (count new.list.counts) new.list.counts.names) (sym skips.limit)
-              (subst (λ n. RisesByNames (name_room mid) n new.mark.names (count new.list.counts) new.list.counts.names) (sym one)
-              (subst (λ (m : MeterCounts). RisesByNames (name_room mid) (settled count mid) m.names (count new.list.counts) new.list.counts.names) (sym mark)
-              (subst (λ (c : MeterCounts). RisesByNames (name_room mid) (settled count mid) mid.mark.names (count c) c.names) (sym counts) look.kept)));
+              (subst (λ n. RisesByNames (room_for_name mid) n new.mark.names (count new.list.counts) new.list.counts.names) (sym one)
+              (subst (λ (m : MeterCounts). RisesByNames (room_for_name mid) (settled count mid) m.names (count new.list.counts) new.list.counts.names) (sym mark)
+              (subst (λ (c : MeterCounts). RisesByNames (room_for_name mid) (settled count mid) mid.mark.names (count c) c.names) (sym counts) look.kept)));
         }
 
     pub passed_skip : HasPassed old now → PaysLook now (Err f) mid → HasPassed old new
@@ -119,7 +119,7 @@ module _ (old now mid : WalkerState) (same : now.list.limit ≡ old.list.limit) 
 done_by : (count : MeterCounts → ℕ) (old now : WalkerState) → PassedBy count old now → PassPaid count 1 old now
 done_by count old now so_far = record { rises = let rises = so_far.rises in omega (arith, rises); kept = so_far.kept }
 
-pub passed_done : (old now : WalkerState) → HasPassed old now → Spends 1 0 old now
+pub passed_done : (old now : WalkerState) → HasPassed old now → SpendsPasses 1 0 old now
 passed_done old now so_far =
     let bytes = ap (λ (a : Amount). a.bytes) so_far.aside in
     let calls = ap (λ (a : Amount). a.calls) so_far.aside in
@@ -136,7 +136,7 @@ passed_done old now so_far =
 none_by : (count : MeterCounts → ℕ) (v : WalkerState) → PassPaid count 0 v v
 none_by count v = record { rises = omega arith; kept = λ kept. kept }
 
-pub spends_none : (v : WalkerState) → Spends 0 0 v v
+pub spends_none : (v : WalkerState) → SpendsPasses 0 0 v v
 spends_none v = record {
   more_names = omega arith;
   asked = λ few. none_by (λ c. c.asked) v;
@@ -151,18 +151,18 @@ module _ (old new : WalkerState) (reads : ReadsContext old new) where
       let size = reads.fetches.same_size in
       let names = reads.aside.same_names in
       let one : settled count new ≡ settled count old = λ i. count (reads.same i).mark + entry_cost (size i) (reads.same i).list.current in
-      let before : new.mark.names * name_room old ≡ old.mark.names * name_room old = λ i. (reads.same i).mark.names * name_room old in
+      let before : new.mark.names * room_for_name old ≡ old.mark.names * room_for_name old = λ i. (reads.same i).mark.names * room_for_name old in
       record {
         rises = omega (arith, one, before);
         kept = λ kept.
             let limit : new.list.limit ≡ old.list.limit = λ i. (reads.same i).list.limit in
-            let after : new.list.counts.names * name_room old ≡ old.list.counts.names * name_room old = ap (λ n. n * name_room old) names in
-            let known : RisesByNames (name_room old) (settled count old) old.mark.names (count old.list.counts) old.list.counts.names = kept in
-            let now : RisesByNames (name_room old) (settled count new) new.mark.names (count new.list.counts) new.list.counts.names = omega (arith, known, one, before, after, same) in
+            let after : new.list.counts.names * room_for_name old ≡ old.list.counts.names * room_for_name old = ap (λ n. n * room_for_name old) names in
+            let known : RisesByNames (room_for_name old) (settled count old) old.mark.names (count old.list.counts) old.list.counts.names = kept in
+            let now : RisesByNames (room_for_name old) (settled count new) new.mark.names (count new.list.counts) new.list.counts.names = omega (arith, known, one, before, after, same) in
             subst (λ l. RisesByNames (l + 4) (settled count new) new.mark.names (count new.list.counts) new.list.counts.names) (sym limit) now;
       }
 
-  pub spends_read : Spends 0 1 old new
+  pub spends_read : SpendsPasses 0 1 old new
   spends_read = record {
     more_names = let names = reads.aside.same_names in omega (arith, names);
     asked = λ few. read_by (λ c. c.asked) reads.aside.same_asked;
@@ -179,7 +179,7 @@ more_by count m n old new few paid =
     let rises = paid.rises in
     record { rises = omega (arith, cost, rises); kept = paid.kept }
 
-pub spends_more : (m n a b : ℕ) (old new : WalkerState) → m ≤ n → a ≤ b → Spends m a old new → Spends n b old new
+pub spends_more : (m n a b : ℕ) (old new : WalkerState) → m ≤ n → a ≤ b → SpendsPasses m a old new → SpendsPasses n b old new
 spends_more m n a b old new few contexts spends = record {
   more_names = spends.more_names;
   asked = λ names. more_by (λ c. c.asked) m n old new few (spends.asked names);
@@ -201,7 +201,7 @@ module _ (m n k a b : ℕ) (both : (cost : ℕ) → m * cost + n * cost ≡ k * 
         kept = λ kept. then.kept (first.kept kept);
       }
 
-  pub spends_then : Spends m a old mid → Spends n b mid new → Spends k (a + b) old new
+  pub spends_then : SpendsPasses m a old mid → SpendsPasses n b mid new → SpendsPasses k (a + b) old new
   spends_then first then = record {
     more_names = let one = first.more_names in let two = then.more_names in omega (arith, one, two);
     asked = λ names. then_by (λ c. c.asked) (first.asked (few_names mid.list.counts.names new.list.counts.names then.more_names names)) (then.asked names);
@@ -211,8 +211,8 @@ module _ (m n k a b : ℕ) (both : (cost : ℕ) → m * cost + n * cost ≡ k * 
   }
 
 -- the passes of a crash, and of a summary
-pub crash_spends : (old mid new : WalkerState) → IsSameListing old.list mid.list → Spends 0 1 old mid → Spends 1 0 mid new → Spends 1 1 old new
+pub crash_spends : (old mid new : WalkerState) → IsSameListing old.list mid.list → SpendsPasses 0 1 old mid → SpendsPasses 1 0 mid new → SpendsPasses 1 1 old new
 crash_spends old mid new same first then = spends_then 0 1 1 1 0 (λ cost. omega arith) old mid new same first then
 
-pub summary_spends : (old mid new : WalkerState) → IsSameListing old.list mid.list → Spends 1 0 old mid → Spends 1 1 mid new → Spends 2 1 old new
+pub summary_spends : (old mid new : WalkerState) → IsSameListing old.list mid.list → SpendsPasses 1 0 old mid → SpendsPasses 1 1 mid new → SpendsPasses 2 1 old new
 summary_spends old mid new same first then = spends_then 1 1 2 0 1 (λ cost. omega arith) old mid new same first then

@@ -24,7 +24,7 @@ use Rattle.mdmp_lister.specs.Walk.Positions.{mark_by, position_by}
 use Rattle.mdmp_lister.specs.Walker.{GivesEntry, WalkerLeaves, WalkerState, seeks}
 use Rattle.mdmp_lister.proofs.Listed.{cost_by-more, cost_by-passed}
 use Rattle.mdmp_lister.proofs.Summary.{summary_of-item_of, summary_of-plain}
-use Rattle.mdmp_summary.specs.Spending.{CountsNames, KeepsSettled, LookPaid, PaysLook, RisesByNames, ahead, ahead_after, name_room, next_number, settled}
+use Rattle.mdmp_summary.specs.Spending.{CountsNames, KeepsSettled, LookPaid, PaysLook, RisesByNames, ahead, ahead_after, room_for_name, next_number, settled}
 
 -- ---- numbers
 
@@ -144,13 +144,13 @@ module _ (count : MeterCounts → ℕ) (now new : WalkerState) (same : IsSameLis
   item_paid : (o : Option StreamItem) → new.position ≡ position_by o → new.mark ≡ mark_by o new.list.counts now.mark → new.list.current ≡ entry_begun o now.list.current
       → new.list.passed ≡ number_behind o now.list.passed → ((s : StreamItem) → o ≡ Some s → BeginsEntry now.list (next_number now.position now.list.passed) s)
       → (o ≡ None → next_number now.position now.list.passed ≡ now.list.passed)
-      → RisesByNames (name_room now) (settled count now) now.mark.names (count new.list.counts) new.list.counts.names
-      → RisesByNames (name_room now) (settled count now + ahead now) now.mark.names (settled count new + ahead new) new.mark.names
+      → RisesByNames (room_for_name now) (settled count now) now.mark.names (count new.list.counts) new.list.counts.names
+      → RisesByNames (room_for_name now) (settled count now + ahead now) now.mark.names (settled count new + ahead new) new.mark.names
   item_paid None position mark current passed begins stays spent =
       let at : next_number new.position new.list.passed ≡ next_number now.position now.list.passed = ap (λ (p : Position). next_number p new.list.passed) position ∙ passed ∙ sym (stays refl) in
       let rest : ahead new ≡ ahead now = λ i. cost_of (same.choice i) (size i) (drop (at i) (same.entries i)) in
       let one : settled count new ≡ settled count now = λ i. count (mark i) + entry_cost (size i) (current i) in
-      let names : new.mark.names * name_room now ≡ now.mark.names * name_room now = ap (λ (m : MeterCounts). m.names * name_room now) mark in
+      let names : new.mark.names * room_for_name now ≡ now.mark.names * room_for_name now = ap (λ (m : MeterCounts). m.names * room_for_name now) mark in
       omega (arith, rest, one, names)
   item_paid (Some s) position mark current passed begins stays spent =
       let b = begins s refl in
@@ -159,7 +159,7 @@ module _ (count : MeterCounts → ℕ) (now new : WalkerState) (same : IsSameLis
       let entry : new.list.current ≡ b.entry = current ∙ (λ i. record { stream_type = (b.item_is i).stream_type; location = (b.item_is i).location }) in
       let rest : ahead new ≡ cost_of now.list.choice now.list.source.size (drop (b.number + 1) now.list.entries) = λ i. cost_of (same.choice i) (size i) (drop (at i) (same.entries i)) in
       let one : settled count new ≡ count new.list.counts + entry_cost now.list.source.size b.entry = λ i. count (mark i) + entry_cost (size i) (entry i) in
-      let names : new.mark.names * name_room now ≡ new.list.counts.names * name_room now = ap (λ (m : MeterCounts). m.names * name_room now) mark in
+      let names : new.mark.names * room_for_name now ≡ new.list.counts.names * room_for_name now = ap (λ (m : MeterCounts). m.names * room_for_name now) mark in
       let cost = begun_cost now.list.choice now.list.source.size now.list.entries b.entry (next_number now.position now.list.passed) b.number b.behind b.is b.chosen in
       omega (arith, rest, one, names, cost, spent)
 
@@ -167,8 +167,8 @@ module _ (count : MeterCounts → ℕ) (now new : WalkerState) (same : IsSameLis
 
 pub record HasPaid (old now : WalkerState) : Type 0 where
   pub more_names : old.list.counts.names ≤ now.list.counts.names
-  pub asked : CountsNames now → RisesByNames (name_room old) (settled (λ c. c.asked) old + ahead old) old.mark.names (settled (λ c. c.asked) now + ahead now) now.mark.names
-  pub fetched : CountsNames now → RisesByNames (name_room old) (settled (λ c. c.fetched) old + ahead old) old.mark.names (settled (λ c. c.fetched) now + ahead now) now.mark.names
+  pub asked : CountsNames now → RisesByNames (room_for_name old) (settled (λ c. c.asked) old + ahead old) old.mark.names (settled (λ c. c.asked) now + ahead now) now.mark.names
+  pub fetched : CountsNames now → RisesByNames (room_for_name old) (settled (λ c. c.fetched) old + ahead old) old.mark.names (settled (λ c. c.fetched) now + ahead now) now.mark.names
 
 pub paid_none : (v : WalkerState) → HasPaid v v
 paid_none v = record { more_names = omega arith; asked = λ few. omega arith; fetched = λ few. omega arith }
@@ -179,18 +179,18 @@ few_names before after more few = omega (arith, more, few)
 
 module _ (old now new : WalkerState) (first : IsSameLister old.list now.list) (paid : HasPaid old now) where
   paid_then : (count : MeterCounts → ℕ) (most after : ℕ)
-      → RisesByNames (name_room old) (settled count old + ahead old) old.mark.names (settled count now + ahead now) now.mark.names
-      → RisesByNames (name_room now) (settled count now + ahead now) now.mark.names most after
-      → RisesByNames (name_room old) (settled count old + ahead old) old.mark.names most after
+      → RisesByNames (room_for_name old) (settled count old + ahead old) old.mark.names (settled count now + ahead now) now.mark.names
+      → RisesByNames (room_for_name now) (settled count now + ahead now) now.mark.names most after
+      → RisesByNames (room_for_name old) (settled count old + ahead old) old.mark.names most after
   paid_then count most after so_far then =
-      rises_then (name_room old) (settled count old + ahead old) old.mark.names (settled count now + ahead now) now.mark.names most after so_far
+      rises_then (room_for_name old) (settled count old + ahead old) old.mark.names (settled count now + ahead now) now.mark.names most after so_far
       (subst (λ l. RisesByNames (l + 4) (settled count now + ahead now) now.mark.names most after) first.limit then)
 
   -- an item more
   module _ (x : Item) (all : old.list.choice ≡ All) (going : now.list.stop ≡ None) (leaves : WalkerLeaves now (Ok (Some x)) new)
       (sought : (number : ℕ) → now.position ≡ Sought number → GivesEntry number now.list.entries (Ok (Some x))) where
-    more_by : (count : MeterCounts → ℕ) → RisesByNames (name_room now) (settled count now) now.mark.names (count new.list.counts) new.list.counts.names
-        → RisesByNames (name_room now) (settled count now + ahead now) now.mark.names (settled count new + ahead new) new.mark.names
+    more_by : (count : MeterCounts → ℕ) → RisesByNames (room_for_name now) (settled count now) now.mark.names (count new.list.counts) new.list.counts.names
+        → RisesByNames (room_for_name now) (settled count now + ahead now) now.mark.names (settled count new + ahead new) new.mark.names
     more_by count spent =
         item_paid count now new leaves.list.same leaves.list.spends.fetches.same_size (summary_of x).stream leaves.position leaves.mark leaves.list.places.current leaves.list.places.passed
         (λ s is. begins_entry now.list (first.choice ∙ all) x s is now.position new.list (λ not. leaves.follows going not) sought)
@@ -212,22 +212,22 @@ module _ (old now new : WalkerState) (first : IsSameLister old.list now.list) (p
 
   -- an answer that gives no item keeps what was counted since the entry began
   kept_by : (count : MeterCounts → ℕ) → new.mark ≡ now.mark → new.list.current ≡ now.list.current → new.list.source.size ≡ now.list.source.size → new.list.limit ≡ now.list.limit
-      → RisesByNames (name_room now) (settled count now) now.mark.names (count new.list.counts) new.list.counts.names → KeepsSettled count new
+      → RisesByNames (room_for_name now) (settled count now) now.mark.names (count new.list.counts) new.list.counts.names → KeepsSettled count new
   kept_by count mark current size limit spent =
       let one = settled_still count mark current size in
       subst (λ l. RisesByNames (l + 4) (settled count new) new.mark.names (count new.list.counts) new.list.counts.names) (sym limit)
-      (subst (λ n. RisesByNames (name_room now) n new.mark.names (count new.list.counts) new.list.counts.names) (sym one)
-      (subst (λ (m : MeterCounts). RisesByNames (name_room now) (settled count now) m.names (count new.list.counts) new.list.counts.names) (sym mark) spent))
+      (subst (λ n. RisesByNames (room_for_name now) n new.mark.names (count new.list.counts) new.list.counts.names) (sym one)
+      (subst (λ (m : MeterCounts). RisesByNames (room_for_name now) (settled count now) m.names (count new.list.counts) new.list.counts.names) (sym mark) spent))
 
   -- and so do the entries ahead
   look_by : (count : MeterCounts → ℕ) (result : Result (Unit {0}) ListFault) → new.mark ≡ now.mark → new.list.current ≡ now.list.current → new.list.source.size ≡ now.list.source.size → new.list.limit ≡ now.list.limit
       → ahead_after result new ≤ ahead now
-      → RisesByNames (name_room now) (settled count now) now.mark.names (count new.list.counts) new.list.counts.names
-      → RisesByNames (name_room old) (settled count old + ahead old) old.mark.names (settled count now + ahead now) now.mark.names
+      → RisesByNames (room_for_name now) (settled count now) now.mark.names (count new.list.counts) new.list.counts.names
+      → RisesByNames (room_for_name old) (settled count old + ahead old) old.mark.names (settled count now + ahead now) now.mark.names
       → LookPaid count old result new
   look_by count result mark current size limit rest spent so_far =
       let one = settled_still count mark current size in
-      let names : new.mark.names * name_room old ≡ now.mark.names * name_room old = ap (λ (m : MeterCounts). m.names * name_room old) mark in
+      let names : new.mark.names * room_for_name old ≡ now.mark.names * room_for_name old = ap (λ (m : MeterCounts). m.names * room_for_name old) mark in
       record {
         rises = omega (arith, one, names, rest, so_far);
         kept = kept_by count mark current size limit spent;

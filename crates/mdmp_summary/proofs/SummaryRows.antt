@@ -10,56 +10,56 @@ use Rattle.mdmp_lister.specs.Format.Item.{sizes_before}
 use Rattle.mdmp_lister.specs.Format.Listing.{entries_from, only_chosen}
 use Rattle.mdmp_lister.proofs.Files.{crash_file, entry, head, location, misc_file, three_ranges_file}
 use Rattle.mdmp_lister.proofs.RowWords.{fault_of}
-use Rattle.mdmp_summary.specs.Summary.{summary_of}
-use Rattle.mdmp_summary.specs.declared.part.Part.TheVariants.{Context, Misc, Memory}
+use Rattle.mdmp_summary.specs.Summary.{file_summary}
+use Rattle.mdmp_summary.specs.declared.part.PartKind.TheVariants.{Context, Misc, Memory}
 use Rattle.mdmp_summary.specs.declared.summary.Crash.{Crash}
-use Rattle.mdmp_summary.specs.declared.summary.ModulePlace.{ModulePlace}
+use Rattle.mdmp_summary.specs.declared.summary.PlaceInModule.{PlaceInModule}
 
 -- a thread with its stack and context, and an exception of an unknown system
-bare-address : option_map (λ (c : Crash). c.address) (summary_of crash_file 0).crash ≡ Some 0x401000
+bare-address : option_map (λ (c : Crash). c.address) (file_summary crash_file 0).crash ≡ Some 0x401000
 unfolding number_at numbers_at array_at le name_at shape_of entries_from only_chosen sizes_before
 bare-address = refl
 
-bare-counts : (summary_of crash_file 0).counts ≡ record { streams = 2; threads = 1; modules = 0; exceptions = 1; ranges = 0; memory = 0 }
+bare-counts : (file_summary crash_file 0).counts ≡ record { streams = 2; threads = 1; modules = 0; exceptions = 1; ranges = 0; memory = 0 }
 unfolding number_at numbers_at array_at le name_at shape_of entries_from only_chosen sizes_before
 bare-counts = refl
 
-bare-outside : (summary_of crash_file 0).outside ≡ record { count = 0; first = None }
+bare-outside : (file_summary crash_file 0).outside ≡ record { count = 0; first = None }
 unfolding number_at numbers_at array_at le name_at shape_of entries_from only_chosen sizes_before
 bare-outside = refl
 
 -- the same, cut before the last byte of the exception's context: no entry is bad, but a part lies outside
-cut-outside : (summary_of (take 291 crash_file) 0).outside ≡ record { count = 1; first = Some (record { entry = 1; index = 0; part = Context; offset = 288; size = 4 }) }
+cut-outside : (file_summary (take 291 crash_file) 0).outside ≡ record { count = 1; first = Some (record { entry = 1; index = 0; part = Context; offset = 288; size = 4 }) }
 unfolding number_at numbers_at array_at le name_at shape_of entries_from only_chosen sizes_before
 cut-outside = refl
 
-cut-bad : (summary_of (take 291 crash_file) 0).bad ≡ record { count = 0; first = None }
+cut-bad : (file_summary (take 291 crash_file) 0).bad ≡ record { count = 0; first = None }
 unfolding number_at numbers_at array_at le name_at shape_of entries_from only_chosen sizes_before
 cut-bad = refl
 
 -- cut in the exception's record: the entry is bad, and its stream counts
-lost-bad : (summary_of (take 287 crash_file) 0).bad ≡ record { count = 1; first = Some (fault_of 1 None StreamOutside 120 168) }
+lost-bad : (file_summary (take 287 crash_file) 0).bad ≡ record { count = 1; first = Some (fault_of 1 None StreamOutside 120 168) }
 unfolding number_at numbers_at array_at le name_at shape_of entries_from only_chosen sizes_before
 lost-bad = refl
 
-lost-crash : (summary_of (take 287 crash_file) 0).crash ≡ None
+lost-crash : (file_summary (take 287 crash_file) 0).crash ≡ None
 unfolding number_at numbers_at array_at le name_at shape_of entries_from only_chosen sizes_before
 lost-crash = refl
 
-lost-counts : (summary_of (take 287 crash_file) 0).counts ≡ record { streams = 2; threads = 1; modules = 0; exceptions = 0; ranges = 0; memory = 0 }
+lost-counts : (file_summary (take 287 crash_file) 0).counts ≡ record { streams = 2; threads = 1; modules = 0; exceptions = 0; ranges = 0; memory = 0 }
 unfolding number_at numbers_at array_at le name_at shape_of entries_from only_chosen sizes_before
 lost-counts = refl
 
 -- three ranges, of which one lies outside and one inside
-ranges-memory : (summary_of three_ranges_file 0).counts.memory ≡ 4
+ranges-memory : (file_summary three_ranges_file 0).counts.memory ≡ 4
 unfolding number_at numbers_at array_at le name_at shape_of entries_from only_chosen sizes_before
 ranges-memory = refl
 
-ranges-outside : (summary_of three_ranges_file 0).outside ≡ record { count = 1; first = Some (record { entry = 0; index = 1; part = Memory; offset = 97; size = 4 }) }
+ranges-outside : (file_summary three_ranges_file 0).outside ≡ record { count = 1; first = Some (record { entry = 0; index = 1; part = Memory; offset = 97; size = 4 }) }
 unfolding number_at numbers_at array_at le name_at shape_of entries_from only_chosen sizes_before
 ranges-outside = refl
 
-misc-outside : (summary_of misc_file 0).outside ≡ record { count = 1; first = Some (record { entry = 0; index = 0; part = Misc; offset = 0xFFFFFFFF; size = 30 }) }
+misc-outside : (file_summary misc_file 0).outside ≡ record { count = 1; first = Some (record { entry = 0; index = 0; part = Misc; offset = 0xFFFFFFFF; size = 30 }) }
 unfolding number_at numbers_at array_at le name_at shape_of entries_from only_chosen sizes_before
 misc-outside = refl
 
@@ -97,32 +97,32 @@ abbrev looked_at : Crash → List ℕ
 looked_at c = c.exception.fields.thread_id ∷ c.address ∷ []
 
 -- the base of a module, and the offset in it
-abbrev place_in : ModulePlace → List ℕ
+abbrev place_in : PlaceInModule → List ℕ
 place_in p = p.fields.base_of_image ∷ p.offset ∷ []
 
-linux-crash : option_map looked_at (summary_of (linux_file 0x8201 11) 0).crash ≡ Some (7 ∷ 0xfffefdfcfbfaf9f8 ∷ [])
+linux-crash : option_map looked_at (file_summary (linux_file 0x8201 11) 0).crash ≡ Some (7 ∷ 0xfffefdfcfbfaf9f8 ∷ [])
 unfolding number_at numbers_at array_at le name_at shape_of entries_from only_chosen sizes_before bytes_from
 linux-crash = refl
 
-linux-holder : option_map (λ (c : Crash). option_map place_in c.holder) (summary_of (linux_file 0x8201 11) 0).crash ≡ Some (Some (0xfffefdfcfbfaf9f1 ∷ 7 ∷ []))
+linux-holder : option_map (λ (c : Crash). option_map place_in c.holder) (file_summary (linux_file 0x8201 11) 0).crash ≡ Some (Some (0xfffefdfcfbfaf9f1 ∷ 7 ∷ []))
 unfolding number_at numbers_at array_at le name_at shape_of entries_from only_chosen sizes_before bytes_from
 linux-holder = refl
 
 -- a module holds the address, so none is near it
-linux-near : option_map (λ (c : Crash). option_map place_in c.near) (summary_of (linux_file 0x8201 11) 0).crash ≡ Some None
+linux-near : option_map (λ (c : Crash). option_map place_in c.near) (file_summary (linux_file 0x8201 11) 0).crash ≡ Some None
 unfolding number_at numbers_at array_at le name_at shape_of entries_from only_chosen sizes_before bytes_from
 linux-near = refl
 
-linux-name : option_map (λ (c : Crash). option_map (λ (t : ThreadNameRecord). t.thread_id) c.thread_name) (summary_of (linux_file 0x8201 11) 0).crash ≡ Some (Some 7)
+linux-name : option_map (λ (c : Crash). option_map (λ (t : ThreadNameRecord). t.thread_id) c.thread_name) (file_summary (linux_file 0x8201 11) 0).crash ≡ Some (Some 7)
 unfolding number_at numbers_at array_at le name_at shape_of entries_from only_chosen sizes_before bytes_from
 linux-name = refl
 
 -- the same on Windows: the first exception is the crash, and its address ran; each module begins above it
-windows-crash : option_map looked_at (summary_of (linux_file 2 11) 0).crash ≡ Some (6 ∷ 5 ∷ [])
+windows-crash : option_map looked_at (file_summary (linux_file 2 11) 0).crash ≡ Some (6 ∷ 5 ∷ [])
 unfolding number_at numbers_at array_at le name_at shape_of entries_from only_chosen sizes_before bytes_from
 windows-crash = refl
 
-windows-near : option_map (λ (c : Crash). option_map place_in c.near) (summary_of (linux_file 2 11) 0).crash ≡ Some None
+windows-near : option_map (λ (c : Crash). option_map place_in c.near) (file_summary (linux_file 2 11) 0).crash ≡ Some None
 unfolding number_at numbers_at array_at le name_at shape_of entries_from only_chosen sizes_before bytes_from
 windows-near = refl
 
@@ -134,19 +134,19 @@ small_modules_file =
     ++ le 4 5 ++ module_sized 0x3000 8 ++ module_sized 0x1000 8 ++ module_sized 0x2000 9 ++ module_sized 0x2000 16 ++ module_sized 0x1800 8
     ++ exception 7 11 0x2010 0 0
 
-near-holder : option_map (λ (c : Crash). option_map place_in c.holder) (summary_of small_modules_file 0).crash ≡ Some None
+near-holder : option_map (λ (c : Crash). option_map place_in c.holder) (file_summary small_modules_file 0).crash ≡ Some None
 unfolding number_at numbers_at array_at le name_at shape_of entries_from only_chosen sizes_before
 near-holder = refl
 
-near-near : option_map (λ (c : Crash). option_map (λ (p : ModulePlace). p.fields.size_of_image ∷ place_in p) c.near) (summary_of small_modules_file 0).crash ≡ Some (Some (9 ∷ 0x2000 ∷ 0x10 ∷ []))
+near-near : option_map (λ (c : Crash). option_map (λ (p : PlaceInModule). p.fields.size_of_image ∷ place_in p) c.near) (file_summary small_modules_file 0).crash ≡ Some (Some (9 ∷ 0x2000 ∷ 0x10 ∷ []))
 unfolding number_at numbers_at array_at le name_at shape_of entries_from only_chosen sizes_before
 near-near = refl
 
 -- two threads that were stopped
-stopped-crash : (summary_of (linux_file 0x8201 20) 0).crash ≡ None
+stopped-crash : (file_summary (linux_file 0x8201 20) 0).crash ≡ None
 unfolding number_at numbers_at array_at le name_at shape_of entries_from only_chosen sizes_before bytes_from
 stopped-crash = refl
 
-stopped-counts : (summary_of (linux_file 0x8201 20) 0).counts ≡ record { streams = 5; threads = 0; modules = 3; exceptions = 2; ranges = 0; memory = 0 }
+stopped-counts : (file_summary (linux_file 0x8201 20) 0).counts ≡ record { streams = 5; threads = 0; modules = 3; exceptions = 2; ranges = 0; memory = 0 }
 unfolding number_at numbers_at array_at le name_at shape_of entries_from only_chosen sizes_before bytes_from
 stopped-counts = refl

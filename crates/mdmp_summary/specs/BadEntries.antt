@@ -13,13 +13,13 @@ abbrev pub all_items : List ℕ → ℕ → List Item
 all_items F limit = items_of F limit (chosen F All)
 
 -- the error of an entry, if it has one
-abbrev pub fault_in : Option ListFault → List ListFault
-fault_in None = []
-fault_in (Some f) = f ∷ []
+abbrev pub entry_fault : Option ListFault → List ListFault
+entry_fault None = []
+entry_fault (Some f) = f ∷ []
 
 -- the errors of the entries of F, which are those that `check` tells, in the order of the directory
 abbrev pub entry_faults : List ℕ → ℕ → List ListFault
-entry_faults F limit = flat_map (λ v. fault_in v.fault) (verdicts F All limit)
+entry_faults F limit = flat_map (λ v. entry_fault v.fault) (verdicts F All limit)
 
 -- how many entries are bad, and the first error
 abbrev pub told_bad : List ListFault → BadEntries

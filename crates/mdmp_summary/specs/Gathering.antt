@@ -18,33 +18,33 @@ use Rattle.mdmp_summary.specs.declared.gathering.Gathering.{Gathering}
 
 -- ---- an item, by its kind: a list of one or none
 
-abbrev pub streams_in : Item → List StreamItem
-streams_in (items.Stream x) = x ∷ []
-streams_in x = []
+abbrev pub streams_given : Item → List StreamItem
+streams_given (items.Stream x) = x ∷ []
+streams_given x = []
 
-abbrev pub threads_in : Item → List ThreadItem
-threads_in (items.Thread x) = x ∷ []
-threads_in x = []
+abbrev pub threads_given : Item → List ThreadItem
+threads_given (items.Thread x) = x ∷ []
+threads_given x = []
 
-abbrev pub modules_in : Item → List ModuleRecord
-modules_in (items.Module x) = x.fields ∷ []
-modules_in x = []
+abbrev pub modules_given : Item → List ModuleRecord
+modules_given (items.Module x) = x.fields ∷ []
+modules_given x = []
 
-abbrev pub exceptions_in : Item → List ExceptionItem
-exceptions_in (items.Exception x) = x ∷ []
-exceptions_in x = []
+abbrev pub exceptions_given : Item → List ExceptionItem
+exceptions_given (items.Exception x) = x ∷ []
+exceptions_given x = []
 
-abbrev pub systems_in : Item → List SystemRecord
-systems_in (items.System x) = x.fields ∷ []
-systems_in x = []
+abbrev pub systems_given : Item → List SystemRecord
+systems_given (items.System x) = x.fields ∷ []
+systems_given x = []
 
-abbrev pub thread_names_in : Item → List ThreadNameRecord
-thread_names_in (items.ThreadName x) = x.fields ∷ []
-thread_names_in x = []
+abbrev pub thread_names_given : Item → List ThreadNameRecord
+thread_names_given (items.ThreadName x) = x.fields ∷ []
+thread_names_given x = []
 
-abbrev pub ranges_in : Item → List RangeItem
-ranges_in (items.Range x) = x ∷ []
-ranges_in x = []
+abbrev pub ranges_given : Item → List RangeItem
+ranges_given (items.Range x) = x ∷ []
+ranges_given x = []
 
 -- how many bytes of a range of this extent and size lie inside the file: all or none
 abbrev pub inside_bytes : Extent → ℕ → ℕ
@@ -53,9 +53,9 @@ inside_bytes Empty size = 0
 inside_bytes Absent size = 0
 inside_bytes Outside size = 0
 
-abbrev pub memory_in : Item → List ℕ
-memory_in (items.Range x) = inside_bytes x.extent x.size ∷ []
-memory_in x = []
+abbrev pub memory_given : Item → List ℕ
+memory_given (items.Range x) = inside_bytes x.extent x.size ∷ []
+memory_given x = []
 
 -- ---- an item at a time
 
@@ -70,18 +70,18 @@ nothing_gathered = record {
 }
 
 -- after an item
-abbrev pub gathered : Gathering → Item → Gathering
-gathered old x = record {
-  system = kept old.system (systems_in x);
-  program = kept old.program (modules_in x);
-  exceptions = exceptions_seen old.exceptions (exceptions_in x);
+abbrev pub gathered_with : Gathering → Item → Gathering
+gathered_with old x = record {
+  system = kept old.system (systems_given x);
+  program = kept old.program (modules_given x);
+  exceptions = exceptions_seen old.exceptions (exceptions_given x);
   counts = record {
-    streams = counted_on old.counts.streams (streams_in x);
-    threads = counted_on old.counts.threads (threads_in x);
-    modules = counted_on old.counts.modules (modules_in x);
-    exceptions = counted_on old.counts.exceptions (exceptions_in x);
-    ranges = counted_on old.counts.ranges (ranges_in x);
-    memory = summed_on old.counts.memory (memory_in x);
+    streams = counted_on old.counts.streams (streams_given x);
+    threads = counted_on old.counts.threads (threads_given x);
+    modules = counted_on old.counts.modules (modules_given x);
+    exceptions = counted_on old.counts.exceptions (exceptions_given x);
+    ranges = counted_on old.counts.ranges (ranges_given x);
+    memory = summed_on old.counts.memory (memory_given x);
   };
   outside = parts_seen old.outside (parts_outside x);
 }

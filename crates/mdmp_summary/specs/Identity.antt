@@ -6,7 +6,7 @@ use Rattle.mdmp_wire.specs.Number.{number_at}
 use Rattle.mdmp_wire.specs.declared.module.ModuleRecord.{ModuleRecord}
 use Rattle.mdmp_summary.specs.declared.identity.BuildId.{BuildId}
 use Rattle.mdmp_summary.specs.declared.identity.CodeId.{CodeId}
-use Rattle.mdmp_summary.specs.declared.identity.DebugId.{DebugId}
+use Rattle.mdmp_summary.specs.declared.identity.DebugIdentifier.{DebugIdentifier}
 use Rattle.mdmp_summary.specs.declared.identity.Pdb20.{Pdb20}
 
 -- the code id of a PE file: TimeDateStamp and SizeOfImage, or none if the time is 0
@@ -51,7 +51,7 @@ pdb20_in head size =
 -- ---- debug ids
 
 -- that of a record of the kind RSDS: the identity of its symbol file
-abbrev pub debug_id_told : CodeViewValue → Option DebugId
+abbrev pub debug_id_told : CodeViewValue → Option DebugIdentifier
 debug_id_told (Rsds guid age name ended) = Some (record { guid = guid; age = age })
 debug_id_told (Other signature size) = None
 debug_id_told (Short size) = None
@@ -61,5 +61,5 @@ abbrev pub sixteen_of : List ℕ → List ℕ
 sixteen_of bytes = take 16 bytes ++ replicate (16 - length bytes) 0
 
 -- Breakpad's debug id of a build id: the first sixteen bytes are a GUID as it is in memory
-abbrev pub debug_id_built : List ℕ → DebugId
+abbrev pub debug_id_built : List ℕ → DebugIdentifier
 debug_id_built bytes = record { guid = swap_fields (sixteen_of bytes); age = 0 }

@@ -9,8 +9,8 @@ first [] = None
 first (x ∷ xs) = Some x
 
 -- a count that stops at the greatest u128; no file of fewer than 2^64 bytes has so many of anything
-abbrev pub counted : ℕ → ℕ
-counted n = raised 0 n
+abbrev pub capped : ℕ → ℕ
+capped n = raised 0 n
 
 -- ---- a value at a time
 

@@ -1,7 +1,7 @@
 pub mod BadEntries
 pub mod Context
 pub mod Crash
-pub mod Gathered
+pub mod Passes
 pub mod Gathering
 pub mod Identity
 pub mod Keeping

@@ -3,15 +3,15 @@ use Rattle.std.specs.Prelude.{ℕ, Bool, Option, Some, None, nat_le, slice_index
 use Rattle.mdmp_wire.specs.declared.exception.ExceptionRecord.{ExceptionRecord}
 use Rattle.mdmp_summary.specs.declared.crash.Platform.{Platform}
 use Rattle.mdmp_summary.specs.declared.crash.Platform.TheVariants.{Apple, Linux, Other, Windows}
-use Rattle.mdmp_summary.specs.declared.reach.Access.{Access}
-use Rattle.mdmp_summary.specs.declared.reach.Access.TheVariants.{Execute, Read, Unknown, Write}
+use Rattle.mdmp_summary.specs.declared.reach.AccessKind.{AccessKind}
+use Rattle.mdmp_summary.specs.declared.reach.AccessKind.TheVariants.{Execute, Read, Unknown, Write}
 use Rattle.mdmp_summary.specs.declared.reach.Reached.{Reached}
 
 -- EXCEPTION_ACCESS_VIOLATION, or EXCEPTION_IN_PAGE_ERROR: the first parameter tells the access, and the second the address
 abbrev pub is_access_fault : ℕ → Bool
 is_access_fault code = code == 0xC0000005 || code == 0xC0000006
 
-abbrev pub access_of : ℕ → Access
+abbrev pub access_of : ℕ → AccessKind
 access_of parameter =
     if parameter == 0 then Read
     else if parameter == 1 then Write

@@ -3,13 +3,13 @@ use Rattle.std.specs.Prelude.{ℕ, ◌+◌, List, [], ◌∷◌, Option, Some, N
 use Rattle.mdmp_wire.specs.declared.module.ModuleRecord.{ModuleRecord}
 use Rattle.mdmp_wire.specs.declared.thread_name.ThreadNameRecord.{ThreadNameRecord}
 use Rattle.mdmp_lister.specs.declared.item.Item.{Item}
-use Rattle.mdmp_summary.specs.Gathering.{modules_in, thread_names_in}
+use Rattle.mdmp_summary.specs.Gathering.{modules_given, thread_names_given}
 use Rattle.mdmp_summary.specs.Keeping.{kept}
-use Rattle.mdmp_summary.specs.declared.search.Search.{Search}
+use Rattle.mdmp_summary.specs.declared.search.CrashSearch.{CrashSearch}
 
 -- the module holds this address
-abbrev pub holds : ℕ → ModuleRecord → Bool
-holds address m = nat_le m.base_of_image address && nat_lt address (m.base_of_image + m.size_of_image)
+abbrev pub holds_address : ℕ → ModuleRecord → Bool
+holds_address address m = nat_le m.base_of_image address && nat_lt address (m.base_of_image + m.size_of_image)
 
 -- the module begins at this address or below it
 abbrev pub begins_below : ℕ → ModuleRecord → Bool
@@ -36,25 +36,25 @@ nearest_below address ms = highest (filter (begins_below address) ms)
 
 -- ---- an item at a time
 
-abbrev pub nothing_found : ℕ → ℕ → Search
+abbrev pub nothing_found : ℕ → ℕ → CrashSearch
 nothing_found address thread = record { address = address; thread = thread; holder = None; nearest = None; name = None }
 
 -- after a module, and after a name
-abbrev pub module_found : Search → ModuleRecord → Search
+abbrev pub module_found : CrashSearch → ModuleRecord → CrashSearch
 module_found old m = record old {
-  holder = kept old.holder (filter (holds old.address) (m ∷ []));
+  holder = kept old.holder (filter (holds_address old.address) (m ∷ []));
   nearest = higher old.nearest (nearest_below old.address (m ∷ []));
 }
 
-abbrev pub name_found : Search → ThreadNameRecord → Search
+abbrev pub name_found : CrashSearch → ThreadNameRecord → CrashSearch
 name_found old t = record old { name = kept old.name (filter (is_name_of old.thread) (t ∷ [])) }
 
 -- after an item
-abbrev pub found : Search → Item → Search
+abbrev pub found : CrashSearch → Item → CrashSearch
 found old x = record {
   address = old.address;
   thread = old.thread;
-  holder = kept old.holder (filter (holds old.address) (modules_in x));
-  nearest = higher old.nearest (nearest_below old.address (modules_in x));
-  name = kept old.name (filter (is_name_of old.thread) (thread_names_in x));
+  holder = kept old.holder (filter (holds_address old.address) (modules_given x));
+  nearest = higher old.nearest (nearest_below old.address (modules_given x));
+  name = kept old.name (filter (is_name_of old.thread) (thread_names_given x));
 }

@@ -15,8 +15,8 @@ abbrev pub RisesByNames : (room old before new after : ℕ) → Type 0
 RisesByNames room old before new after = new + before * room ≤ old + after * room
 
 -- a name may cost its length, and as many bytes as the limit
-abbrev pub name_room : WalkerState → ℕ
-name_room v = v.list.limit + 4
+abbrev pub room_for_name : WalkerState → ℕ
+room_for_name v = v.list.limit + 4
 
 -- the bytes of the streams that are listed of all entries
 abbrev pub all_listed : WalkerState → ℕ
@@ -46,16 +46,16 @@ module _ (count : MeterCounts → ℕ) where
 
   -- no more was counted than that, and names
   abbrev pub KeepsSettled : WalkerState → Type 0
-  KeepsSettled v = RisesByNames (name_room v) (settled v) v.mark.names (count v.list.counts) v.list.counts.names
+  KeepsSettled v = RisesByNames (room_for_name v) (settled v) v.mark.names (count v.list.counts) v.list.counts.names
 
   -- a look counts no more than the entry that was begun and those ahead have
   pub record LookPaid (old : WalkerState) (result : Result (Unit {0}) ListFault) (new : WalkerState) : Type 0 where
-    pub rises : RisesByNames (name_room old) (settled old + ahead old) old.mark.names (settled new + ahead_after result new) new.mark.names
+    pub rises : RisesByNames (room_for_name old) (settled old + ahead old) old.mark.names (settled new + ahead_after result new) new.mark.names
     pub kept : KeepsSettled new
 
   -- so many passes count no more than the entry that was begun, and as often all entries
   pub record PassPaid (passes : ℕ) (old new : WalkerState) : Type 0 where
-    pub rises : RisesByNames (name_room old) (settled old + passes * all_listed old) old.mark.names (settled new) new.mark.names
+    pub rises : RisesByNames (room_for_name old) (settled old + passes * all_listed old) old.mark.names (settled new) new.mark.names
     pub kept : KeepsSettled old → KeepsSettled new
 
 -- names are counted up to the greatest u128; nothing is said from there on
@@ -70,7 +70,7 @@ pub record PaysLook (old : WalkerState) (result : Result (Unit {0}) ListFault) (
   pub aside : new.list.counts.aside ≡ old.list.counts.aside
 
 -- what so many passes over all entries fetch, and the reading of so many contexts, which is outside the listing
-pub record Spends (passes contexts : ℕ) (old new : WalkerState) : Type 0 where
+pub record SpendsPasses (passes contexts : ℕ) (old new : WalkerState) : Type 0 where
   pub more_names : old.list.counts.names ≤ new.list.counts.names
   -- also with the read that was not made, so that no read limit of at least that many bytes ends them
   pub asked : CountsNames new → PassPaid (λ c. c.asked) passes old new

@@ -7,7 +7,7 @@ use Rattle.mdmp_lister.specs.declared.meter.MeterCounts.{MeterCounts}
 use Rattle.mdmp_lister.specs.Format.Bounds.{fetch_bound}
 use Rattle.mdmp_lister.specs.Listed.{entry_cost}
 use Rattle.mdmp_lister.specs.Walker.{IsNewWalker, WalkerState}
-use Rattle.mdmp_summary.specs.Spending.{CountsNames, KeepsSettled, PassPaid, RisesByNames, Spends, all_listed, name_room, settled}
+use Rattle.mdmp_summary.specs.Spending.{CountsNames, KeepsSettled, PassPaid, RisesByNames, SpendsPasses, all_listed, room_for_name, settled}
 use Rattle.mdmp_summary.specs.Walking.{IsSameListing}
 
 -- the bytes that a summary fetches for the listing at most: of a file with so many entries, whose listed streams have so many
@@ -19,21 +19,21 @@ summary_bound limit entries listed names = 32 + 12 * entries + 2 * listed + name
 pub twice_listing : (limit entries listed names : ℕ) → summary_bound limit entries listed names ≤ 2 * fetch_bound limit entries listed names
 twice_listing limit entries listed names = omega arith
 
-module _ (source : SourceState) (choice : Choice) (limits : Limits) (old new : WalkerState) (opened : IsNewWalker source choice limits old) (spends : Spends 2 1 old new) (same : IsSameListing old.list new.list) where
+module _ (source : SourceState) (choice : Choice) (limits : Limits) (old new : WalkerState) (opened : IsNewWalker source choice limits old) (spends : SpendsPasses 2 1 old new) (same : IsSameListing old.list new.list) where
   begun_kept : (count : MeterCounts → ℕ) → KeepsSettled count old
   begun_kept count =
-      subst (λ (m : MeterCounts). RisesByNames (name_room old) (count m + entry_cost old.list.source.size old.list.current) m.names (count old.list.counts) old.list.counts.names)
+      subst (λ (m : MeterCounts). RisesByNames (room_for_name old) (count m + entry_cost old.list.source.size old.list.current) m.names (count old.list.counts) old.list.counts.names)
       (sym opened.mark) (omega arith)
 
   most_by : (count : MeterCounts → ℕ) (begun : ℕ) → count old.list.counts ≤ begun → PassPaid count 2 old new
-      → count new.list.counts ≤ begun + 2 * all_listed old + new.list.counts.names * name_room old
+      → count new.list.counts ≤ begun + 2 * all_listed old + new.list.counts.names * room_for_name old
   most_by count begun few paid =
       let none : old.mark.names ≡ 0 = ap (λ (m : MeterCounts). m.names) opened.mark ∙ opened.list.counts.names in
-      let zero : old.mark.names * name_room old ≡ 0 * name_room old = ap (λ n. n * name_room old) none in
+      let zero : old.mark.names * room_for_name old ≡ 0 * room_for_name old = ap (λ n. n * room_for_name old) none in
       let unbegun = opened.unbegun in
       let mark = ap count opened.mark in
       let rises = paid.rises in
-      let kept : RisesByNames (name_room old) (settled count new) new.mark.names (count new.list.counts) new.list.counts.names =
+      let kept : RisesByNames (room_for_name old) (settled count new) new.mark.names (count new.list.counts) new.list.counts.names =
       subst (λ l. RisesByNames (l + 4) (settled count new) new.mark.names (count new.list.counts) new.list.counts.names) same.limit (paid.kept (begun_kept count)) in
       omega (arith, zero, unbegun, mark, rises, kept, few)
 

@@ -15,11 +15,11 @@ use Rattle.mdmp_lister.specs.declared.item.Item.{Item}
 use Rattle.mdmp_summary.specs.BadEntries.{all_items, entry_faults, told_bad}
 use Rattle.mdmp_summary.specs.Context.{registers_at}
 use Rattle.mdmp_summary.specs.Crash.{crash_on, platform_of}
-use Rattle.mdmp_summary.specs.Gathering.{exceptions_in, memory_in, modules_in, ranges_in, streams_in, systems_in, thread_names_in, threads_in}
-use Rattle.mdmp_summary.specs.Keeping.{counted, first}
+use Rattle.mdmp_summary.specs.Gathering.{exceptions_given, memory_given, modules_given, ranges_given, streams_given, systems_given, thread_names_given, threads_given}
+use Rattle.mdmp_summary.specs.Keeping.{capped, first}
 use Rattle.mdmp_summary.specs.Part.{parts_outside}
 use Rattle.mdmp_summary.specs.Reach.{reached_on}
-use Rattle.mdmp_summary.specs.Search.{holds, is_name_of, nearest_below}
+use Rattle.mdmp_summary.specs.Search.{holds_address, is_name_of, nearest_below}
 use Rattle.mdmp_summary.specs.declared.context.Registers.{Registers}
 use Rattle.mdmp_summary.specs.declared.crash.Platform.{Platform}
 use Rattle.mdmp_summary.specs.declared.crash.Platform.TheVariants.{Apple, Linux, Other, Windows}
@@ -27,22 +27,22 @@ use Rattle.mdmp_summary.specs.declared.gathering.ItemCounts.{ItemCounts}
 use Rattle.mdmp_summary.specs.declared.part.PartOutside.{PartOutside}
 use Rattle.mdmp_summary.specs.declared.part.PartsOutside.{PartsOutside}
 use Rattle.mdmp_summary.specs.declared.summary.Crash.{Crash}
-use Rattle.mdmp_summary.specs.declared.summary.ModulePlace.{ModulePlace}
-use Rattle.mdmp_summary.specs.declared.summary.Summary.{Summary}
+use Rattle.mdmp_summary.specs.declared.summary.PlaceInModule.{PlaceInModule}
+use Rattle.mdmp_summary.specs.declared.summary.FileSummary.{FileSummary}
 
 -- ---- the items, kind by kind
 
 abbrev pub systems : List Item → List SystemRecord
-systems items = flat_map systems_in items
+systems items = flat_map systems_given items
 
 abbrev pub modules : List Item → List ModuleRecord
-modules items = flat_map modules_in items
+modules items = flat_map modules_given items
 
 abbrev pub exceptions : List Item → List ExceptionItem
-exceptions items = flat_map exceptions_in items
+exceptions items = flat_map exceptions_given items
 
 abbrev pub thread_names : List Item → List ThreadNameRecord
-thread_names items = flat_map thread_names_in items
+thread_names items = flat_map thread_names_given items
 
 abbrev pub outside : List Item → List PartOutside
 outside items = flat_map parts_outside items
@@ -50,17 +50,17 @@ outside items = flat_map parts_outside items
 -- how many of each kind, and how many bytes of memory lie inside the file
 abbrev pub item_counts : List Item → ItemCounts
 item_counts items = record {
-  streams = counted (length (flat_map streams_in items));
-  threads = counted (length (flat_map threads_in items));
-  modules = counted (length (modules items));
-  exceptions = counted (length (exceptions items));
-  ranges = counted (length (flat_map ranges_in items));
-  memory = counted (sum (flat_map memory_in items));
+  streams = capped (length (flat_map streams_given items));
+  threads = capped (length (flat_map threads_given items));
+  modules = capped (length (modules items));
+  exceptions = capped (length (exceptions items));
+  ranges = capped (length (flat_map ranges_given items));
+  memory = capped (sum (flat_map memory_given items));
 }
 
 -- how many parts lie outside the file, and the first of them
 abbrev pub told_outside : List PartOutside → PartsOutside
-told_outside parts = record { count = counted (length parts); first = first parts }
+told_outside parts = record { count = capped (length parts); first = first parts }
 
 -- ---- where the thread was
 
@@ -98,8 +98,8 @@ address_ran Other address None = address
 -- ---- the crash
 
 -- a module, and how far an address is above its base
-abbrev pub place_of : ℕ → ModuleRecord → ModulePlace
-place_of address m = record { fields = m; offset = address - m.base_of_image }
+abbrev pub place_in_module : ℕ → ModuleRecord → PlaceInModule
+place_in_module address m = record { fields = m; offset = address - m.base_of_image }
 
 -- the nearest module, if no module holds the address
 abbrev pub near_of : Option ModuleRecord → Option ModuleRecord → Option ModuleRecord
@@ -111,22 +111,22 @@ abbrev pub crash_told : List ℕ → List Item → Option SystemRecord → Excep
 crash_told F items system x =
     let registers = registers_of F system x.fields.thread_context in
     let address = address_ran (platform_in system) x.fields.exception_address registers in
-    let holder = first (filter (holds address) (modules items)) in
+    let holder = first (filter (holds_address address) (modules items)) in
     record {
       exception = x;
       registers = registers;
       address = address;
       reached = reached_on (platform_in system) x.fields;
-      holder = option_map (place_of address) holder;
-      near = option_map (place_of address) (near_of holder (nearest_below address (modules items)));
+      holder = option_map (place_in_module address) holder;
+      near = option_map (place_in_module address) (near_of holder (nearest_below address (modules items)));
       thread_name = first (filter (is_name_of x.fields.thread_id) (thread_names items));
     }
 
 -- ---- a whole file
 
 -- the summary of a file that can be listed, where a name of more than `limit` bytes is told by its length
-abbrev pub summary_of : List ℕ → ℕ → Summary
-summary_of F limit =
+abbrev pub file_summary : List ℕ → ℕ → FileSummary
+file_summary F limit =
     let items = all_items F limit in
     let system = first (systems items) in
     record {

@@ -5,7 +5,7 @@ ghost use Rattle.mdmp_summary.specs.Gathering.{inside_bytes};
 use crate::crash::Exceptions;
 use crate::fold::Fold;
 use crate::keeping::{count, keep};
-use crate::part::{Part, PartOutside, PartsOutside};
+use crate::part::{PartKind, PartOutside, PartsOutside};
 use mdmp_lister::{ExceptionItem, Item, ModuleItem, RangeItem, ThreadItem};
 use mdmp_source::Extent;
 use mdmp_wire::{ModuleRecord, SystemRecord};
@@ -36,7 +36,7 @@ pub(crate) struct Gathering {
 
 impl Gathering {
     ghost use Rattle.mdmp_lister.specs.declared.item.Item.TheVariants.{Exception, Module, Range, Thread};
-    ghost use Rattle.mdmp_summary.specs.Gathering.{gathered, nothing_gathered};
+    ghost use Rattle.mdmp_summary.specs.Gathering.{gathered_with, nothing_gathered};
 
     /// Before the first item.
     pub(crate) fn new() -> Self
@@ -59,52 +59,57 @@ impl Gathering {
     }
 
     fn take_thread(&mut self, x: &ThreadItem)
-        ensures { self.new ≡ gathered self.old (Thread x.now) }
+        ensures { self.new ≡ gathered_with self.old (Thread x.now) }
     {
         count(&mut self.counts.threads, 1);
-        let stack = PartOutside::located(x.entry, x.index, Part::Stack, x.fields.stack.memory);
+        let stack = PartOutside::located(x.entry, x.index, PartKind::Stack, x.fields.stack.memory);
         let context = PartOutside::located(
             x.entry,
             x.index,
-            Part::Context,
+            PartKind::Context,
             x.fields.thread_context,
         );
         self.outside.look_twice(x.stack, stack, x.context, context);
     }
 
     fn take_module(&mut self, x: &ModuleItem<'_>)
-        ensures { self.new ≡ gathered self.old (Module x.now) }
+        ensures { self.new ≡ gathered_with self.old (Module x.now) }
     {
         count(&mut self.counts.modules, 1);
         keep(&mut self.program, x.fields);
-        let codeview = PartOutside::located(x.entry, x.index, Part::CodeView, x.fields.cv_record);
-        let misc = PartOutside::located(x.entry, x.index, Part::Misc, x.fields.misc_record);
+        let codeview = PartOutside::located(
+            x.entry,
+            x.index,
+            PartKind::CodeView,
+            x.fields.cv_record,
+        );
+        let misc = PartOutside::located(x.entry, x.index, PartKind::Misc, x.fields.misc_record);
         self.outside.look_twice(x.codeview, codeview, x.misc, misc);
     }
 
     fn take_exception(&mut self, x: &ExceptionItem)
-        ensures { self.new ≡ gathered self.old (Exception x.now) }
+        ensures { self.new ≡ gathered_with self.old (Exception x.now) }
     {
         count(&mut self.counts.exceptions, 1);
         self.exceptions.take(x);
         let context = PartOutside::located(
             x.entry,
             x.index,
-            Part::Context,
+            PartKind::Context,
             x.fields.thread_context,
         );
         self.outside.look(x.context, context);
     }
 
     fn take_range(&mut self, x: &RangeItem)
-        ensures { self.new ≡ gathered self.old (Range x.now) }
+        ensures { self.new ≡ gathered_with self.old (Range x.now) }
     {
         count(&mut self.counts.ranges, 1);
         count(&mut self.counts.memory, inside_bytes(x));
         let memory = PartOutside {
             entry: x.entry,
             index: x.index,
-            part: Part::Memory,
+            part: PartKind::Memory,
             offset: x.offset,
             size: x.size,
         };
@@ -113,7 +118,7 @@ impl Gathering {
 
     /// Takes the next item.
     fn gather(&mut self, item: &Item<'_>)
-        ensures { self.new ≡ gathered self.old item.now }
+        ensures { self.new ≡ gathered_with self.old item.now }
     {
         match item {
             Item::Stream(_) => count(&mut self.counts.streams, 1),
@@ -138,9 +143,9 @@ fn inside_bytes(range: &RangeItem) -> u128
 }
 
 impl Fold for Gathering {
-    ghost use Rattle.mdmp_summary.specs.Gathering.{gathered};
+    ghost use Rattle.mdmp_summary.specs.Gathering.{gathered_with};
 
-    ghost next = { gathered };
+    ghost next = { gathered_with };
 
     #[tactic(auto, using(crate::proofs::Folds::gathered_plain))]
     fn take(&mut self, item: &Item<'_>) {

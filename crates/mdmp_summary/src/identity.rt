@@ -105,14 +105,14 @@ impl Pdb20 {
 
 /// The debug id of a module, as Breakpad writes it: the digits of the GUID, and the age in hexadecimal.
 #[derive(Clone, Copy, Debug, PartialEq, Eq)]
-pub struct DebugId {
+pub struct DebugIdentifier {
     /// The identity of the symbol file.
     pub guid: Uuid,
     /// How often the symbol file was written since it got its identity.
     pub age: u32,
 }
 
-impl DebugId {
+impl DebugIdentifier {
     ghost use Rattle.mdmp_summary.specs.Identity.{debug_id_built, debug_id_told};
 
     /// The debug id in a CodeView record of the kind RSDS. There is none in a record of another kind.
@@ -120,7 +120,7 @@ impl DebugId {
         ensures { result ≡ debug_id_told (codeview_value codeview.now) }
     {
         match codeview {
-            CodeView::Rsds { guid, age, .. } => Some(DebugId {
+            CodeView::Rsds { guid, age, .. } => Some(DebugIdentifier {
                 guid: *guid,
                 age: *age,
             }),
@@ -136,7 +136,7 @@ impl DebugId {
         let mut guid = [0; 16];
         let len = bytes.len().min(16);
         guid[..len].copy_from_slice(&bytes[..len]);
-        DebugId {
+        DebugIdentifier {
             guid: Uuid::from_bytes_le(guid),
             age: 0,
         }

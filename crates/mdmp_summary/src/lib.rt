@@ -1,6 +1,6 @@
 //! What a minidump tells of a crash, in one call.
 //!
-//! [`summarize`] reads a file in two passes and gives its [`Summary`]: the crash, with its thread, the
+//! [`summarize`] reads a file in two passes and gives its [`FileSummary`]: the crash, with its thread, the
 //! registers and the module at the address that ran; the system; how much the file has; the entries with
 //! an error; and the parts that lie outside the file. `specs/Summary.antt` defines it.
 //! [`summarize_listing`] does the same with a [`Walker`](mdmp_lister::Walker) that is open.
@@ -9,7 +9,7 @@
 //! nothing of the entries after it.
 //!
 //! [`registers_in`] reads three registers of a CPU context. [`CodeId`], [`BuildId`], [`Pdb20`] and
-//! [`DebugId`] are the ids by which a symbol server knows a module.
+//! [`DebugIdentifier`] are the ids by which a symbol server knows a module.
 //!
 //! ```text
 //! let source = Source::new(FileStore::open(rt, "crash.dmp")?);
@@ -38,8 +38,8 @@ pub use crate::bad_entries::BadEntries;
 pub use crate::context::{Registers, first_bytes_suffice, registers_in};
 pub use crate::crash::Platform;
 pub use crate::gathering::ItemCounts;
-pub use crate::identity::{BuildId, CodeId, DebugId, Pdb20};
-pub use crate::part::{Part, PartOutside, PartsOutside};
-pub use crate::reach::{Access, Reached};
-pub use crate::summary::{Crash, ModulePlace, Summary, SummaryFault};
+pub use crate::identity::{BuildId, CodeId, DebugIdentifier, Pdb20};
+pub use crate::part::{PartKind, PartOutside, PartsOutside};
+pub use crate::reach::{AccessKind, Reached};
+pub use crate::summary::{Crash, FileSummary, PlaceInModule, SummaryFault};
 pub use crate::summing::{summarize, summarize_listing};

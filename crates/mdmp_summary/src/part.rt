@@ -6,7 +6,7 @@ use mdmp_source::{Extent, Location};
 
 /// A part of a record: bytes that one of its locations points at.
 #[derive(Clone, Copy, Debug, PartialEq, Eq)]
-pub enum Part {
+pub enum PartKind {
     /// The stack of a thread.
     Stack,
     /// The registers of a thread, or of an exception's thread.
@@ -27,7 +27,7 @@ pub struct PartOutside {
     /// The index of the record in its stream, from 0.
     pub index: u64,
     /// Which part of the record it is.
-    pub part: Part,
+    pub part: PartKind,
     /// Where its first byte should be, an offset from the start of the file.
     pub offset: u128,
     /// How many bytes it has.
@@ -38,7 +38,7 @@ impl PartOutside {
     ghost use Rattle.mdmp_summary.specs.Part.{located};
 
     /// The part at a location.
-    pub(crate) fn located(entry: u32, index: u64, part: Part, at: Location) -> Self
+    pub(crate) fn located(entry: u32, index: u64, part: PartKind, at: Location) -> Self
         ensures { result ≡ located entry index part at }
     {
         PartOutside {

@@ -5,14 +5,14 @@ ghost use Rattle.mdmp_lister.specs.Fault.{IsOfStore};
 ghost use Rattle.mdmp_lister.specs.Walker.{is_failed};
 ghost use Rattle.mdmp_lister.specs.declared.choice.Choice.TheVariants.{All};
 ghost use Rattle.mdmp_summary.specs.BadEntries.{all_items};
-ghost use Rattle.mdmp_summary.specs.Gathered.{gathered_of, searched};
-ghost use Rattle.mdmp_summary.specs.Spending.{Spends};
+ghost use Rattle.mdmp_summary.specs.Passes.{all_gathered, searched};
+ghost use Rattle.mdmp_summary.specs.Spending.{SpendsPasses};
 ghost use Rattle.mdmp_summary.specs.Walking.{IsPassFault, IsSameListing};
 
 use crate::bad_entries::BadEntries;
 use crate::gathering::Gathering;
-use crate::search::Search;
-use crate::summary::{Crash, Summary};
+use crate::search::CrashSearch;
+use crate::summary::{Crash, FileSummary};
 use crate::walking::fold_all;
 use mdmp_lister::{ListFault, Walker};
 use mdmp_source::Store;
@@ -21,19 +21,19 @@ use std::alloc::Allocator;
 
 /// What the first pass gives.
 #[derive(Clone, Copy)]
-pub(crate) struct Gathered {
+pub(crate) struct FirstPass {
     pub(crate) gathering: Gathering,
     pub(crate) bad: BadEntries,
 }
 
-impl Gathered {
-    ghost use Rattle.mdmp_summary.specs.Gathered.{summary_with};
+impl FirstPass {
+    ghost use Rattle.mdmp_summary.specs.Passes.{summary_with};
 
     /// The summary of a file with this header and this crash.
-    pub(crate) fn summary(&self, header: Header, crash: Option<Crash>) -> Summary
+    pub(crate) fn summary(&self, header: Header, crash: Option<Crash>) -> FileSummary
         ensures { result ≡ summary_with self.now header crash }
     {
-        Summary {
+        FileSummary {
             header,
             system: self.gathering.system,
             program: self.gathering.program,
@@ -48,20 +48,20 @@ impl Gathered {
 /// Gathers what all items tell.
 pub(crate) fn gather_all<S: Store + Drop, A: Allocator + Copy>(
     walker: &mut Walker<S, A>,
-) -> Result<Gathered, ListFault>
+) -> Result<FirstPass, ListFault>
     requires all { walker.old.list.choice ≡ All }
     requires going { is_failed walker.old.list.stop ≡ false }
     ensures gathers { (file : List ℕ) → walker.old.list.source.store.content ≡ Some file
-        → IfOk result (λ told. told ≡ gathered_of file walker.old.list.limit) }
+        → IfOk result (λ told. told ≡ all_gathered file walker.old.list.limit) }
     ensures going { IfOk result (λ told. is_failed walker.new.list.stop ≡ false) }
     ensures fault { IfErr result (IsPassFault walker.old.list walker.new.list) }
     ensures good { (file : List ℕ) → IsGood walker.old.list.source.store file → IfErr result (λ fault. IsOfStore fault.kind → ⊥) }
-    ensures spends { Spends 1 0 walker.old walker.new }
+    ensures spends { SpendsPasses 1 0 walker.old walker.new }
     ensures same { IsSameListing walker.old.list walker.new.list }
 {
     let mut gathering = Gathering::new();
     match fold_all(walker, &mut gathering) {
-        Ok(bad) => Ok(Gathered { gathering, bad }),
+        Ok(bad) => Ok(FirstPass { gathering, bad }),
         Err(fault) => Err(fault),
     }
 }
@@ -71,17 +71,17 @@ pub(crate) fn search_all<S: Store + Drop, A: Allocator + Copy>(
     walker: &mut Walker<S, A>,
     address: u64,
     thread: u32,
-) -> Result<Search, ListFault>
+) -> Result<CrashSearch, ListFault>
     requires all { walker.old.list.choice ≡ All }
     requires going { is_failed walker.old.list.stop ≡ false }
     ensures finds { (file : List ℕ) → walker.old.list.source.store.content ≡ Some file
         → IfOk result (λ search. search ≡ searched address thread (all_items file walker.old.list.limit)) }
     ensures fault { IfErr result (IsPassFault walker.old.list walker.new.list) }
     ensures good { (file : List ℕ) → IsGood walker.old.list.source.store file → IfErr result (λ fault. IsOfStore fault.kind → ⊥) }
-    ensures spends { Spends 1 0 walker.old walker.new }
+    ensures spends { SpendsPasses 1 0 walker.old walker.new }
     ensures same { IsSameListing walker.old.list walker.new.list }
 {
-    let mut search = Search::new(address, thread);
+    let mut search = CrashSearch::new(address, thread);
     match fold_all(walker, &mut search) {
         Ok(_) => Ok(search),
         Err(fault) => Err(fault),

@@ -7,7 +7,7 @@ use mdmp_wire::ExceptionRecord;
 
 /// What a thread tried to do at an address.
 #[derive(Clone, Copy, Debug, PartialEq, Eq)]
-pub enum Access {
+pub enum AccessKind {
     /// To read.
     Read,
     /// To write.
@@ -24,7 +24,7 @@ pub struct Reached {
     /// An address of the dumped process.
     pub address: u64,
     /// What the thread tried to do there.
-    pub access: Access,
+    pub access: AccessKind,
 }
 
 /// Whether the parameters of a Windows exception tell the address and the access: those of
@@ -42,16 +42,16 @@ fn has_address(code: u32) -> bool
     matches!(code, 4 | 5 | 7 | 8 | 11)
 }
 
-impl Access {
+impl AccessKind {
     /// The access that the first parameter of an access violation means.
     fn of_parameter(parameter: u64) -> Self
         ensures { result ≡ access_of parameter }
     {
         match parameter {
-            0 => Access::Read,
-            1 => Access::Write,
-            8 => Access::Execute,
-            _ => Access::Unknown,
+            0 => AccessKind::Read,
+            1 => AccessKind::Write,
+            8 => AccessKind::Execute,
+            _ => AccessKind::Unknown,
         }
     }
 }
@@ -66,7 +66,7 @@ pub(crate) fn reached_on(platform: Platform, fields: &ExceptionRecord) -> Option
             if is_access_fault(code) && fields.number_parameters >= 2 {
                 Some(Reached {
                     address: fields.exception_information[1],
-                    access: Access::of_parameter(fields.exception_information[0]),
+                    access: AccessKind::of_parameter(fields.exception_information[0]),
                 })
             } else {
                 None
@@ -76,7 +76,7 @@ pub(crate) fn reached_on(platform: Platform, fields: &ExceptionRecord) -> Option
             if has_address(code) {
                 Some(Reached {
                     address: fields.exception_address,
-                    access: Access::Unknown,
+                    access: AccessKind::Unknown,
                 })
             } else {
                 None
@@ -87,7 +87,7 @@ pub(crate) fn reached_on(platform: Platform, fields: &ExceptionRecord) -> Option
             if code == 1 {
                 Some(Reached {
                     address: fields.exception_address,
-                    access: Access::Unknown,
+                    access: AccessKind::Unknown,
                 })
             } else {
                 None

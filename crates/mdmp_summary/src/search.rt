@@ -1,6 +1,6 @@
 //! What is searched among all items: the modules at an address, and the name of a thread.
 ghost use Rattle.std.specs.Prelude.{◌≡◌, Some};
-ghost use Rattle.mdmp_summary.specs.Search.{higher, holds};
+ghost use Rattle.mdmp_summary.specs.Search.{higher, holds_address};
 
 use crate::fold::Fold;
 use crate::keeping::keep;
@@ -9,7 +9,7 @@ use mdmp_wire::{ModuleRecord, ThreadNameRecord};
 
 /// What is searched, and what was found so far.
 #[derive(Clone, Copy)]
-pub(crate) struct Search {
+pub(crate) struct CrashSearch {
     /// An address of the dumped process.
     pub(crate) address: u64,
     /// The id of a thread.
@@ -23,8 +23,8 @@ pub(crate) struct Search {
 }
 
 /// Whether a module holds an address.
-fn holds(fields: &ModuleRecord, address: u64) -> bool
-    ensures { result ≡ holds address fields.now }
+fn holds_address(fields: &ModuleRecord, address: u64) -> bool
+    ensures { result ≡ holds_address address fields.now }
 {
     let end = u128::from(fields.base_of_image) + u128::from(fields.size_of_image);
     fields.base_of_image <= address && u128::from(address) < end
@@ -44,14 +44,14 @@ fn keep_higher(place: &mut Option<ModuleRecord>, fields: &ModuleRecord)
     }
 }
 
-impl Search {
+impl CrashSearch {
     ghost use Rattle.mdmp_summary.specs.Search.{found, module_found, name_found, nothing_found};
 
     /// Before the first item.
     pub(crate) fn new(address: u64, thread: u32) -> Self
         ensures { result ≡ nothing_found address thread }
     {
-        Search {
+        CrashSearch {
             address,
             thread,
             holder: None,
@@ -66,7 +66,7 @@ impl Search {
         if fields.base_of_image <= self.address {
             keep_higher(&mut self.nearest, fields);
         }
-        if holds(fields, self.address) {
+        if holds_address(fields, self.address) {
             keep(&mut self.holder, *fields);
         }
     }
@@ -97,7 +97,7 @@ impl Search {
     }
 }
 
-impl Fold for Search {
+impl Fold for CrashSearch {
     ghost use Rattle.mdmp_summary.specs.Search.{found};
 
     ghost next = { found };

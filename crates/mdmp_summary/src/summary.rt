@@ -11,7 +11,7 @@ use mdmp_wire::{Header, ModuleRecord, SystemRecord, ThreadNameRecord};
 
 /// A module, and an address at its base or above it.
 #[derive(Clone, Copy, Debug, PartialEq, Eq)]
-pub struct ModulePlace {
+pub struct PlaceInModule {
     /// The record of the module.
     pub fields: ModuleRecord,
     /// How many bytes the address is above `BaseOfImage`.
@@ -32,9 +32,9 @@ pub struct Crash {
     /// The address that the thread tried to reach, if the code tells it.
     pub reached: Option<Reached>,
     /// The first module that holds the address that ran.
-    pub holder: Option<ModulePlace>,
+    pub holder: Option<PlaceInModule>,
     /// If no module holds the address that ran: the module with the greatest base at or below it.
-    pub near: Option<ModulePlace>,
+    pub near: Option<PlaceInModule>,
     /// The first name of the thread.
     pub thread_name: Option<ThreadNameRecord>,
 }
@@ -43,7 +43,7 @@ pub struct Crash {
 ///
 /// It covers all entries, each up to its own error.
 #[derive(Clone, Copy, Debug, PartialEq, Eq)]
-pub struct Summary {
+pub struct FileSummary {
     /// The header of the file.
     pub header: Header,
     /// The first system record.

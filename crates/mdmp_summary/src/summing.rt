@@ -5,9 +5,9 @@ ghost use Rattle.mdmp_source.specs.Store.{IsGood};
 ghost use Rattle.mdmp_lister.specs.Memory.{walk_fault};
 ghost use Rattle.mdmp_lister.specs.Walker.{is_failed};
 ghost use Rattle.mdmp_lister.specs.declared.choice.Choice.TheVariants.{All};
-ghost use Rattle.mdmp_summary.specs.Spending.{Spends};
+ghost use Rattle.mdmp_summary.specs.Spending.{SpendsPasses};
 ghost use Rattle.mdmp_summary.specs.BadEntries.{all_items};
-ghost use Rattle.mdmp_summary.specs.Summary.{address_ran, crash_told, near_of, place_of, platform_in, summary_of};
+ghost use Rattle.mdmp_summary.specs.Summary.{address_ran, crash_told, near_of, place_in_module, platform_in, file_summary};
 ghost use Rattle.mdmp_summary.specs.Summing.{IsCallFault, IsFileFault, IsSummaryFault, IsUnreadIn};
 ghost use Rattle.mdmp_summary.specs.Walking.{IsSameListing};
 
@@ -16,7 +16,7 @@ use crate::context_reading::read_registers;
 use crate::crash::Platform;
 use crate::passes::{gather_all, search_all};
 use crate::reach::reached_on;
-use crate::summary::{Crash, ModulePlace, Summary, SummaryFault};
+use crate::summary::{Crash, FileSummary, PlaceInModule, SummaryFault};
 use mdmp_lister::{Choice, ExceptionItem, Limits, Walker};
 use mdmp_source::{Source, Store};
 use mdmp_wire::{ModuleRecord, SystemRecord};
@@ -44,11 +44,11 @@ fn address_ran(platform: Platform, address: u64, registers: Option<Registers>) -
 }
 
 /// A module, and how far an address is above its base.
-fn place_of(address: u64, fields: Option<ModuleRecord>) -> Option<ModulePlace>
-    ensures { result ≡ option_map (place_of address) fields }
+fn place_in_module(address: u64, fields: Option<ModuleRecord>) -> Option<PlaceInModule>
+    ensures { result ≡ option_map (place_in_module address) fields }
 {
     match fields {
-        Some(fields) => Some(ModulePlace {
+        Some(fields) => Some(PlaceInModule {
             fields,
             offset: address.saturating_sub(fields.base_of_image),
         }),
@@ -78,7 +78,7 @@ fn tell_crash<S: Store + Drop, A: Allocator + Copy>(
         → IfOk result (λ crash. crash ≡ crash_told file (all_items file walker.old.list.limit) system exception) }
     ensures fault { IfErr result (IsCallFault walker.old.list walker.new.list) }
     ensures good { (file : List ℕ) → IsGood walker.old.list.source.store file → IfErr result (λ fault. IsUnreadIn fault → ⊥) }
-    ensures spends { Spends 1 1 walker.old walker.new }
+    ensures spends { SpendsPasses 1 1 walker.old walker.new }
     ensures same { IsSameListing walker.old.list walker.new.list }
 {
     let registers = match read_registers(walker, system, exception.fields.thread_context) {
@@ -93,8 +93,8 @@ fn tell_crash<S: Store + Drop, A: Allocator + Copy>(
             registers,
             address,
             reached: reached_on(platform, &exception.fields),
-            holder: place_of(address, search.holder),
-            near: place_of(address, near_of(search.holder, search.nearest)),
+            holder: place_in_module(address, search.holder),
+            near: place_in_module(address, near_of(search.holder, search.nearest)),
             thread_name: search.name,
         }),
         Err(fault) => Err(SummaryFault::List(fault)),
@@ -111,14 +111,14 @@ fn tell_crash<S: Store + Drop, A: Allocator + Copy>(
 /// is read.
 pub fn summarize_listing<S: Store + Drop, A: Allocator + Copy>(
     walker: &mut Walker<S, A>,
-) -> Result<Summary, SummaryFault>
+) -> Result<FileSummary, SummaryFault>
     requires all { walker.old.list.choice ≡ All }
     requires going { is_failed walker.old.list.stop ≡ false }
     ensures sums { (file : List ℕ) → walker.old.list.source.store.content ≡ Some file
-        → IfOk result (λ summary. summary ≡ summary_of file walker.old.list.limit) }
+        → IfOk result (λ summary. summary ≡ file_summary file walker.old.list.limit) }
     ensures fault { IfErr result (IsCallFault walker.old.list walker.new.list) }
     ensures good { (file : List ℕ) → IsGood walker.old.list.source.store file → IfErr result (λ fault. IsUnreadIn fault → ⊥) }
-    ensures spends { Spends 2 1 walker.old walker.new }
+    ensures spends { SpendsPasses 2 1 walker.old walker.new }
     ensures same { IsSameListing walker.old.list walker.new.list }
 {
     let header = walker.header();
@@ -144,9 +144,9 @@ pub fn summarize<S: Store + Drop, A: Allocator + Copy>(
     alloc: A,
     source: Source<S>,
     limits: Limits,
-) -> Result<Summary, SummaryFault>
+) -> Result<FileSummary, SummaryFault>
     ensures sums { (file : List ℕ) → source.store.content ≡ Some file
-        → MatchResult result (λ summary. (walk_fault limits file ≡ None) × (summary ≡ summary_of file limits.name)) (IsSummaryFault limits file) }
+        → MatchResult result (λ summary. (walk_fault limits file ≡ None) × (summary ≡ file_summary file limits.name)) (IsSummaryFault limits file) }
     // If each read succeeds and there is no read limit, only the file itself or too little memory is an error.
     ensures succeeds { (file : List ℕ) → IsGood source.store file → limits.budget ≡ None → IfErr result (IsFileFault limits file) }
 {

@@ -4,7 +4,7 @@ ghost use Rattle.mdmp_source.specs.Store.{IsGood};
 ghost use Rattle.mdmp_lister.specs.Fault.{IsOfStore, is_unobtained};
 ghost use Rattle.mdmp_lister.specs.Walker.{is_failed, is_sought};
 ghost use Rattle.mdmp_lister.specs.declared.choice.Choice.TheVariants.{All};
-ghost use Rattle.mdmp_summary.specs.Spending.{PaysLook, Spends};
+ghost use Rattle.mdmp_summary.specs.Spending.{PaysLook, SpendsPasses};
 ghost use Rattle.mdmp_summary.specs.BadEntries.{all_items, entry_faults, told_bad};
 ghost use Rattle.mdmp_summary.specs.Walking.{EndsLook, Folds, IsLookFault, IsPassFault, IsSameListing};
 
@@ -60,7 +60,7 @@ pub(crate) fn fold_all<S: Store + Drop, A: Allocator + Copy, K: Fold>(
     ensures going { IfOk result (λ bad. is_failed walker.new.list.stop ≡ false) }
     ensures fault { IfErr result (IsPassFault walker.old.list walker.new.list) }
     ensures good { (file : List ℕ) → IsGood walker.old.list.source.store file → IfErr result (λ fault. IsOfStore fault.kind → ⊥) }
-    ensures pays { Spends 1 0 walker.old walker.new }
+    ensures pays { SpendsPasses 1 0 walker.old walker.new }
     ensures same { IsSameListing walker.old.list walker.new.list }
 {
     let mut bad = BadEntries::none();

@@ -1,6 +1,6 @@
 //! Ids of modules.
 use crate::same::{assert_same, assert_same_at};
-use mdmp_summary::{BuildId, DebugId, Pdb20};
+use mdmp_summary::{BuildId, DebugIdentifier, Pdb20};
 
 /// A CodeView record of an ELF file with a build id of 20 bytes.
 const ELF: [u8; 24] =
@@ -33,7 +33,7 @@ fn build_id_is_cut_at_20_bytes(rt: HostRuntime) {
 
 #[test]
 fn symbol_file_has_a_debug_id(rt: HostRuntime) {
-    let built = DebugId::of_build_id(&ELF[4..]);
+    let built = DebugIdentifier::of_build_id(&ELF[4..]);
     let guid = *b"\x4b\x3c\x1f\x2d\x69\x5a\x87\x78\x96\xa5\xb4\xc3\xd2\xe1\xf0\x0f";
     assert_same(&rt, (built.guid.into_bytes(), built.age), (guid, 0));
     let pdb = Pdb20::read(&NB10, 17);

@@ -13,6 +13,8 @@ mod files;
 #[cfg(test)]
 mod ids;
 #[cfg(test)]
+mod prefixes;
+#[cfg(test)]
 mod same;
 #[cfg(test)]
 mod summaries;

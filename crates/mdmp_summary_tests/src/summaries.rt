@@ -2,11 +2,10 @@
 use crate::files::crash_file;
 use crate::same::assert_same_at;
 use crate::summing::summary_in;
-use mdmp_lister::FaultKind;
-use mdmp_summary::{Crash, ModulePlace, Part, Summary};
+use mdmp_summary::{Crash, PlaceInModule};
 
 /// The base of a module, and the offset of an address.
-fn place(at: Option<ModulePlace>) -> Option<(u64, u64)> {
+fn place(at: Option<PlaceInModule>) -> Option<(u64, u64)> {
     match at {
         Some(place) => Some((place.fields.base_of_image, place.offset)),
         None => None,
@@ -14,9 +13,9 @@ fn place(at: Option<ModulePlace>) -> Option<(u64, u64)> {
 }
 
 /// The thread, the address that ran, the module that holds it, and the one that is near.
-type Told = (u32, u64, Option<(u64, u64)>, Option<(u64, u64)>);
+type ToldCrash = (u32, u64, Option<(u64, u64)>, Option<(u64, u64)>);
 
-fn told(crash: Option<Crash>) -> Option<Told> {
+fn told(crash: Option<Crash>) -> Option<ToldCrash> {
     match crash {
         Some(x) => Some((
             x.exception.fields.thread_id,
@@ -29,7 +28,7 @@ fn told(crash: Option<Crash>) -> Option<Told> {
 }
 
 #[test]
-fn crash_is_found_after_a_bad_entry(rt: HostRuntime) {
+fn summary_succeeds_after_a_bad_entry(rt: HostRuntime) {
     for (platform, code, base, size, expected) in [
         (
             0x8201,
@@ -53,37 +52,5 @@ fn crash_is_found_after_a_bad_entry(rt: HostRuntime) {
         let file = crash_file(&rt, rt.alloc(), platform, code, base, size);
         let summary = summary_in(&rt, rt.alloc(), &file);
         assert_same_at(&rt, &(platform, code, base), told(summary.crash), expected);
-    }
-}
-
-/// How many entries are bad, the first of them, and the part that is the first outside.
-type Lost = (u64, Option<(u32, FaultKind)>, u128, Option<(u32, Part)>);
-
-fn lost(summary: Summary) -> Lost {
-    let bad = match summary.bad.first {
-        Some(fault) => Some((fault.entry, fault.kind)),
-        None => None,
-    };
-    let part = match summary.outside.first {
-        Some(part) => Some((part.entry, part.part)),
-        None => None,
-    };
-    (summary.bad.count, bad, summary.outside.count, part)
-}
-
-#[test]
-fn cut_file_tells_what_is_lost(rt: HostRuntime) {
-    let file = crash_file(&rt, rt.alloc(), 0x8201, 11, 0x5000, 0x100);
-    let outside = Some((0, FaultKind::StreamOutside));
-    for (len, expected) in [
-        (852, (1, outside, 0, None)),
-        (851, (1, outside, 1, Some((2, Part::Context)))),
-        (596, (1, outside, 1, Some((2, Part::Context)))),
-        (595, (2, outside, 1, Some((2, Part::Context)))),
-        (427, (4, outside, 0, None)),
-        (92, (5, outside, 0, None)),
-    ] {
-        let summary = summary_in(&rt, rt.alloc(), &file[..len]);
-        assert_same_at(&rt, &len, lost(summary), expected);
     }
 }

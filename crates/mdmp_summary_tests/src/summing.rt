@@ -1,7 +1,7 @@
 //! Summaries of stores, and what a walker counts behind them.
 use mdmp_lister::{Choice, Limits, Walker};
 use mdmp_source::{MemoryStore, Source, Store};
-use mdmp_summary::{Summary, SummaryFault, summarize, summarize_listing};
+use mdmp_summary::{FileSummary, SummaryFault, summarize, summarize_listing};
 use std::alloc::{Allocator, Global};
 use std::process::Abort;
 
@@ -10,12 +10,12 @@ pub fn summary_over<S: Store + Drop, A: Allocator + Copy>(
     alloc: A,
     store: S,
     limits: Limits,
-) -> Result<Summary, SummaryFault> {
+) -> Result<FileSummary, SummaryFault> {
     summarize(alloc, Source::new(store), limits)
 }
 
 /// The summary of a file in memory.
-pub fn summary_in(rt: &impl Abort, alloc: Global, file: &[u8]) -> Summary {
+pub fn summary_in(rt: &impl Abort, alloc: Global, file: &[u8]) -> FileSummary {
     summary_over(alloc, MemoryStore::new(file), Limits::default()).expect(rt, "a summary")
 }
 

@@ -1,6 +1,6 @@
 use Rattle.std.proofs.Common.{◌≡◌, None, ap, ◌∙◌}
 use Rattle.mdmp_lister.specs.Memory.{walk_fault}
-use Rattle.mdmp_summary.specs.Summary.{summary_of}
+use Rattle.mdmp_summary.specs.Summary.{file_summary}
 use Rattle.mdmp_summary.proofs.Told.{good_still, opened_good, told_good, told_known}
 use Rattle.mdmp_summary.proofs.summing.summarize.Goals as goal
 
@@ -8,8 +8,8 @@ pub returns-in-Ok-clause-sums : goal.returns-in-Ok-clause-sums
 returns-in-Ok-clause-sums g c = λ file known.
     let new = c.in-Ok.ensures.new.list in
     let sums = c.summarize_listing.ensures in
-    told_known c.args.limits file (walk_fault c.args.limits file ≡ None) c.in-Ok.walker.list c.summarize_listing.new.walker.list (summary_of file c.in-Ok.walker.list.limit) (summary_of file c.args.limits.name) c.summarize_listing.result
-    (c.in-Ok.ensures.within file known) (ap (summary_of file) new.asked.limit_is) (sums.sums file (new.same_content ∙ known)) sums.fault
+    told_known c.args.limits file (walk_fault c.args.limits file ≡ None) c.in-Ok.walker.list c.summarize_listing.new.walker.list (file_summary file c.in-Ok.walker.list.limit) (file_summary file c.args.limits.name) c.summarize_listing.result
+    (c.in-Ok.ensures.within file known) (ap (file_summary file) new.asked.limit_is) (sums.sums file (new.same_content ∙ known)) sums.fault
 
 pub returns-in-Ok-clause-succeeds : goal.returns-in-Ok-clause-succeeds
 returns-in-Ok-clause-succeeds g c = λ file good none.

@@ -3,7 +3,7 @@ use Rattle.std.specs.Prelude.{replicate}
 use Rattle.uuid.specs.Parts.{swap_fields}
 use Rattle.mdmp_summary.specs.Identity.{sixteen_of}
 use Rattle.mdmp_summary.proofs.Padding.{put_over}
-use Rattle.mdmp_summary.proofs.identity.DebugId.of_build_id.Goals as goal
+use Rattle.mdmp_summary.proofs.identity.DebugIdentifier.of_build_id.Goals as goal
 
 pub returns : goal.returns
 returns c =
