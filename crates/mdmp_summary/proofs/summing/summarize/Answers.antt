@@ -20,5 +20,5 @@ returns-in-Ok-clause-succeeds g c = λ file good none.
 
 pub returns-in-Err-clause-succeeds : goal.returns-in-Err-clause-succeeds
 returns-in-Err-clause-succeeds g c = λ file good none.
-    let refused = c.in-Err.ensures in
-    opened_good c.args.limits file c.args.source refused.kept.fetched c.in-Err.refused.fault none (refused.within file good.known) (refused.good file good) refused.kept.over
+    let fetches = c.in-Err.ensures.refused.fetches in
+    opened_good c.args.limits file c.args.source fetches.kept.fetched c.in-Err.refused.fault none (c.in-Err.ensures.within file good.known) (fetches.good file good) fetches.kept.over
