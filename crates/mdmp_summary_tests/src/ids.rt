@@ -1,6 +1,7 @@
 //! Ids of modules.
 use crate::same::{assert_same, assert_same_at};
 use mdmp_summary::{BuildId, DebugIdentifier, Pdb20};
+use std::process::Abort;
 
 /// A CodeView record of an ELF file with a build id of 20 bytes.
 const ELF: [u8; 24] =
@@ -10,7 +11,8 @@ const ELF: [u8; 24] =
 const NB10: [u8; 17] = *b"NB10\0\0\0\0\x10\x84\x7d\x3b\x05\0\0\0a";
 
 /// How many bytes of a build id a record of `size` bytes has, and whether it has more.
-fn build_id(head: &[u8], size: u32) -> Option<(usize, bool)> {
+fn build_id(rt: &impl Abort, head: &[u8], size: u32) -> Option<(usize, bool)> {
+    assert!(rt; head.len() == size.min(24) as usize);
     match BuildId::read(head, size) {
         Some(id) => Some((id.bytes.len(), id.cut)),
         None => None,
@@ -26,9 +28,9 @@ fn build_id_is_cut_at_20_bytes(rt: HostRuntime) {
         (4, 4, Some((0, false))),
         (3, 3, None),
     ] {
-        assert_same_at(&rt, &size, build_id(&ELF[..len], size), expected);
+        assert_same_at(&rt, &size, build_id(&rt, &ELF[..len], size), expected);
     }
-    assert_same(&rt, build_id(&NB10, 17), None);
+    assert_same(&rt, build_id(&rt, &NB10, 17), None);
 }
 
 #[test]

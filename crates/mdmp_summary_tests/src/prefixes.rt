@@ -1,7 +1,7 @@
 //! Summaries of the first parts of a file.
 use crate::files::crash_file;
 use crate::same::assert_same_at;
-use crate::summing::summary_in;
+use crate::summing::summary_of_first;
 use mdmp_lister::FaultKind;
 use mdmp_summary::{FileSummary, PartKind};
 
@@ -32,7 +32,7 @@ fn cut_file_tells_what_is_lost(rt: HostRuntime) {
         (427, (4, outside, 0, None)),
         (92, (5, outside, 0, None)),
     ] {
-        let summary = summary_in(&rt, rt.alloc(), &file[..len]);
+        let summary = summary_of_first(&rt, rt.alloc(), &file, len);
         assert_same_at(&rt, &len, lost(summary), expected);
     }
 }
