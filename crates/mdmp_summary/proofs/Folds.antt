@@ -2,6 +2,7 @@
 use Rattle.std.proofs.Common.{◌≡◌, ℕ, suc, ◌+◌, List, [], ◌∷◌, ◌++◌, Bool, Option, Some, None, length, refl, ap, sym, ◌∙◌, arith}
 use Rattle.std.specs.Prelude.{filter, flat_map, fold, sum}
 use Rattle.std.proofs.lemmas.Bool.Decides.{nat_tests}
+use Rattle.std.proofs.lemmas.List.{append-nil}
 use Rattle.std.proofs.lemmas.List.Elements.{filter-append}
 use Rattle.std.proofs.lemmas.List.Sums.{sum_by-cons}
 use Rattle.mdmp_source.specs.Count.{raised}
@@ -45,6 +46,9 @@ summed_on-append n (x ∷ xs) ys = summed_on-append (raised n x) xs ys
 
 pub parts_seen_append : (old : PartsOutside) (xs ys : List PartOutside) → parts_seen (parts_seen old xs) ys ≡ parts_seen old (xs ++ ys)
 parts_seen_append old xs ys = λ i. record { count = counted_on-append old.count xs ys i; first = kept-append old.first xs ys i }
+
+pub nothing_after : (xs : List PartOutside) → xs ++ [] ≡ xs
+nothing_after xs = append-nil xs
 
 -- ---- items whose names are lent
 

@@ -1,11 +1,12 @@
 -- Parts of records that are not in the file.
-use Rattle.std.specs.Prelude.{ℕ, List, [], ◌∷◌, ◌++◌}
+use Rattle.std.specs.Prelude.{ℕ, List, [], ◌∷◌, ◌++◌, Option, Some, None}
 use Rattle.mdmp_source.specs.declared.location.Extent.{Extent}
 use Rattle.mdmp_source.specs.declared.location.Extent.TheVariants.{Empty, Absent, Inside, Outside}
 use Rattle.mdmp_source.specs.declared.location.Location.{Location}
 use Rattle.mdmp_lister.specs.declared.item.Item.{Item}
 use Rattle.mdmp_lister.specs.declared.item.Item.TheVariants as items
 use Rattle.mdmp_summary.specs.Keeping.{counted_on, kept}
+use Rattle.mdmp_summary.specs.declared.lost_parts.LostParts.{LostParts}
 use Rattle.mdmp_summary.specs.declared.part.PartKind.{PartKind}
 use Rattle.mdmp_summary.specs.declared.part.PartKind.TheVariants.{Stack, Context, CodeView, Misc, Memory}
 use Rattle.mdmp_summary.specs.declared.part.PartOutside.{PartOutside}
@@ -33,6 +34,17 @@ parts_outside (items.Module x) =
 parts_outside (items.Exception x) = if_outside x.context (located x.entry x.index Context x.fields.thread_context)
 parts_outside (items.Range x) = if_outside x.extent (record { entry = x.entry; index = x.index; part = Memory; offset = x.offset; size = x.size })
 parts_outside x = []
+
+-- ---- as values
+
+-- a part, if there is one
+abbrev pub part_told : Option PartOutside → List PartOutside
+part_told None = []
+part_told (Some part) = part ∷ []
+
+-- the parts of a record
+abbrev pub parts_told : LostParts → List PartOutside
+parts_told parts = part_told parts.first ++ part_told parts.second
 
 -- ---- a part at a time
 

@@ -5,7 +5,8 @@ ghost use Rattle.mdmp_summary.specs.Gathering.{inside_bytes};
 use crate::crash::Exceptions;
 use crate::fold::Fold;
 use crate::keeping::{count, keep};
-use crate::part::{PartKind, PartOutside, PartsOutside};
+use crate::lost_parts::LostParts;
+use crate::part::PartsOutside;
 use mdmp_lister::{ExceptionItem, Item, ModuleItem, RangeItem, ThreadItem};
 use mdmp_source::Extent;
 use mdmp_wire::{ModuleRecord, SystemRecord};
@@ -62,14 +63,7 @@ impl Gathering {
         ensures { self.new ≡ gathered_with self.old (Thread x.now) }
     {
         count(&mut self.counts.threads, 1);
-        let stack = PartOutside::located(x.entry, x.index, PartKind::Stack, x.fields.stack.memory);
-        let context = PartOutside::located(
-            x.entry,
-            x.index,
-            PartKind::Context,
-            x.fields.thread_context,
-        );
-        self.outside.look_twice(x.stack, stack, x.context, context);
+        self.outside.take(LostParts::of_thread(x));
     }
 
     fn take_module(&mut self, x: &ModuleItem<'_>)
@@ -77,14 +71,7 @@ impl Gathering {
     {
         count(&mut self.counts.modules, 1);
         keep(&mut self.program, x.fields);
-        let codeview = PartOutside::located(
-            x.entry,
-            x.index,
-            PartKind::CodeView,
-            x.fields.cv_record,
-        );
-        let misc = PartOutside::located(x.entry, x.index, PartKind::Misc, x.fields.misc_record);
-        self.outside.look_twice(x.codeview, codeview, x.misc, misc);
+        self.outside.take(LostParts::of_module(x));
     }
 
     fn take_exception(&mut self, x: &ExceptionItem)
@@ -92,13 +79,7 @@ impl Gathering {
     {
         count(&mut self.counts.exceptions, 1);
         self.exceptions.take(x);
-        let context = PartOutside::located(
-            x.entry,
-            x.index,
-            PartKind::Context,
-            x.fields.thread_context,
-        );
-        self.outside.look(x.context, context);
+        self.outside.take(LostParts::of_exception(x));
     }
 
     fn take_range(&mut self, x: &RangeItem)
@@ -106,14 +87,7 @@ impl Gathering {
     {
         count(&mut self.counts.ranges, 1);
         count(&mut self.counts.memory, inside_bytes(x));
-        let memory = PartOutside {
-            entry: x.entry,
-            index: x.index,
-            part: PartKind::Memory,
-            offset: x.offset,
-            size: x.size,
-        };
-        self.outside.look(x.extent, memory);
+        self.outside.take(LostParts::of_range(x));
     }
 
     /// Takes the next item.

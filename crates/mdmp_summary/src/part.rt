@@ -1,8 +1,9 @@
 //! Parts of records that are not in the file.
-ghost use Rattle.std.specs.Prelude.{◌≡◌, ◌++◌, None};
+ghost use Rattle.std.specs.Prelude.{◌≡◌, None};
 
 use crate::keeping::{count, keep};
-use mdmp_source::{Extent, Location};
+use crate::lost_parts::LostParts;
+use mdmp_source::Location;
 
 /// A part of a record: bytes that one of its locations points at.
 #[derive(Clone, Copy, Debug, PartialEq, Eq)]
@@ -61,7 +62,7 @@ pub struct PartsOutside {
 }
 
 impl PartsOutside {
-    ghost use Rattle.mdmp_summary.specs.Part.{if_outside, parts_seen};
+    ghost use Rattle.mdmp_summary.specs.Part.{part_told, parts_seen, parts_told};
 
     /// Before the first part.
     pub(crate) fn none() -> Self
@@ -73,31 +74,24 @@ impl PartsOutside {
         }
     }
 
-    /// Takes the next part, with its extent.
-    pub(crate) fn look(&mut self, extent: Extent, part: PartOutside)
-        ensures { self.new ≡ parts_seen self.old (if_outside extent part) }
+    fn look(&mut self, part: Option<PartOutside>)
+        ensures { self.new ≡ parts_seen self.old (part_told part) }
     {
-        match extent {
-            Extent::Outside => {
+        match part {
+            Some(part) => {
                 count(&mut self.count, 1);
                 keep(&mut self.first, part);
             }
-            Extent::Empty | Extent::Absent | Extent::Inside => {}
+            None => {}
         }
     }
 
-    /// Takes the two parts of a record.
+    /// Takes the parts of the next record.
     #[tactic(auto, using(crate::proofs::Folds::parts_seen_append))]
-    pub(crate) fn look_twice(
-        &mut self,
-        extent: Extent,
-        part: PartOutside,
-        next_extent: Extent,
-        next: PartOutside,
-    )
-        ensures { self.new ≡ parts_seen self.old (if_outside extent part ++ if_outside next_extent next) }
+    pub(crate) fn take(&mut self, parts: LostParts)
+        ensures { self.new ≡ parts_seen self.old (parts_told parts) }
     {
-        self.look(extent, part);
-        self.look(next_extent, next);
+        self.look(parts.first);
+        self.look(parts.second);
     }
 }

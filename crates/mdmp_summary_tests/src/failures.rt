@@ -1,5 +1,5 @@
 //! Stores that fail, memory that is refused, and read limits.
-use crate::files::crash_file;
+use crate::files::{LINUX, crash_file};
 use crate::same::assert_same_at;
 use crate::summing::{fetched_for, summary_in, summary_over};
 use mdmp_lister::{FaultKind, Limits, OpenFault};
@@ -36,7 +36,7 @@ fn end_of(told: Result<FileSummary, SummaryFault>) -> SummaryEnd {
 
 #[test]
 fn store_that_fails_at_a_call_ends_the_summary(rt: HostRuntime) {
-    let file = crash_file(&rt, rt.alloc(), 0x8201, 11, 0x5000, 0x100);
+    let file = crash_file(&rt, rt.alloc(), LINUX);
     let whole = SummaryEnd::Told(summary_in(&rt, rt.alloc(), &file));
     let mut calls = 0u32;
     for call in 0..40u64 {
@@ -53,7 +53,7 @@ fn store_that_fails_at_a_call_ends_the_summary(rt: HostRuntime) {
 
 #[test]
 fn growth_of_memory_that_is_refused_ends_the_summary(rt: HostRuntime) {
-    let file = crash_file(&rt, rt.alloc(), 0x8201, 11, 0x5000, 0x100);
+    let file = crash_file(&rt, rt.alloc(), LINUX);
     let whole = SummaryEnd::Told(summary_in(&rt, rt.alloc(), &file));
     for (growth, expected) in [(0, SummaryEnd::Memory), (2, SummaryEnd::Memory), (3, whole)] {
         let heap = MeteredHeap::new(rt.alloc(), Refusal::Only(growth));
@@ -65,7 +65,7 @@ fn growth_of_memory_that_is_refused_ends_the_summary(rt: HostRuntime) {
 
 #[test]
 fn budget_of_what_is_fetched_is_enough(rt: HostRuntime) {
-    let file = crash_file(&rt, rt.alloc(), 0x8201, 11, 0x5000, 0x100);
+    let file = crash_file(&rt, rt.alloc(), LINUX);
     let whole = SummaryEnd::Told(summary_in(&rt, rt.alloc(), &file));
     // Header, directory, and twice two exceptions, a module list and a system.
     let fetched = 32 + 60 + 2 * (168 + 168 + 112 + 56);
@@ -73,7 +73,7 @@ fn budget_of_what_is_fetched_is_enough(rt: HostRuntime) {
         &rt,
         &"fetched",
         fetched_for(rt.alloc(), &file),
-        Some((fetched, 256)),
+        Some((fetched, 272)),
     );
     for (budget, expected) in [
         (fetched as u64, whole),

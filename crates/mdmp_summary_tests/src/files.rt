@@ -3,10 +3,36 @@ use mdmp_test_support::{entry, file_of_parts, header_of};
 use std::alloc::Global;
 use std::process::Abort;
 
-/// A system of x64, of this platform.
-fn system(platform: u32) -> [u8; 56] {
+/// What differs in the files of these tests.
+#[derive(Clone, Copy, Debug)]
+pub struct Made {
+    pub platform: u32,
+    pub architecture: u16,
+    /// The code of the first exception, of thread 6, which has no context. Its address is 5.
+    pub first_code: u32,
+    /// The code of the second, of thread 7. Its address is 16, and the instruction pointer is 0x5010.
+    pub code: u32,
+    pub module_base: u64,
+    pub module_size: u32,
+}
+
+/// A crash of Linux on x64, in a module.
+pub const LINUX: Made = Made {
+    platform: 0x8201,
+    architecture: 9,
+    first_code: 19,
+    code: 11,
+    module_base: 0x5000,
+    module_size: 0x100,
+};
+
+/// How many bytes the file of a crash has.
+pub const CRASH_SIZE: usize = 868;
+
+/// A system.
+fn system(platform: u32, architecture: u16) -> [u8; 56] {
     let mut bytes = [0; 56];
-    bytes[0] = 9;
+    bytes[..2].copy_from_slice(&architecture.to_le_bytes());
     bytes[20..24].copy_from_slice(&platform.to_le_bytes());
     bytes
 }
@@ -31,23 +57,22 @@ fn modules(base: u64, size: u32) -> [u8; 112] {
     bytes
 }
 
-/// A context of x64 whose instruction pointer is this.
-fn context(instruction: u64) -> [u8; 256] {
-    let mut bytes = [0; 256];
-    bytes[248..].copy_from_slice(&instruction.to_le_bytes());
+/// A context whose instruction pointer is 0x5010, on x86, ARM, x64 and ARM64 alike.
+fn context() -> [u8; 272] {
+    let mut bytes = [0; 272];
+    bytes[64] = 0x10;
+    bytes[65] = 0x50;
+    bytes[184] = 0x10;
+    bytes[185] = 0x50;
+    bytes[248] = 0x10;
+    bytes[249] = 0x50;
+    bytes[264] = 0x10;
+    bytes[265] = 0x50;
     bytes
 }
 
-/// A file of 852 bytes: an entry that lies outside, a stopped thread, an exception with this code whose context
-/// has the address 0x5010, a module, and the system.
-pub fn crash_file(
-    rt: &impl Abort,
-    alloc: Global,
-    platform: u32,
-    code: u32,
-    module_base: u64,
-    module_size: u32,
-) -> Vec<u8> {
+/// An entry that lies outside, two exceptions, a module, the system, and the context of the second exception.
+pub fn crash_file(rt: &impl Abort, alloc: Global, made: Made) -> Vec<u8> {
     let parts: [&[u8]; 11] = [
         &header_of(5, 32),
         &entry(3, 4, 4096),
@@ -55,11 +80,48 @@ pub fn crash_file(
         &entry(6, 168, 260),
         &entry(4, 112, 428),
         &entry(7, 56, 540),
-        &exception(6, 19, 5, 0, 0),
-        &exception(7, code, 16, 256, 596),
-        &modules(module_base, module_size),
-        &system(platform),
-        &context(0x5010),
+        &exception(6, made.first_code, 5, 0, 0),
+        &exception(7, made.code, 16, 272, 596),
+        &modules(made.module_base, made.module_size),
+        &system(made.platform, made.architecture),
+        &context(),
     ];
-    file_of_parts(alloc, &parts, 852).expect(rt, "a file")
+    file_of_parts(alloc, &parts, CRASH_SIZE).expect(rt, "a file")
+}
+
+/// An exception with this code in each of 25 entries, and a system of Linux.
+pub fn threads_file(rt: &impl Abort, alloc: Global, code: u32) -> Vec<u8> {
+    let stopped = entry(6, 168, 344);
+    let parts: [&[u8]; 29] = [
+        &header_of(26, 32),
+        &stopped,
+        &stopped,
+        &stopped,
+        &stopped,
+        &stopped,
+        &stopped,
+        &stopped,
+        &stopped,
+        &stopped,
+        &stopped,
+        &stopped,
+        &stopped,
+        &stopped,
+        &stopped,
+        &stopped,
+        &stopped,
+        &stopped,
+        &stopped,
+        &stopped,
+        &stopped,
+        &stopped,
+        &stopped,
+        &stopped,
+        &stopped,
+        &stopped,
+        &entry(7, 56, 512),
+        &exception(6, code, 5, 0, 0),
+        &system(0x8201, 9),
+    ];
+    file_of_parts(alloc, &parts, 568).expect(rt, "a file")
 }

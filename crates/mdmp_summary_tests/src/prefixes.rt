@@ -1,5 +1,5 @@
 //! Summaries of the first parts of a file.
-use crate::files::crash_file;
+use crate::files::{LINUX, crash_file};
 use crate::same::assert_same_at;
 use crate::summing::summary_of_first;
 use mdmp_lister::FaultKind;
@@ -22,11 +22,11 @@ fn lost(summary: FileSummary) -> Lost {
 
 #[test]
 fn cut_file_tells_what_is_lost(rt: HostRuntime) {
-    let file = crash_file(&rt, rt.alloc(), 0x8201, 11, 0x5000, 0x100);
+    let file = crash_file(&rt, rt.alloc(), LINUX);
     let outside = Some((0, FaultKind::StreamOutside));
     for (len, expected) in [
-        (852, (1, outside, 0, None)),
-        (851, (1, outside, 1, Some((2, PartKind::Context)))),
+        (868, (1, outside, 0, None)),
+        (867, (1, outside, 1, Some((2, PartKind::Context)))),
         (596, (1, outside, 1, Some((2, PartKind::Context)))),
         (595, (2, outside, 1, Some((2, PartKind::Context)))),
         (427, (4, outside, 0, None)),
