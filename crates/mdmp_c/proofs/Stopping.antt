@@ -225,7 +225,7 @@ pub text_over : (old v : ListerState) (F : List ℕ) (run : Run) (aside : Option
     → AreOfFile F v.choice c → v.counts.names ≤ old.counts.names + names_of_all run.items + 1 → AreHeld v c → AreSpent v c → HasBudgetCause {T = Bool} (Err f) v → KeepsAside {T = Bool} aside (Err f) v → IsTextLimit f
     → EndsTextAt old (most_read F old.choice old.limit (old.counts.names + names_of_all run.items)) aside pdb run f
 text_over old v F run aside pdb c (Budget offset size) place same sized is of most held spent over kept told =
-    let ended = ended_before old v _ offset size same.budget same.rooms same.limit sized (ended_by v c offset size is held spent over) in
+    let ended = ended_before old v _ offset size same.budget same.rooms same.limit sized (ended_by v c offset size is held spent over.unmade) in
     ended_as old _ (Some (most_read F old.choice old.limit (old.counts.names + names_of_all run.items))) offset size ended (omega (arith, ended.bound, most_by old v F (names_of_all run.items) c same.choice same.limit is of most))
 text_over old v F run aside pdb c (AsideLimit offset size) place same sized is of most held spent over kept told = (
   record {
@@ -292,14 +292,14 @@ pub check_over : (plain : PlainLimits) (limits : Limits) (F : List ℕ) (old new
     → old.size < 2 ^ 64 → new.store.content ≡ Some F → new.size ≡ old.size → IsReadThrough (check_access limits) old answer new → IsLimited answer → EndsChecking plain F (check_answer answer)
 check_over plain limits F old new (Err (Budget at len)) given known size small now same (IsReadThrough.listed run) told =
     let v = run.lister in
-    let ended = ended_by v (numbers_of v) at len refl run.held run.spent run.over in
+    let ended = ended_by v (numbers_of v) at len refl run.held run.spent run.over.unmade in
     let limit : v.limit ≡ plain.name = run.opened.asked.limit_is ∙ given.name in
     let few = checked_names F All plain.name v run.opened.asked.choice_is limit (run.reads.names F (ap (λ (s : SourceState). s.store.content) run.source ∙ now)) in
     let most = most_for v F All plain.name (names_checked F All plain.name) (numbers_of v) limit refl (run.of_file F known) few in
     ended_over plain limits F All _ v at len given run.budget run.opened.asked.window_room run.opened.asked.limit_is (ap (λ (s : SourceState). s.size) run.source ∙ same ∙ size)
     (ended_as v _ (Some (most_read F All plain.name (names_checked F All plain.name))) at len ended (omega (arith, ended.bound, most)))
 check_over plain limits F old new (Err (Budget at len)) given known size small now same (IsReadThrough.refused asked early kept memory fetches inside) told =
-    opening_passed plain limits F All _ old at len new given known size small (least_read F All plain.name _) kept
+    opening_passed plain limits F All _ old at len new given known size small (least_read F All plain.name _) kept.unmade
 check_over plain limits F old new (Err (MemoryLimit held)) given known size small now same (IsReadThrough.listed run) told = absurd run.within
 check_over plain limits F old new (Err (MemoryLimit held)) given known size small now same (IsReadThrough.refused asked early kept memory fetches inside) told =
     let exact : memory.listed ≡ held = let sum : held ≡ memory.listed + 0 = memory.held_is in omega (arith, sum) in

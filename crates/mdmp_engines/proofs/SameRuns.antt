@@ -15,8 +15,9 @@ use Rattle.mdmp_lister.specs.declared.limits.Limits.{Limits}
 use Rattle.mdmp_lister.specs.declared.fault.FaultKind.{FaultKind}
 use Rattle.mdmp_lister.specs.declared.fault.FaultKind.TheVariants as kinds
 use Rattle.mdmp_lister.specs.declared.fault.ListFault.{ListFault}
-use Rattle.mdmp_lister.specs.Lister.{IsRefusedIn, IsSameLister, ListerState, ReadsAside, room_held}
+use Rattle.mdmp_lister.specs.Lister.{IsRefusedIn, IsSameLister, ListerState, ReadsAside, room_held, standpoint_in}
 use Rattle.mdmp_lister.specs.Meter.{IsUnmade, IsRefusedFetch}
+use Rattle.mdmp_lister.specs.NextFetch.{TellsNextOpening, TellsSomeFetch}
 use Rattle.mdmp_lister.specs.declared.meter.Amount.{Amount}
 use Rattle.mdmp_lister.specs.declared.meter.MeterCounts.{MeterCounts}
 use Rattle.mdmp_lister.specs.Opening.{KeepsToBudget, TellsOver}
@@ -81,22 +82,31 @@ pub kept_leaving : (beside : ℕ) (limits : Limits) (old : SourceState) (fault :
 kept_leaving beside limits old fault new kept =
     record { fetched = kept.fetched; spent = kept.spent; kept = kept.kept; over = over_leaving beside limits old kept.fetched fault kept.over }
 
--- and where it tells the budget, its opening did
-pub over_opening : (T : Type 0) (beside : ℕ) (limits : Limits) (old : SourceState) (fault : OpenFault) (new : SourceState) → KeepsToBudget limits old fault new → HasOpeningBudget {T = T} limits old (Err (opening_beside beside fault)) new
-over_opening T beside limits old (opening.Budget offset size) new over = over
-over_opening T beside limits old (opening.Source fault) new over = kept_opening limits old (opening.Source fault) new over
-over_opening T beside limits old opening.Memory new over = over
-over_opening T beside limits old (opening.MemoryLimit held) new over = kept_opening limits old (opening.MemoryLimit held) new over
-over_opening T beside limits old fault new over = kept_opening limits old fault new over
+-- and so is the fetch that comes next
+pub next_leaving : (counted : Option Choice) (beside : ℕ) (limits : Limits) (old : SourceState) (fault : OpenFault) (new : SourceState) → TellsNextOpening counted (leaving beside limits) old fault new
+    → TellsNextOpening counted limits old fault new
+next_leaving counted beside limits old (opening.Budget offset size) new next =
+    record { fetched = next.fetched; spent = next.spent; kept = next.kept; passes = next.passes; next = next.next }
+next_leaving counted beside limits old fault new next = tt
 
-told_over : (T : Type 0) (f : ListFault) (kind : FaultKind) (v : ListerState) → IsUnmade (max v.rooms.window v.limit) kind f.offset f.size v.counts v.source.size → HasBudgetCause {T = T} (Err (told_by kind f)) v
-told_over T f kinds.Budget v over = over
-told_over T f (kinds.Source fault) v over = tt
-told_over T f kind v over = tt
+-- where it tells the budget, its opening did
+pub over_opening : (T : Type 0) (beside : ℕ) (choice : Choice) (limits : Limits) (old : SourceState) (fault : OpenFault) (new : SourceState) → KeepsToBudget limits old fault new
+    → TellsNextOpening (Some choice) limits old fault new → HasOpeningBudget {T = T} choice limits old (Err (opening_beside beside fault)) new
+over_opening T beside choice limits old (opening.Budget offset size) new over next = record { unmade = over; next = next }
+over_opening T beside choice limits old (opening.Source fault) new over next = kept_opening limits old (opening.Source fault) new over
+over_opening T beside choice limits old opening.Memory new over next = over
+over_opening T beside choice limits old (opening.MemoryLimit held) new over next = kept_opening limits old (opening.MemoryLimit held) new over
+over_opening T beside choice limits old fault new over next = kept_opening limits old fault new over
+
+told_over : (T : Type 0) (f : ListFault) (kind : FaultKind) (v : ListerState) → IsUnmade (max v.rooms.window v.limit) kind f.offset f.size v.counts v.source.size
+    → TellsSomeFetch (standpoint_in v) kind f.offset f.size v.counts.fetched → HasBudgetCause {T = T} (Err (told_by kind f)) v
+told_over T f kinds.Budget v over next = record { unmade = over; next = next }
+told_over T f (kinds.Source fault) v over next = tt
+told_over T f kind v over next = tt
 
 -- so does a fault of a listing
-pub over_listing : (T : Type 0) (f : ListFault) (v : ListerState) → IsRefusedIn f v → HasBudgetCause {T = T} (Err (listing_told f)) v
-over_listing T f v over = told_over T f f.kind v over
+pub over_listing : (T : Type 0) (f : ListFault) (v : ListerState) → IsRefusedIn f v → TellsSomeFetch (standpoint_in v) f.kind f.offset f.size v.counts.fetched → HasBudgetCause {T = T} (Err (listing_told f)) v
+over_listing T f v over next = told_over T f f.kind v over next
 
 -- a fault ends a run as it ended a part of it
 pub over_fault : (T U : Type 0) (f : ToolFault) (v : ListerState) → HasBudgetCause {T = T} (Err f) v → HasBudgetCause {T = U} (Err f) v
@@ -125,8 +135,8 @@ listed_with access old new answer other is over cause within = record {
 
 -- so it is where the flush was refused
 module _ {T : Type 0} (access : Access) (old new : SourceState) (answer flushed : Result T ToolFault) (before after : OutState) where
-  kept_answer : (r : Result T ToolFault) → HasOpeningBudget access.limits old r new → KeepsToBudget access.limits old opening.Memory new
-  kept_answer (Err (Budget offset size)) over = kept_opening access.limits old (opening.Budget offset size) new over
+  kept_answer : (r : Result T ToolFault) → HasOpeningBudget access.choice access.limits old r new → KeepsToBudget access.limits old opening.Memory new
+  kept_answer (Err (Budget offset size)) over = kept_opening access.limits old (opening.Budget offset size) new over.unmade
   kept_answer r over = over
 
   pub through_flushed : EndsFlushed answer flushed before after → IsReadThrough access old answer new → IsReadThrough access old flushed new
@@ -149,9 +159,9 @@ reached T limits z most offset size c file_size budget same here refused = (
 module _ {T : Type 0} (access : Access) (old : SourceState) where
   pub may_reach : (answer : Result T ToolFault) (new : SourceState) → new.size ≡ old.size → IsReadThrough access old answer new → MayReachBudget access.limits old.size answer
   may_reach (Err (Budget offset size)) new same (IsReadThrough.listed is) =
-      reached T access.limits old.size _ offset size is.lister.counts is.lister.source.size is.budget (λ i. max (is.opened.asked.window_room i) (is.opened.asked.limit_is i)) (ap (λ (s : SourceState). s.size) is.source ∙ same) is.over
+      reached T access.limits old.size _ offset size is.lister.counts is.lister.source.size is.budget (λ i. max (is.opened.asked.window_room i) (is.opened.asked.limit_is i)) (ap (λ (s : SourceState). s.size) is.source ∙ same) is.over.unmade
   may_reach (Err (Budget offset size)) new same (IsReadThrough.refused asked early over memory most inside) =
-      let of = over.over in (λ none. let never : IsTrue false = rw none at of.passes in cc never, (of.inside, of.most))
+      let of = over.unmade.over in (λ none. let never : IsTrue false = rw none at of.passes in cc never, (of.inside, of.most))
   may_reach answer new same through = tt
 
   -- that limit is told only if there is one, of a record inside

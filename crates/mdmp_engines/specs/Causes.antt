@@ -5,13 +5,15 @@ use Rattle.mdmp_source.specs.Output.{HasRefused, OutState}
 use Rattle.mdmp_source.specs.Source.{SourceState}
 use Rattle.mdmp_lister.specs.declared.fault.OpenFault.{OpenFault}
 use Rattle.mdmp_lister.specs.declared.fault.OpenFault.TheVariants as opening
+use Rattle.mdmp_lister.specs.declared.fault.FaultKind.TheVariants as kind
 use Rattle.mdmp_lister.specs.declared.fault.ListFault.{ListFault}
 use Rattle.mdmp_lister.specs.declared.limits.Limits.{Limits}
-use Rattle.mdmp_lister.specs.Lister.{ListerState}
+use Rattle.mdmp_lister.specs.Lister.{ListerState, standpoint_in}
 use Rattle.mdmp_lister.specs.declared.choice.Choice.{Choice}
 use Rattle.mdmp_lister.specs.Format.Bounds.{held_bound}
 use Rattle.mdmp_lister.specs.Memory.{is_within, leaving, opening_fault_within}
 use Rattle.mdmp_lister.specs.Meter.{IsRefusedFetch}
+use Rattle.mdmp_lister.specs.NextFetch.{TellsNextOpening, TellsSomeFetch}
 use Rattle.mdmp_lister.specs.Opening.{IsOpenRefusal, KeepsToBudget}
 use Rattle.mdmp_lister.specs.Fault.{IsUnobtained}
 use Rattle.mdmp_lister.specs.Following.{FitsFile}
@@ -29,15 +31,28 @@ abbrev pub HasSourceCause : {T : Type 0} → SourceState → Result T ToolFault 
 HasSourceCause old (Err (Source fault)) new = IsLastTold fault old new
 HasSourceCause old _ new = Unit {0}
 
--- the budget is told of a fetch for the listing that was not made, of no more than the window or a name may have
+-- the fetch of these bytes for the listing was not made, since with it more than the budget would have been fetched
+pub record HasBudgetFetch (offset size : ℕ) (v : ListerState) : Type 0 where
+  -- it is of no more than the window or a name may have
+  pub unmade : IsRefusedFetch (max v.rooms.window v.limit) offset size v.counts v.source.size
+  -- and came next in the entry that is the current one
+  pub next : TellsSomeFetch (standpoint_in v) kind.Budget offset size v.counts.fetched
+
+-- the budget is told only of such a fetch
 abbrev pub HasBudgetCause : {T : Type 0} → Result T ToolFault → ListerState → Type 0
-HasBudgetCause (Err (Budget offset size)) v = IsRefusedFetch (max v.rooms.window v.limit) offset size v.counts v.source.size
+HasBudgetCause (Err (Budget offset size)) v = HasBudgetFetch offset size v
 HasBudgetCause answer v = Unit {0}
 
--- what was fetched of a file that was refused is within the budget, of which it is told only where a fetch would have passed it
-abbrev pub HasOpeningBudget : {T : Type 0} → Limits → SourceState → Result T ToolFault → SourceState → Type 0
-HasOpeningBudget limits old (Err (Budget offset size)) new = KeepsToBudget limits old (opening.Budget offset size) new
-HasOpeningBudget limits old answer new = KeepsToBudget limits old opening.Memory new
+-- an opening did not make the fetch of these bytes, for the same reason
+pub record HasOpeningFetch (choice : Choice) (limits : Limits) (old : SourceState) (offset size : ℕ) (new : SourceState) : Type 0 where
+  pub unmade : KeepsToBudget limits old (opening.Budget offset size) new
+  -- it came next: of the header, of the directory, or of the head of a chosen memory list
+  pub next : TellsNextOpening (Some choice) limits old (opening.Budget offset size) new
+
+-- what was fetched of a file that was refused is within the budget, which is told only of such a fetch
+abbrev pub HasOpeningBudget : {T : Type 0} → Choice → Limits → SourceState → Result T ToolFault → SourceState → Type 0
+HasOpeningBudget choice limits old (Err (Budget offset size)) new = HasOpeningFetch choice limits old offset size new
+HasOpeningBudget choice limits old answer new = KeepsToBudget limits old opening.Memory new
 
 -- of a file of so many bytes the budget may be told only where there is one, of bytes inside, no more than the window or a
 -- name may have

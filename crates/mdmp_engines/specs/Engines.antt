@@ -283,7 +283,7 @@ IsEarly answer = Unit {0}
 -- or it was refused, and so many entries of its directory were asked for
 pub data IsReadThrough {T : Type 0} (access : Access) (old : SourceState) (answer : Result T ToolFault) (new : SourceState) : Type 0 where
   listed : HasListed access old answer new → IsReadThrough access old answer new
-  refused : (asked : ℕ) → IsEarly answer → HasOpeningBudget access.limits old answer new → HasMemoryCause access.limits access.choice access.held old answer
+  refused : (asked : ℕ) → IsEarly answer → HasOpeningBudget access.choice access.limits old answer new → HasMemoryCause access.limits access.choice access.held old answer
       → FetchesAtMost (32 + 28 * asked) old new → 12 * asked ≤ old.size → IsReadThrough access old answer new
 
 -- ---- where the source is gone

@@ -112,7 +112,9 @@ pub returns-in-Err-Stopped-clause-same : goal.returns-in-Err-Stopped-clause-same
 returns-in-Err-Stopped-clause-same g c = run_list _ _ _ (run_none _) c.in-Err-Stopped.ensures.checks.same
 
 pub returns-in-Err-At-clause-over : goal.returns-in-Err-At-clause-over
-returns-in-Err-At-clause-over g c = rw c.told_list.ensures (over_listing ℕ c.in-Err-At.fault c.check_into.new.self (c.in-Err-At.ensures.refused c.in-Err-At.fault c.in-Err-At.field-0-is))
+returns-in-Err-At-clause-over g c =
+    let f = c.in-Err-At.fault in
+    rw c.told_list.ensures (over_listing ℕ f c.check_into.new.self (c.in-Err-At.ensures.refused f c.in-Err-At.field-0-is) (rw c.in-Err-At.field-0-is at c.in-Err-At.ensures.checks.next))
 
 pub returns-in-Err-At-clause-aside : goal.returns-in-Err-At-clause-aside
 returns-in-Err-At-clause-aside g c = rw c.told_list.ensures (aside_listing ℕ None c.in-Err-At.fault c.check_into.new.self refl)

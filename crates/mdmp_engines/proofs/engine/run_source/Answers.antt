@@ -1,4 +1,4 @@
-use Rattle.std.proofs.Common.{rules, ◌≡◌, ◌∙◌, ◌+◌, ℕ, Err, ap, refl, subst, sym}
+use Rattle.std.proofs.Common.{rules, ◌≡◌, ◌∙◌, ◌+◌, ℕ, Err, Some, ap, refl, subst, sym}
 use Rattle.mdmp_source.specs.SourceLaws.{fetches_then}
 use Rattle.mdmp_engines.proofs.Engining.{IsQuiet-behind, IsRefusal-behind, Runs-opened, Runs-unopened, Tells-unopened, may_change}
 use Rattle.mdmp_lister.specs.Format.Refusal.{opening_fault}
@@ -11,7 +11,7 @@ use Rattle.mdmp_engines.specs.Telling.{opening_beside}
 use Rattle.mdmp_engines.specs.Engines.{Access, IsBehind, IsReadThrough, Runs, Tells, directly, unless_refused}
 use Rattle.mdmp_engines.specs.declared.fault.ToolFault.{ToolFault}
 use Rattle.mdmp_engines.proofs.Besides.{run_opened}
-use Rattle.mdmp_engines.proofs.SameRuns.{early_opening, kept_leaving, memory_opening, over_opening, run_within}
+use Rattle.mdmp_engines.proofs.SameRuns.{early_opening, kept_leaving, memory_opening, next_leaving, over_opening, run_within}
 use Rattle.mdmp_engines.proofs.engine.run_source.Goals as goal
 
 pub returns-in-Err-clause-runs : goal.returns-in-Err-clause-runs
@@ -74,7 +74,10 @@ returns-in-Err-clause-through g c =
     (rw c.leave_memory.ensures at c.in-Err.ensures.refused.over) (λ file known. rw (c.leave_memory.ensures, c.chosen.ensures) at (c.in-Err.ensures.within file known)) in
     subst (λ (f : ToolFault). IsReadThrough {T = g.row.E-Answer.Denot} access c.args.source (Err f) c.in-Err.refused.source) (sym c.refused_beside.ensures)
     (IsReadThrough.refused back.asked (early_opening g.row.E-Answer.Denot beside c.in-Err.refused.fault)
-    (over_opening g.row.E-Answer.Denot beside c.args.limits c.args.source c.in-Err.refused.fault c.in-Err.refused.source (kept_leaving beside c.args.limits c.args.source c.in-Err.refused.fault c.in-Err.refused.source (rw c.leave_memory.ensures at c.in-Err.ensures.refused.fetches.kept))) (subst (λ (n : ℕ). HasMemoryCause {T = g.row.E-Answer.Denot} c.args.limits g.E.Engine.choice n c.args.source (Err (opening_beside beside c.in-Err.refused.fault))) c.beside-beside.ensures memory) back.bound back.inside)
+    (over_opening g.row.E-Answer.Denot beside g.E.Engine.choice c.args.limits c.args.source c.in-Err.refused.fault c.in-Err.refused.source
+    (kept_leaving beside c.args.limits c.args.source c.in-Err.refused.fault c.in-Err.refused.source (rw c.leave_memory.ensures at c.in-Err.ensures.refused.fetches.kept))
+    (next_leaving (Some g.E.Engine.choice) beside c.args.limits c.args.source c.in-Err.refused.fault c.in-Err.refused.source (rw (c.leave_memory.ensures, c.chosen.ensures) at c.in-Err.ensures.refused.fetches.next)))
+    (subst (λ (n : ℕ). HasMemoryCause {T = g.row.E-Answer.Denot} c.args.limits g.E.Engine.choice n c.args.source (Err (opening_beside beside c.in-Err.refused.fault))) c.beside-beside.ensures memory) back.bound back.inside)
 
 pub returns-clause-through : goal.returns-clause-through
 returns-clause-through g c =

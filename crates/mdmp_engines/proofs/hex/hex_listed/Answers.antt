@@ -40,7 +40,7 @@ returns-in-Err-clause-leaves g c =
     rw c.told_list.ensures (Leaves-listed at_the_end _ c.list_ranges.new.self.current c.in-Err.fault _ _ _ of.fetches of.told of.good fits refl refl)
 
 pub returns-in-Err-clause-over : goal.returns-in-Err-clause-over
-returns-in-Err-clause-over g c = rw c.told_list.ensures (over_listing (Unit {0}) c.in-Err.fault c.list_ranges.new.self c.in-Err.ensures.refused)
+returns-in-Err-clause-over g c = rw c.told_list.ensures (over_listing (Unit {0}) c.in-Err.fault c.list_ranges.new.self c.in-Err.ensures.refused c.in-Err.ensures.follows.next)
 
 pub returns-in-Err-clause-same : goal.returns-in-Err-clause-same
 returns-in-Err-clause-same g c = run_list _ _ _ (run_none _) c.list_ranges.ensures.same

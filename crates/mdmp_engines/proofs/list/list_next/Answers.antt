@@ -1,6 +1,7 @@
 use Rattle.std.proofs.Common.{◌≡◌, ◌∙◌, ◌+◌, ℕ, Bool, Option, Some, Err, arith, false, refl, subst}
 use Rattle.std.specs.Prelude.{slice_get}
 use Rattle.mdmp_source.specs.SourceLaws.{fetches_then}
+use Rattle.mdmp_lister.proofs.Standpoints.{run_fetch}
 use Rattle.mdmp_lister.specs.FaultLaws.{next_fits}
 use Rattle.mdmp_lister.specs.Format.Item.{plain}
 use Rattle.mdmp_engines.specs.Engines.{up_to_a_fault}
@@ -80,8 +81,11 @@ list_symbols-requires g c =
 
 pub returns-in-Err-clause-over : goal.returns-in-Err-clause-over
 returns-in-Err-clause-over g c =
-    let holds = c.next.follows.holds-at-none in
-    rw c.told_list.ensures (over_listing Bool c.in-Err.fault c.next.follows.lender-at-none (rw c.in-Err.is at holds.list.spends.refused))
+    let list = (rw c.in-Err.is at c.next.follows.holds-at-none).list in
+    let fetches = list.spends.fetches in
+    let f = c.in-Err.fault in
+    let new = c.next.follows.lender-at-none in
+    rw c.told_list.ensures (over_listing Bool f new list.spends.refused (run_fetch c.args.lister.now new f list.same fetches.same_content fetches.same_size list.places.current (list.next c.requires)))
 
 pub returns-in-Ok-None-clause-lists : goal.returns-in-Ok-None-clause-lists
 returns-in-Ok-None-clause-lists g c = λ file content left known. (rw c.in-Ok-None.field-0-is at (c.in-Ok-None.ensures.gives left known), refl)
