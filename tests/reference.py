@@ -1,9 +1,9 @@
 #!/usr/bin/env python3
 """A second reader of minidumps. It does what the command `mdmp` does: reference.py COMMAND WORD..
 
-It is written from docs/format.md, docs/cli.md and docs/reference alone, by somebody who had seen neither the code nor the definitions
-of the library. So a rule that a page and a definition state differently shows. It is slow and plain. `tests/reference` compares it
-with the command. Its options are `--json`, `--pdb`, `--name` and `--memory`. It expects words that the command accepts.
+It is written from docs/format.md, docs/cli.md and docs/reference alone, by somebody who had seen neither code nor definitions of
+the library. So a rule that a page and a definition state differently shows. It is slow and plain. `tests/reference` compares it
+with the command. It has every option but `--budget`, `--aside` and `--untrusted`, and expects words that the command accepts.
 """
 
 from __future__ import annotations
@@ -19,7 +19,7 @@ from typing import IO, Any, NamedTuple
 Bytes = bytes | bytearray | memoryview
 Members = dict[str, Any]
 
-WINDOW = 65536
+LIMITS = {"--window": 65536, "--name": 4096, "--memory": 1 << 64}
 HEADER = Struct("<4s5IQ")
 ENTRY = Struct("<3I")
 UNIT, BYTE = "\\u%04x", "\\x%02x"
@@ -41,7 +41,7 @@ RECORDS = {
 FIELDS = {kind: [one.split(":")[0] for one in text.split() if one[0] != ":"] for kind, text in RECORDS.items()}
 FORMS = {kind: Struct("<" + "".join(one.split(":")[1] for one in text.split())) for kind, text in RECORDS.items()}
 # The head of a stream: its bytes, and the format and the place of the count in it.
-HEADS = {3: (4, "<I", 0), 4: (4, "<I", 0), 5: (4, "<I", 0), 24: (4, "<I", 0), 9: (16, "<Q", 0), 14: (12, "<I", 8), 16: (16, "<Q", 8)}
+HEADS = {**dict.fromkeys((3, 4, 5, 24), (4, "<I", 0)), 9: (16, "<Q", 0), 14: (12, "<I", 8), 16: (16, "<Q", 8)}
 # The line of each record: its keys, and after a colon how the value is shown if it is no number of JSON.
 LINES = {
     3: "thread id suspend class priority teb:address stack:stack context:part",
@@ -67,9 +67,9 @@ class Stop(Exception):
 
 def bad(entry: int, kind: str, offset: int, size: int, item: int | None = None) -> Stop:
     """An error of an entry, or of the name or a part of an item."""
-    index = {} if item is None else {"item": str(item)}
-    place = f"entry {entry}" + "".join(f" item {number}" for number in index.values())
-    return Stop(f"{place}: {kind}: offset {offset} size {size}", 1, {"kind": kind, **index, "offset": str(offset), "size": str(size)})
+    place, index = ("", {}) if item is None else (f" item {item}", {"item": str(item)})
+    fault = {"kind": kind, **index, "offset": str(offset), "size": str(size)}
+    return Stop(f"entry {entry}{place}: {kind}: offset {offset} size {size}", 1, fault)
 
 
 Entry = NamedTuple("Entry", [("number", int), ("kind", int), ("size", int), ("rva", int)])
@@ -80,10 +80,10 @@ Record = NamedTuple("Record", [("entry", Entry), ("item", int), ("values", Membe
 
 
 class Dump:
-    """A file that can be opened, with the limits `--name` and `--memory`."""
+    """A file that can be opened, with the limits `--window`, `--name` and `--memory`."""
 
-    def __init__(self, data: bytes, longest: int, memory: int) -> None:
-        self.data, self.longest, self.memory = data, longest, memory
+    def __init__(self, data: bytes, window: int, longest: int, memory: int) -> None:
+        self.data, self.window, self.longest, self.memory = data, window, longest, memory
         if len(data) < HEADER.size:
             raise Stop(f"file of {len(data)} bytes is too short")
         self.header = HEADER.unpack_from(data)
@@ -110,7 +110,7 @@ class Dump:
 
     def listed(self, kinds: Collection[int] | None = None, more: int = 0) -> list[Entry]:
         """Opens a lister of these types, or of all, with so many bytes more. It gives their entries."""
-        size = WINDOW + 12 * len(self.entries) + self.longest + more
+        size = self.window + 12 * len(self.entries) + self.longest + more
         self.take(size)
         entries = [entry for entry in self.entries if kinds is None or entry.kind in kinds]
         ranges = 0
@@ -173,9 +173,6 @@ class Dump:
         if not self.has(rva + 4, length):
             raise bad(entry, "name outside the file", rva + 4, length, index)
         return length if length > self.longest else self.data[rva + 4 : rva + 4 + length]
-
-
-# ---- lines: the text of a value, and the members of an object
 
 
 def hexadecimal(value: int, digits: int = 16) -> str:
@@ -257,9 +254,6 @@ def codeview_line(is_json: bool, record: Record, data: bytes, longest: int) -> b
     return line(is_json, f"pdb {guid} age {age} name {escaped(name, BYTE)}" + ("" if end else " cut"), members)
 
 
-# ---- commands, which give what they print
-
-
 def run_list(dump: Dump, options: Collection[str], operands: Sequence[str]) -> Iterator[bytes]:
     entries, is_json = dump.listed(), "--json" in options
     _, version, *numbers, flags = dump.header
@@ -318,16 +312,18 @@ def readable(dump: Dump, entry: Entry) -> Iterator[Record]:
 
 def copied(dump: Dump, kinds: Collection[int]) -> list[Bytes]:
     """The pieces of a copy."""
-    dump.take(2 * WINDOW + 24 * len(dump.entries))
+    dump.take(2 * dump.window + 24 * len(dump.entries))
     chosen = [(entry, list(readable(dump, entry))) for entry in dump.entries if entry.kind in kinds]
     data, end = memoryview(dump.data), 32 + 12 * len(chosen)
     pieces, directory = list[Bytes](), b""
     wide = list[tuple[bytearray, list[Bytes]]]()  # the body of each list of 64-bit memory, and its bytes
 
-    def put(size: int, *added: Bytes) -> int:
+    def put(size: int, added: Sequence[Bytes], most: int = (1 << 32) - 1) -> int:
         """Adds pieces of so many bytes, and zeros after them. It gives their place."""
         nonlocal end
         place, end = end, end + size + -size % 4
+        if end > most:
+            raise Stop("the copy is too large")
         pieces.extend([*added, bytes(-size % 4)])
         return place
 
@@ -337,22 +333,19 @@ def copied(dump: Dump, kinds: Collection[int]) -> list[Bytes]:
         head = heads.get(kind, pack("<I", count)) if kind in HEADS else b""
         body = bytearray(head if kind in RECORDS or not kind else data[rva : rva + size])
         size = len(body) + sum(FORMS[kind].size for _ in records)
-        place = put(size, body) if size else 0
-        directory += ENTRY.pack(kind, size, place)
+        directory += ENTRY.pack(kind, size, put(size, [body]) if size else 0)
         for record in records:
             values, name = record.values, record.name
             if isinstance(name, bytes):
-                values["name.rva"] = put(len(name) + 6, pack("<I", len(name)), name, bytes(2))
+                values["name.rva"] = put(len(name) + 6, [pack("<I", len(name)), name, bytes(2)])
             for key, part in record.parts.items() if kind != 9 else ():
-                kept = data[part.offset : part.offset + part.size]
+                kept = [data[part.offset : part.offset + part.size]]
                 values[f"{key}.rva"] = put(part.size, kept) if part.fits == "inside" else 0
             body += FORMS[kind].pack(*values.values())
         if kind == 9:
-            wide.append((body, [data[part.offset : part.offset + part.size] for record in records for part in record.parts.values()]))
-    if end >= 1 << 32:
-        raise Stop("the copy is too large")
+            wide.append((body, [data[one.offset : one.offset + one.size] for record in records for one in record.parts.values()]))
     for body, ranges in wide:
-        body[8:16] = pack("<Q", put(sum(map(len, ranges)), *ranges))
+        body[8:16] = pack("<Q", put(sum(map(len, ranges)), ranges, (1 << 64) - 1))
     signature, version, _, _, *rest = dump.header
     return [HEADER.pack(signature, version, len(chosen), 32, *rest), directory, *pieces]
 
@@ -367,8 +360,8 @@ def opened(path: str, mode: str, what: str) -> IO[bytes]:
 def printed(words: Sequence[str]) -> Iterator[bytes]:
     """What a command line prints."""
     after = dict(zip(words, words[1:]))
-    limits = int(after.get("--name", 4096)), int(after.get("--memory", 1 << 64))
-    rest = [word for before, word in zip(["", *words], words) if before not in ("--name", "--memory")]
+    limits = [int(after.get(option, most)) for option, most in LIMITS.items()]
+    rest = [word for before, word in zip(["", *words], words) if before not in LIMITS]
     command, path, *operands = [word for word in rest if not word.startswith("--")]
     kinds = [int(word) for word in operands[1:]] if command == "copy" else []
     refused = [kind for kind in kinds if kind < 65536 and kind not in COPIED]
