@@ -15,8 +15,8 @@ LISTS = (3, 4, 5, 9, 14, 16, 24)
 UNPARSED = (1, 10, 11, 12, 13, 15, 17, 0x43500001, 65536, 65537, 0xFFFFFFFF)
 EDGES = (0, 1, 2, 0x7FFFFFFF, 0x80000000, 0xFFFFFFFE, 0xFFFFFFFF)
 WIDE_EDGES = (*EDGES, 1 << 32, 1 << 60, (1 << 63) - 1, 1 << 63, (1 << 64) - 2, (1 << 64) - 1)
-UNITS = (0x1F, 0x20, 0x22, 0x5C, 0x7E, 0x7F, 0x80, 0x2028, 0xD7FF, 0xD800, 0xDBFF, 0xDC00, 0xDFFF, 0xE000, 0xFFFD, 0xFFFF, 0)
-BYTES = (b'"', b"\\", b"/", b"\0", b"\t", b"\x7f", b"\xc3\xa9", b"\xf0\x9f\x98\x80", b"\xed\xa0\x80", b"\xe2\x82", b"\xff", b"\xc0\x80")
+UNITS = (*range(8, 14), 0x1F, 0x20, 0x22, 0x5C, 0x7E, 0x7F, 0x80, 0x2028, 0xD7FF, 0xD800, 0xDBFF, 0xDC00, 0xDFFF, 0xE000, 0xFFFD, 0xFFFF, 0)
+BYTES = (b'"', b"\\", b"/", b"\0", b"\t\r", b"\x7f", b"\xc3\xa9", b"\xf0\x9f\x98\x80", b"\xed\xa0\x80", b"\xe2\x82", b"\xff", b"\xc0\x80")
 # Where ranges of memory begin: they overlap, and some reach past the last address.
 STARTS = (0x1000, 0x1004, 0x1010, 0x1030, (1 << 64) - 16, (1 << 64) - 1, 0, 0x7FFE00000000)
 # What `hex` prints of each file.
@@ -95,7 +95,11 @@ class Maker:
             length = self.chance.choice((length + 1, self.number(), 0x7FFFFFFE, 4096, 4098))
         if self.is_bad():
             return self.bad_place(self.chance.choice((0, 4)))
-        return self.put(pack(f"<I{len(units)}H", length, *units))
+        place = self.put(pack(f"<I{len(units)}H", length, *units))
+        if self.is_bad():
+            # The units end where the file ends, or a little before or after that.
+            pack_into("<I", self.data, place, max(0, self.end - place - 4 + self.chance.choice((-2, -1, 0, 1, 2, 4, 8))))
+        return place
 
     def codeview(self) -> bytes:
         name = b"".join(self.chance.choice((*BYTES, b"a", b"bc", b"d.pdb")) for _ in range(self.chance.choice((0, 1, 3, 8))))
@@ -103,7 +107,7 @@ class Maker:
         chosen = self.chance.random()
         if chosen < 0.6:
             return record
-        return record[: self.chance.randrange(25)] if chosen < 0.8 else b"NB10" + self.some(12)
+        return record[: self.chance.choice((3, 4, 23, 24, self.chance.randrange(25)))] if chosen < 0.8 else b"NB10" + self.some(12)
 
     def version(self) -> bytes:
         return pack("<13I", *[self.number() for _ in range(13)])
@@ -239,8 +243,10 @@ def file_of(*streams: tuple[int, bytes], again: int = 1, rest: bytes = b"") -> b
 def large(path: str, out: str) -> Iterator[tuple[str, bytes, list[str]]]:
     """Files that reach a limit: what is large, the file, and the command lines for a file at a path, and for its copy."""
     lists = [f"list {path}", f"list --json --pdb {path}", f"check {path}"]
+    # As many ranges as may be, which are too many for `--memory`, and more of them.
     ranges = pack("<I", 1 << 16) + pack("<QII", 0x1000, 0, 0) * (1 << 16)
-    yield "ranges", file_of((5, ranges), again=(1 << 12) + 1), [*lists, f"hex {path} 0 1"]
+    yield "most ranges", file_of((5, ranges), again=1 << 12), [f"{line} --memory 1000000" for line in (*lists, f"hex {path} 0 1")]
+    yield "more ranges", file_of((5, ranges), again=(1 << 12) + 1), [*lists, f"hex {path} 0 1"]
     # A copy has the bytes of a range as often as ranges name them: here 4 GiB.
     shared = pack("<I", 1 << 12) + pack("<QII", 0x1000, 1 << 20, 48 + (16 << 12)) * (1 << 12)
     yield "copy", file_of((5, shared), rest=bytes(1 << 20)), [f"check {path}", f"copy {path} {out} 5"]
