@@ -201,12 +201,12 @@ class Maker:
         signature, version, directory = b"MDMP", 0xA793 | self.chance.choice((0, self.number() << 16 & 0xFFFFFFFF)), 32
         if count == 0:
             directory = self.number()
-        if self.is_bad() and self.chance.random() < 0.3:
+        if self.is_bad() and self.chance.random() < 0.6:
             chosen = self.chance.randrange(4)
             if chosen == 0:
                 signature = self.chance.choice((b"MDMp", b"PMDM", bytes(4)))
             elif chosen == 1:
-                version = self.number()
+                version = self.chance.choice((self.number(), version ^ 1 << self.chance.randrange(16)))
             elif chosen == 2:
                 count = self.chance.choice((count + 1, self.number()))
             else:
