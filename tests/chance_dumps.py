@@ -1,8 +1,8 @@
 """Minidumps made by chance, the same each time, for scripts that compare two readers of them.
 
-`made(number)` is a small file with streams of all kinds. One third has no error. One third has a few: wrong counts and sizes, names
-that are odd or outside the file, parts outside it, entries that name one stream or overlap. In one third, bytes are changed or cut
-off besides. `large()` gives a few files that reach limits.
+`made(number)` is a small file with streams of all kinds. One third has no error. One third has a few: wrong counts and sizes,
+names that are odd or outside the file, parts outside it, entries that name one stream or overlap. In one third, bytes are changed
+or cut off besides. `large()` gives a few files that reach limits.
 """
 
 from __future__ import annotations
@@ -15,8 +15,10 @@ LISTS = (3, 4, 5, 9, 14, 16, 24)
 UNPARSED = (1, 10, 11, 12, 13, 15, 17, 0x43500001, 65536, 65537, 0xFFFFFFFF)
 EDGES = (0, 1, 2, 0x7FFFFFFF, 0x80000000, 0xFFFFFFFE, 0xFFFFFFFF)
 WIDE_EDGES = (*EDGES, 1 << 32, 1 << 60, (1 << 63) - 1, 1 << 63, (1 << 64) - 2, (1 << 64) - 1)
-UNITS = (*range(8, 14), 0x1F, 0x20, 0x22, 0x5C, 0x7E, 0x7F, 0x80, 0x2028, 0xD7FF, 0xD800, 0xDBFF, 0xDC00, 0xDFFF, 0xE000, 0xFFFD, 0xFFFF, 0)
-BYTES = (b'"', b"\\", b"/", b"\0", b"\t\r", b"\x7f", b"\xc3\xa9", b"\xf0\x9f\x98\x80", b"\xed\xa0\x80", b"\xe2\x82", b"\xff", b"\xc0\x80")
+CONTROLS = (0, *range(8, 14), 0x1F, 0x7F, 0x80, 0x2028)
+UNITS = (*CONTROLS, 0x20, 0x22, 0x5C, 0x7E, 0xD7FF, 0xD800, 0xDBFF, 0xDC00, 0xDFFF, 0xE000, 0xFFFD, 0xFFFF)
+NO_TEXT = (b"\xed\xa0\x80", b"\xe2\x82", b"\xff", b"\xc0\x80")
+BYTES = (b'"', b"\\", b"/", b"\0", b"\t\r", b"\x7f", b"\xc3\xa9", b"\xf0\x9f\x98\x80", *NO_TEXT)
 # Where ranges of memory begin: they overlap, and some reach past the last address.
 STARTS = (0x1000, 0x1004, 0x1010, 0x1030, (1 << 64) - 16, (1 << 64) - 1, 0, 0x7FFE00000000)
 # What `hex` prints of each file.
@@ -52,7 +54,8 @@ class Maker:
 
     def wide(self) -> int:
         """A number of 64 bits."""
-        return self.chance.choice((self.chance.choice(WIDE_EDGES), self.chance.randrange(1 << 64), self.chance.randrange(1 << 32)))
+        chance = self.chance
+        return chance.choice((chance.choice(WIDE_EDGES), chance.randrange(1 << 64), chance.randrange(1 << 32)))
 
     def put(self, data: bytes) -> int:
         """Where these bytes are, mostly at a multiple of 4."""
@@ -103,11 +106,13 @@ class Maker:
 
     def codeview(self) -> bytes:
         name = b"".join(self.chance.choice((*BYTES, b"a", b"bc", b"d.pdb")) for _ in range(self.chance.choice((0, 1, 3, 8))))
-        record = b"RSDS" + self.chance.randbytes(16) + pack("<I", self.number()) + name + self.chance.choice((b"\0", b"\0xyz", b""))
+        end = self.chance.choice((b"\0", b"\0xyz", b""))
+        record = b"RSDS" + self.chance.randbytes(16) + pack("<I", self.number()) + name + end
         chosen = self.chance.random()
         if chosen < 0.6:
             return record
-        return record[: self.chance.choice((3, 4, 23, 24, self.chance.randrange(25)))] if chosen < 0.8 else b"NB10" + self.some(12)
+        cut = self.chance.choice((3, 4, 23, 24, self.chance.randrange(25)))
+        return record[:cut] if chosen < 0.8 else b"NB10" + self.some(40)
 
     def version(self) -> bytes:
         return pack("<13I", *[self.number() for _ in range(13)])
@@ -221,7 +226,8 @@ class Maker:
             del self.data[self.chance.randrange(len(self.data) + 1) :]
         elif chosen < 0.6 and len(self.data) > 44:
             for _ in range(self.chance.choice((1, 2, 5))):
-                self.data[self.chance.randrange(32, len(self.data))] = self.chance.choice((0, 1, 0x7F, 0x80, 0xFF, self.chance.randrange(256)))
+                byte = self.chance.choice((0, 1, 0x7F, 0x80, 0xFF, self.chance.randrange(256)))
+                self.data[self.chance.randrange(32, len(self.data))] = byte
 
 
 def made(number: int) -> bytes:

@@ -3,7 +3,7 @@
 
 It is written from docs/format.md, docs/cli.md and docs/reference alone, by somebody who had seen neither code nor definitions of
 the library. So a rule that a page and a definition state differently shows. It is slow and plain. `tests/reference` compares it
-with the command. It has every option but `--budget`, `--aside` and `--untrusted`, and expects words that the command accepts.
+with the command. It has every option but `--budget` and `--untrusted`, and expects words that the command accepts.
 """
 
 from __future__ import annotations
@@ -19,7 +19,7 @@ from typing import IO, Any, NamedTuple
 Bytes = bytes | bytearray | memoryview
 Members = dict[str, Any]
 
-LIMITS = {"--window": 65536, "--name": 4096, "--memory": 1 << 64}
+LIMITS = {"--window": 65536, "--name": 4096, "--memory": 1 << 64, "--aside": 1 << 64}
 HEADER = Struct("<4s5IQ")
 ENTRY = Struct("<3I")
 UNIT, BYTE = "\\u%04x", "\\x%02x"
@@ -80,10 +80,10 @@ Record = NamedTuple("Record", [("entry", Entry), ("item", int), ("values", Membe
 
 
 class Dump:
-    """A file that can be opened, with the limits `--window`, `--name` and `--memory`."""
+    """A file that can be opened, with the limits `--window`, `--name`, `--memory` and `--aside`."""
 
-    def __init__(self, data: bytes, window: int, longest: int, memory: int) -> None:
-        self.data, self.window, self.longest, self.memory = data, window, longest, memory
+    def __init__(self, data: bytes, window: int, longest: int, memory: int, aside: int) -> None:
+        self.data, self.window, self.longest, self.memory, self.aside = data, window, longest, memory, aside
         if len(data) < HEADER.size:
             raise Stop(f"file of {len(data)} bytes is too short")
         self.header = HEADER.unpack_from(data)
@@ -189,7 +189,8 @@ def named(key: str, name: Name) -> tuple[str, Members]:
         return ("none", {key: None}) if name is None else (f"long {name}", {key: {"long": name}})
     read = name.decode("utf-16-le", "surrogatepass")
     valid = re.sub("[\ud800-\udfff]", "\ufffd", read)
-    return escaped([unit for (unit,) in iter_unpack("<H", name)], UNIT), {key: valid, **({} if valid == read else {"lossy": True})}
+    units = [unit for (unit,) in iter_unpack("<H", name)]
+    return escaped(units, UNIT), {key: valid, **({} if valid == read else {"lossy": True})}
 
 
 def located(part: Part, number: type = int) -> tuple[str, Members]:
@@ -268,7 +269,11 @@ def run_list(dump: Dump, options: Collection[str], operands: Sequence[str]) -> I
             yield record_line(is_json, record)
             cv = record.parts.get("cv")
             if "--pdb" in options and cv and cv.fits == "inside":
-                yield codeview_line(is_json, record, dump.data[cv.offset : cv.offset + cv.size], dump.longest)
+                data, most = dump.data[cv.offset : cv.offset + cv.size], min(cv.size, 24 + dump.longest)
+                if most > dump.aside:
+                    raise Stop(f"aside limit reached: offset {cv.offset} size {most}", 3)
+                dump.aside -= most if data[:4] == b"RSDS" else min(cv.size, 24)
+                yield codeview_line(is_json, record, data, dump.longest)
 
 
 def run_check(dump: Dump, options: Collection[str], operands: Sequence[str]) -> Iterator[bytes]:
