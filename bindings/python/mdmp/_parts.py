@@ -23,6 +23,11 @@ class Numbers(IntEnum):
         number._name_, number._value_ = f"NUMBER_{value}", value
         return number
 
+    @property
+    def is_named(self) -> bool:
+        """Whether the number has a name here."""
+        return self._value_ in type(self)._value2member_map_
+
 
 class Version(NamedTuple):
     """The four numbers of a version, as in 10.0.19041.1."""

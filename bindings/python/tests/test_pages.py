@@ -46,13 +46,19 @@ class Words(unittest.TestCase):
 
     def test_names(self) -> None:
         self.assertEqual(names.stream_type(9), "Memory64ListStream")
-        self.assertEqual(names.stream_type(0x43500001), "0x43500001")
+        self.assertEqual(names.stream_type(0x43500001), "MD_CRASHPAD_INFO_STREAM")
+        self.assertEqual(names.stream_type(0x43500002), "0x43500002")
         self.assertEqual(names.exception_code(0xC0000005), "0xc0000005 STATUS_ACCESS_VIOLATION")
         self.assertEqual(names.exception_code(0xB), "0x0000000b")
         self.assertEqual(names.exception_code(0xB, 0x8201), "0x0000000b SIGSEGV")
+        self.assertEqual(names.exception_code(0x1, 0x8101), "0x00000001 EXC_BAD_ACCESS")
+        self.assertEqual(names.exception_code(0x80000003, 0x8101), "0x80000003")
+        self.assertEqual([names.architecture(9), names.architecture(99)], ["x64", "architecture 99"])
+        self.assertEqual([names.platform(0x8203), names.platform(0x9999)], ["Android", "platform 0x9999"])
         self.assertEqual(names.protection(0x104), "PAGE_READWRITE | PAGE_GUARD")
         self.assertEqual(names.protection(0x80000004), "PAGE_READWRITE | 0x80000000")
         self.assertEqual(names.state(0), "0x0")
+        self.assertEqual([names.memory_type(0x1020000), names.memory_type(0)], ["MEM_PRIVATE | MEM_IMAGE", "none"])
 
     def test_numbers(self) -> None:
         self.assertEqual(text.in_units(1), "1 byte")

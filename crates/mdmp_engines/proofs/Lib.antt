@@ -16,7 +16,7 @@ pub mod Listings
 pub mod PlainLines
 pub mod Printing
 pub mod Reached
-pub mod Reporting
+pub mod ReportedLines
 pub mod Rows
 pub mod SameRuns
 pub mod Symbols

@@ -10,7 +10,7 @@ ghost use Rattle.mdmp_engines.specs.Engines.{IsOpened, IsSameRun, IsReadThrough,
 use crate::engine::{Engine, run, run_source};
 use crate::fault::{ToolFault, told_list};
 use crate::outcome::Outcome;
-use crate::report::report_check;
+use crate::reporting::report_check;
 use mdmp_lister::{Choice, Limits, Lister, RunFault, Stopped, Verdict, VerdictSink};
 use mdmp_print::{LineForm, Printer, print_verdict};
 use mdmp_source::{Out, OutFailed, Source, Store};
@@ -111,7 +111,9 @@ impl Engine for CheckEngine {
         check_listed(lister, &mut lines)
     }
 
-    fn report<W: Out>(answer: Result<u64, ToolFault>, err: &mut W) -> u8 {
+    fn report<W: Out>(answer: Result<u64, ToolFault>, err: &mut W) -> u8
+        ensures { IsCheckEnd answer result (W.state err.old) (W.state err.new) }
+    {
         report_check(answer, err)
     }
 }

@@ -10,7 +10,7 @@ ghost use Rattle.mdmp_print.specs.HexText.{length_limit};
 use crate::engine::{Engine, run, run_source};
 use crate::fault::{ToolFault, told_list};
 use crate::outcome::Outcome;
-use crate::report::report;
+use crate::reporting::report;
 use mdmp_lister::{Choice, Limits, Lister};
 use mdmp_print::{Printer, print_hex_lines};
 use mdmp_source::{Out, OutFailed, Source, Store};
@@ -126,7 +126,9 @@ impl<A: Allocator + Copy> Engine for HexEngine<A> {
         hex_listed(self.alloc, lister, self.address, self.length, out)
     }
 
-    fn report<W: Out>(answer: Result<(), ToolFault>, err: &mut W) -> u8 {
+    fn report<W: Out>(answer: Result<(), ToolFault>, err: &mut W) -> u8
+        ensures { IsEnd answer result (W.state err.old) (W.state err.new) }
+    {
         report(answer, err)
     }
 }

@@ -26,7 +26,7 @@ mod hex;
 mod json_law;
 mod list;
 mod outcome;
-mod report;
+mod reporting;
 
 pub use crate::check::{CheckEngine, check_source, run_check};
 pub use crate::copy::{copied, copy_source, first_not_copied, run_copy};
@@ -37,7 +37,7 @@ pub use crate::hex::{HexEngine, hex_source, run_hex};
 pub use crate::json_law::objects_are_json_texts;
 pub use crate::list::{ListEngine, list_next, list_source, run_list};
 pub use crate::outcome::Outcome;
-pub use crate::report::report;
+pub use crate::reporting::report;
 pub use mdmp_dump::{PartName, ReadFault};
 pub use mdmp_lister::{FaultKind, Limits, ListFault, OpenFault, TypeSet};
 pub use mdmp_print::{LINE_ROOM, LineForm, LineOut, Printer, print_dump};

@@ -13,7 +13,7 @@ ghost use Rattle.mdmp_engines.specs.Text.{symbols_text};
 use crate::engine::{Engine, run, run_source};
 use crate::fault::{ToolFault, told_list};
 use crate::outcome::Outcome;
-use crate::report::report;
+use crate::reporting::report;
 use mdmp_lister::{Choice, Item, Limits, Lister};
 use mdmp_print::{LineForm, ModulePlace, Printer, print_dump, print_item, print_symbols};
 use mdmp_source::{Extent, Location, Out, OutFailed, Source, Store};
@@ -122,7 +122,9 @@ impl Engine for ListEngine {
         print_listing(lister, self.form, self.pdb, self.aside, out)
     }
 
-    fn report<W: Out>(answer: Result<(), ToolFault>, err: &mut W) -> u8 {
+    fn report<W: Out>(answer: Result<(), ToolFault>, err: &mut W) -> u8
+        ensures { IsEnd answer result (W.state err.old) (W.state err.new) }
+    {
         report(answer, err)
     }
 }

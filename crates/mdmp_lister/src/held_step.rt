@@ -65,6 +65,7 @@ fn record_of(kind: StreamKind, bytes: &[u8]) -> AnyRecord
 }
 
 /// Where the name of the record of the first of these bytes stands, if records of its kind have one.
+#[inline(always)]
 pub(crate) fn held_name_rva(kind: StreamKind, bytes: &[u8]) -> Option<u64>
     requires { record_size kind ≤ length bytes.now }
     ensures { result ≡ name_rva (record_at kind bytes.now 0) }
@@ -91,6 +92,7 @@ pub(crate) fn held_name_rva(kind: StreamKind, bytes: &[u8]) -> Option<u64>
 }
 
 /// How many bytes the range has that is held in these bytes, of a 64-bit memory list; 0 of another item.
+#[inline(always)]
 pub(crate) fn bytes_behind(held: &HeldStep, bytes: &[u8]) -> u64
     requires { HasItsBytes bytes.now held.now }
     ensures { result ≡ bytes_behind (step_told bytes.now held.now) }

@@ -12,6 +12,7 @@ use std::alloc::Allocator;
 
 /// Moves a window on to `at`. What it holds from there on stays held; what lies before is passed over,
 /// fetched or not.
+#[inline(always)]
 fn reach<A: Allocator>(window: &mut Window<A>, at: u64)
     requires from { window.old.place ≤ at }
     requires to { at ≤ window.old.end }
@@ -28,6 +29,7 @@ fn reach<A: Allocator>(window: &mut Window<A>, at: u64)
 
 /// Sees to it that the `size` bytes at `at` stand at the front of what a window holds: by one fetch
 /// where not all of them are held, else by none.
+#[inline(always)]
 pub(crate) fn hold<S: Store, A: Allocator>(
     meter: &mut Meter<S>,
     window: &mut Window<A>,

@@ -52,6 +52,7 @@ impl<S: Store + Drop, A: Allocator + Copy> Walk<S, A> {
     }
 
     /// The range that was read last, where the item is one.
+    #[inline(always)]
     pub(crate) fn range(&self, held: &HeldStep) -> Option<RangeItem>
         requires { HasItsBytes self.now.window.held held.now }
         ensures { TellsRange self.now.meter.source.size (step_told self.now.window.held held.now) result }

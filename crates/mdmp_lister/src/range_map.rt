@@ -10,6 +10,7 @@ use mdmp_source::Extent;
 use std::alloc::Allocator;
 
 /// Puts a range that lies inside the file behind those of a map.
+#[inline(always)]
 pub(crate) fn push_range<A: Allocator>(map: &mut AddressMap<A>, range: Option<RangeItem>)
     requires placed { IfSome range (IsRangeIn (2 ^ 64 - 1)) }
     requires room { length (ranges_told range) ≤ free_of map.old }

@@ -16,6 +16,7 @@ use mdmp_source::Store;
 use std::alloc::Allocator;
 
 /// Gives the next step, or the fault that is next, with room for so many ranges.
+#[inline(always)]
 pub(crate) fn advance<S: Store + Drop, A: Allocator + Copy>(
     walk: &mut Walk<S, A>,
     room: usize,

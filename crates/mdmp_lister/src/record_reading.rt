@@ -22,6 +22,7 @@ use std::alloc::Allocator;
 
 /// Sees to it that the record at `at`, of a stream of this kind, stands at the front of a window that slides
 /// over the stream.
+#[inline(always)]
 fn hold_record<S: Store, A: Allocator>(
     meter: &mut Meter<S>,
     window: &mut Window<A>,
@@ -42,6 +43,7 @@ fn hold_record<S: Store, A: Allocator>(
 /// The record at `at`, whose bytes then stand at the front of the window, and its name, or the fault of its
 /// name. The bytes of a range of a 64-bit memory list stand at `offset`.
 #[tactic(auto, using(crate::proofs::RecordItems::item_read, crate::proofs::RecordItems::name_faulted, crate::proofs::Sliding::slides_then, crate::proofs::Sliding::slides_fault, crate::proofs::RecordItems::named_kind))]
+#[inline(always)]
 pub(crate) fn read_item<S: Store, A: Allocator>(
     meter: &mut Meter<S>,
     window: &mut Window<A>,

@@ -32,6 +32,7 @@ pub(crate) enum Stage {
 impl Stage {
     /// Goes on behind the record that is next, which tells so many bytes of a 64-bit memory list.
     // In its place: the whole of a stage is some 80 bytes.
+    #[inline(always)]
     pub(crate) fn pass_record(&mut self, bytes: u64)
         requires { MayPass self.old }
         ensures { self.new ≡ stage_behind bytes self.old }

@@ -268,6 +268,7 @@ impl<S: Store + Drop, A: Allocator + Copy> Walk<S, A> {
     }
 
     /// Gives the next record of the current entry, whose head was read, or none behind the last one.
+    #[inline(always)]
     pub(crate) fn next_record(&mut self) -> Result<Option<HeldStep>, ListFault>
         requires sound { IsSound self.old }
         requires stage { IsListing self.old.stage }
@@ -289,6 +290,7 @@ impl<S: Store + Drop, A: Allocator + Copy> Walk<S, A> {
     }
 
     /// Gives a record that is left.
+    #[inline(always)]
     fn read_record(
         &mut self,
         kind: StreamKind,

@@ -5,13 +5,14 @@ from __future__ import annotations
 import datetime
 from typing import Any, NamedTuple
 
+from ..names import WindowsException
 from . import names, tables, text
 from .reading import Reading
 
 _SHOWN = 20
 # How memory was accessed, by the first parameter of an access violation or of an error in reading a page.
 _REACHED = {0: "reading", 1: "writing", 8: "executing"}
-_OF_MEMORY = (0xC0000005, 0xC0000006)
+_OF_MEMORY = (WindowsException.STATUS_ACCESS_VIOLATION, WindowsException.STATUS_IN_PAGE_ERROR)
 
 
 class Fact(NamedTuple):
@@ -93,10 +94,9 @@ def about(reading: Reading) -> list[Fact]:
         ]
     for row in reading.systems.records(1):
         version = f"{row.major_version}.{row.minor_version}.{row.build_number}"
-        architecture = names.ARCHITECTURES.get(row.processor_architecture, f"architecture {row.processor_architecture}")
+        architecture = names.architecture(row.processor_architecture)
         processors = text.of(row.number_of_processors, "processor")
-        platform = names.PLATFORMS.get(row.platform_id, f"platform {row.platform_id:#x}")
-        system = f"{platform} {version}, {architecture}, {processors}"
+        system = f"{names.platform(row.platform_id)} {version}, {architecture}, {processors}"
         facts.append(Fact("System", system))
         if row.csd_version:
             facts.append(Fact("Service pack", text.shortened(row.csd_version)))

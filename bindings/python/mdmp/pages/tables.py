@@ -8,6 +8,7 @@ from typing import Iterator, NamedTuple
 from .._fault import Fault
 from .._parts import SymbolFile
 from .._records import Extent, Place, SymbolKind
+from ..names import StreamType
 from . import names, text
 from .reading import Listing, Reading
 
@@ -91,7 +92,7 @@ def verdicts(reading: Reading) -> Table:
     rows = []
     for at in sorted(shown):
         stream, fault = reading.streams.record(at), reading.verdict(at)
-        words = told(fault) or ("unused" if stream.stream_type == 0 else "good")
+        words = told(fault) or ("unused" if stream.stream_type == StreamType.UnusedStream else "good")
         cells = [
             str(at),
             names.stream_type(stream.stream_type),

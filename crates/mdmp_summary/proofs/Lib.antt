@@ -1,0 +1,15 @@
+mod ContextRows
+pub mod Contexts
+pub mod Counting
+mod CrashRows
+pub mod Entries
+pub mod Folded
+pub mod Folds
+mod IdentityRows
+pub mod Padding
+pub mod Passing
+pub mod Paying
+pub mod Sought
+mod SummaryRows
+pub mod Told
+mod WholeRows

@@ -1,0 +1,218 @@
+-- What a pass over all entries fetches, a look at a time.
+use Rattle.std.proofs.Common.{◌≡◌, ◌≤◌, ◌+◌, ◌*◌, ◌∙◌, ℕ, Result, Err, ap, arith, drop, refl, subst, sym, false}
+use Rattle.std.proofs.Math.Nat.{mul-le-mul_right}
+use Rattle.mdmp_lister.specs.declared.fault.ListFault.{ListFault}
+use Rattle.mdmp_lister.specs.declared.meter.Amount.{Amount}
+use Rattle.mdmp_lister.specs.declared.meter.MeterCounts.{MeterCounts}
+use Rattle.mdmp_lister.specs.declared.position.Position.{Position}
+use Rattle.mdmp_lister.specs.declared.position.Position.TheVariants.{Begun, Sought, Within}
+use Rattle.mdmp_lister.specs.Listed.{cost_of, entry_cost}
+use Rattle.mdmp_lister.specs.Lister.{IsSameLister, ListerState}
+use Rattle.mdmp_lister.specs.Walker.{WalkerState, is_sought, seeks}
+use Rattle.mdmp_summary.specs.Spending.{CountsNames, KeepsSettled, LookPaid, PassPaid, PaysLook, ReadsContext, RisesByNames, SpendsPasses, ahead, ahead_after, all_listed, room_for_name, next_number, settled}
+use Rattle.mdmp_summary.specs.Walking.{IsSameListing}
+use Rattle.mdmp_summary.proofs.Paying.{few_names, rises_then}
+
+-- ---- a pass so far
+
+-- what may be counted of all entries
+pub record PassedBy (count : MeterCounts → ℕ) (old now : WalkerState) : Type 0 where
+  pub rises : RisesByNames (room_for_name old) (settled count old + 1 * all_listed old) old.mark.names (settled count now + ahead now) now.mark.names
+  pub kept : KeepsSettled count old → KeepsSettled count now
+
+pub record HasPassed (old now : WalkerState) : Type 0 where
+  pub more_names : old.list.counts.names ≤ now.list.counts.names
+  pub asked : CountsNames now → PassedBy (λ c. c.asked) old now
+  pub fetched : CountsNames now → PassedBy (λ c. c.fetched) old now
+  pub aside : now.list.counts.aside ≡ old.list.counts.aside
+
+-- the first entry was sought
+module _ (old new : WalkerState) (stays : new.list ≡ record old.list { left = new.list.left; stop = new.list.stop; unread = new.list.unread; standing = new.list.standing; records = new.list.records; work = new.list.work })
+    (mark : new.mark ≡ old.mark) (position : new.position ≡ Sought 0) where
+  sought_by : (count : MeterCounts → ℕ) → PassedBy count old new
+  sought_by count =
+      let one : settled count new ≡ settled count old = λ i. count (mark i) + entry_cost (stays i).source.size (stays i).current in
+      let all : ahead new ≡ all_listed old = λ i. cost_of (stays i).choice (stays i).source.size (drop (next_number (position i) (stays i).passed) (stays i).entries) in
+      let names : new.mark.names * room_for_name old ≡ old.mark.names * room_for_name old = ap (λ (m : MeterCounts). m.names * room_for_name old) mark in
+      record {
+        rises = omega (arith, one, all, names);
+        kept = λ kept. subst (λ (m : MeterCounts). RisesByNames (new.list.limit + 4) (count m + entry_cost new.list.source.size new.list.current) m.names (count new.list.counts) new.list.counts.names) (sym mark)
+            (subst (λ (l : ListerState). RisesByNames (l.limit + 4) (count old.mark + entry_cost l.source.size l.current) old.mark.names (count l.counts) l.counts.names) (sym stays) kept);
+      }
+
+  pub passed_sought : HasPassed old new
+  passed_sought = record {
+    more_names = let same = ap (λ (l : ListerState). l.counts.names) stays in omega (arith, same);
+    asked = λ few. sought_by (λ c. c.asked);
+    fetched = λ few. sought_by (λ c. c.fetched);
+    aside = λ i. (stays i).counts.aside;
+  }
+
+-- ---- a look more
+
+module _ (old now mid : WalkerState) (same : now.list.limit ≡ old.list.limit) where
+  look_then : (count : MeterCounts → ℕ) (result : Result (Unit {0}) ListFault) → PassedBy count old now → LookPaid count now result mid
+      → RisesByNames (room_for_name old) (settled count old + 1 * all_listed old) old.mark.names (settled count mid + ahead_after result mid) mid.mark.names
+  look_then count result so_far look =
+      rises_then (room_for_name old) (settled count old + 1 * all_listed old) old.mark.names (settled count now + ahead now) now.mark.names (settled count mid + ahead_after result mid) mid.mark.names so_far.rises
+      (subst (λ l. RisesByNames (l + 4) (settled count now + ahead now) now.mark.names (settled count mid + ahead_after result mid) mid.mark.names) same look.rises)
+
+  end_by : (count : MeterCounts → ℕ) (result : Result (Unit {0}) ListFault) → PassedBy count old now → LookPaid count now result mid → PassPaid count 1 old mid
+  end_by count result so_far look =
+      let rises = look_then count result so_far look in
+      record { rises = omega (arith, rises); kept = λ kept. look.kept }
+
+  pub passed_end : (result : Result (Unit {0}) ListFault) → HasPassed old now → PaysLook now result mid → SpendsPasses 1 0 old mid
+  passed_end result so_far look =
+      let same_aside : mid.list.counts.aside ≡ old.list.counts.aside = look.aside ∙ so_far.aside in
+      let bytes = ap (λ (a : Amount). a.bytes) same_aside in
+      let calls = ap (λ (a : Amount). a.calls) same_aside in
+      record {
+        more_names = omega (arith, so_far.more_names, look.more_names);
+        asked = λ few. end_by (λ c. c.asked) result (so_far.asked (few_names now.list.counts.names mid.list.counts.names look.more_names few)) (look.asked few);
+        fetched = λ few. end_by (λ c. c.fetched) result (so_far.fetched (few_names now.list.counts.names mid.list.counts.names look.more_names few)) (look.fetched few);
+        aside = omega (arith, bytes);
+        aside_calls = omega (arith, calls);
+      }
+
+  -- an entry that is skipped
+  module _ (f : ListFault) (new : WalkerState) (skips : IsSameLister mid.list new.list) (source : new.list.source ≡ mid.list.source) (counts : new.list.counts ≡ mid.list.counts)
+      (passed : new.list.passed ≡ mid.list.passed) (current : new.list.current ≡ mid.list.current) (mark : new.mark ≡ mid.mark) (position : is_sought mid ≡ false) (still : is_sought new ≡ false) where
+    number_still : (p : Position) (n : ℕ) → seeks p ≡ false → next_number p n ≡ n
+    number_still (Sought number) n not = absurd (cc)
+    number_still Begun n not = refl
+    number_still Within n not = refl
+
+    skip_by : (count : MeterCounts → ℕ) → PassedBy count old now → LookPaid count now (Err f) mid → PassedBy count old new
+    skip_by count so_far look =
+        let rises = look_then count (Err f) so_far look in
+        let at : next_number new.position new.list.passed ≡ next_number mid.position mid.list.passed =
+        number_still new.position new.list.passed still ∙ passed ∙ sym (number_still mid.position mid.list.passed position) in
+        let one : settled count new ≡ settled count mid = λ i. count (mark i) + entry_cost (source i).size (current i) in
+        let rest : ahead new ≡ ahead mid = λ i. cost_of (skips.choice i) (source i).size (drop (at i) (skips.entries i)) in
+        let names : new.mark.names * room_for_name old ≡ mid.mark.names * room_for_name old = ap (λ (m : MeterCounts). m.names * room_for_name old) mark in
+        record {
+          rises = omega (arith, rises, one, rest, names);
+          kept = λ kept.
+              subst (λ l. RisesByNames (l + 4) (settled count new) new.mark.names (count new.list.counts) new.list.counts.names) (sym skips.limit)
+              (subst (λ n. RisesByNames (room_for_name mid) n new.mark.names (count new.list.counts) new.list.counts.names) (sym one)
+              (subst (λ (m : MeterCounts). RisesByNames (room_for_name mid) (settled count mid) m.names (count new.list.counts) new.list.counts.names) (sym mark)
+              (subst (λ (c : MeterCounts). RisesByNames (room_for_name mid) (settled count mid) mid.mark.names (count c) c.names) (sym counts) look.kept)));
+        }
+
+    pub passed_skip : HasPassed old now → PaysLook now (Err f) mid → HasPassed old new
+    passed_skip so_far look =
+        let same_names = ap (λ (c : MeterCounts). c.names) counts in
+        record {
+          more_names = omega (arith, so_far.more_names, look.more_names, same_names);
+          asked = λ few.
+              let few_mid : CountsNames mid = omega (arith, few, same_names) in
+              skip_by (λ c. c.asked) (so_far.asked (few_names now.list.counts.names mid.list.counts.names look.more_names few_mid)) (look.asked few_mid);
+          fetched = λ few.
+              let few_mid : CountsNames mid = omega (arith, few, same_names) in
+              skip_by (λ c. c.fetched) (so_far.fetched (few_names now.list.counts.names mid.list.counts.names look.more_names few_mid)) (look.fetched few_mid);
+          aside = ap (λ (c : MeterCounts). c.aside) counts ∙ look.aside ∙ so_far.aside;
+        }
+
+-- ---- a pass after which nothing more is looked at
+
+done_by : (count : MeterCounts → ℕ) (old now : WalkerState) → PassedBy count old now → PassPaid count 1 old now
+done_by count old now so_far = record { rises = let rises = so_far.rises in omega (arith, rises); kept = so_far.kept }
+
+pub passed_done : (old now : WalkerState) → HasPassed old now → SpendsPasses 1 0 old now
+passed_done old now so_far =
+    let bytes = ap (λ (a : Amount). a.bytes) so_far.aside in
+    let calls = ap (λ (a : Amount). a.calls) so_far.aside in
+    record {
+      more_names = so_far.more_names;
+      asked = λ few. done_by (λ c. c.asked) old now (so_far.asked few);
+      fetched = λ few. done_by (λ c. c.fetched) old now (so_far.fetched few);
+      aside = omega (arith, bytes);
+      aside_calls = omega (arith, calls);
+    }
+
+-- ---- nothing, and a context
+
+none_by : (count : MeterCounts → ℕ) (v : WalkerState) → PassPaid count 0 v v
+none_by count v = record { rises = omega arith; kept = λ kept. kept }
+
+pub spends_none : (v : WalkerState) → SpendsPasses 0 0 v v
+spends_none v = record {
+  more_names = omega arith;
+  asked = λ few. none_by (λ c. c.asked) v;
+  fetched = λ few. none_by (λ c. c.fetched) v;
+  aside = omega arith;
+  aside_calls = omega arith;
+}
+
+module _ (old new : WalkerState) (reads : ReadsContext old new) where
+  read_by : (count : MeterCounts → ℕ) → count new.list.counts ≡ count old.list.counts → PassPaid count 0 old new
+  read_by count same =
+      let size = reads.fetches.same_size in
+      let names = reads.aside.same_names in
+      let one : settled count new ≡ settled count old = λ i. count (reads.same i).mark + entry_cost (size i) (reads.same i).list.current in
+      let before : new.mark.names * room_for_name old ≡ old.mark.names * room_for_name old = λ i. (reads.same i).mark.names * room_for_name old in
+      record {
+        rises = omega (arith, one, before);
+        kept = λ kept.
+            let limit : new.list.limit ≡ old.list.limit = λ i. (reads.same i).list.limit in
+            let after : new.list.counts.names * room_for_name old ≡ old.list.counts.names * room_for_name old = ap (λ n. n * room_for_name old) names in
+            let known : RisesByNames (room_for_name old) (settled count old) old.mark.names (count old.list.counts) old.list.counts.names = kept in
+            let now : RisesByNames (room_for_name old) (settled count new) new.mark.names (count new.list.counts) new.list.counts.names = omega (arith, known, one, before, after, same) in
+            subst (λ l. RisesByNames (l + 4) (settled count new) new.mark.names (count new.list.counts) new.list.counts.names) (sym limit) now;
+      }
+
+  pub spends_read : SpendsPasses 0 1 old new
+  spends_read = record {
+    more_names = let names = reads.aside.same_names in omega (arith, names);
+    asked = λ few. read_by (λ c. c.asked) reads.aside.same_asked;
+    fetched = λ few. read_by (λ c. c.fetched) reads.aside.same_fetched;
+    aside = let more = reads.aside.aside in omega (arith, more);
+    aside_calls = let more = reads.aside.aside_calls in omega (arith, more);
+  }
+
+-- ---- one after the other
+
+more_by : (count : MeterCounts → ℕ) (m n : ℕ) (old new : WalkerState) → m ≤ n → PassPaid count m old new → PassPaid count n old new
+more_by count m n old new few paid =
+    let cost : m * all_listed old ≤ n * all_listed old = mul-le-mul_right (all_listed old) few in
+    let rises = paid.rises in
+    record { rises = omega (arith, cost, rises); kept = paid.kept }
+
+pub spends_more : (m n a b : ℕ) (old new : WalkerState) → m ≤ n → a ≤ b → SpendsPasses m a old new → SpendsPasses n b old new
+spends_more m n a b old new few contexts spends = record {
+  more_names = spends.more_names;
+  asked = λ names. more_by (λ c. c.asked) m n old new few (spends.asked names);
+  fetched = λ names. more_by (λ c. c.fetched) m n old new few (spends.fetched names);
+  aside = let one = spends.aside in omega (arith, one, contexts);
+  aside_calls = let one = spends.aside_calls in omega (arith, one, contexts);
+}
+
+module _ (m n k a b : ℕ) (both : (cost : ℕ) → m * cost + n * cost ≡ k * cost) (old mid new : WalkerState) (same : IsSameListing old.list mid.list) where
+  then_by : (count : MeterCounts → ℕ) → PassPaid count m old mid → PassPaid count n mid new → PassPaid count k old new
+  then_by count first then =
+      let fetches = same.same_file.fetches in
+      let all : n * all_listed mid ≡ n * all_listed old = λ i. n * cost_of (same.choice i) (fetches.same_size i) (same.entries i) in
+      let rises = first.rises in
+      let sum = both (all_listed old) in
+      let next = subst (λ l. RisesByNames (l + 4) (settled count mid + n * all_listed mid) mid.mark.names (settled count new) new.mark.names) same.limit then.rises in
+      record {
+        rises = omega (arith, all, sum, rises, next);
+        kept = λ kept. then.kept (first.kept kept);
+      }
+
+  pub spends_then : SpendsPasses m a old mid → SpendsPasses n b mid new → SpendsPasses k (a + b) old new
+  spends_then first then = record {
+    more_names = let one = first.more_names in let two = then.more_names in omega (arith, one, two);
+    asked = λ names. then_by (λ c. c.asked) (first.asked (few_names mid.list.counts.names new.list.counts.names then.more_names names)) (then.asked names);
+    fetched = λ names. then_by (λ c. c.fetched) (first.fetched (few_names mid.list.counts.names new.list.counts.names then.more_names names)) (then.fetched names);
+    aside = let one = first.aside in let two = then.aside in omega (arith, one, two);
+    aside_calls = let one = first.aside_calls in let two = then.aside_calls in omega (arith, one, two);
+  }
+
+-- the passes of a crash, and of a summary
+pub crash_spends : (old mid new : WalkerState) → IsSameListing old.list mid.list → SpendsPasses 0 1 old mid → SpendsPasses 1 0 mid new → SpendsPasses 1 1 old new
+crash_spends old mid new same first then = spends_then 0 1 1 1 0 (λ cost. omega arith) old mid new same first then
+
+pub summary_spends : (old mid new : WalkerState) → IsSameListing old.list mid.list → SpendsPasses 1 0 old mid → SpendsPasses 1 1 mid new → SpendsPasses 2 1 old new
+summary_spends old mid new same first then = spends_then 1 1 2 0 1 (λ cost. omega arith) old mid new same first then

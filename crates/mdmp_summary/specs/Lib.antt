@@ -1,0 +1,15 @@
+pub mod BadEntries
+pub mod Context
+pub mod Crash
+pub mod Passes
+pub mod Gathering
+pub mod Identity
+pub mod Keeping
+pub mod Part
+pub mod Reach
+pub mod Search
+pub mod Spending
+pub mod SpendingLaws
+pub mod Summary
+pub mod Summing
+pub mod Walking

@@ -1,0 +1,85 @@
+-- What a summary fetches: at most the listed streams twice, and for each name that is reached its length and the limit on names.
+use Rattle.std.specs.Prelude.{◌≡◌, ◌≤◌, ◌<◌, ◌+◌, ◌*◌, ◌^◌, ℕ, drop, Result, Ok, Err}
+use Rattle.mdmp_source.specs.Source.{FetchesAtMost}
+use Rattle.mdmp_lister.specs.declared.fault.ListFault.{ListFault}
+use Rattle.mdmp_lister.specs.declared.meter.MeterCounts.{MeterCounts}
+use Rattle.mdmp_lister.specs.declared.position.Position.{Position}
+use Rattle.mdmp_lister.specs.declared.position.Position.TheVariants.{Begun, Sought, Within}
+use Rattle.mdmp_lister.specs.Listed.{cost_of, entry_cost}
+use Rattle.mdmp_lister.specs.Meter.{SpendsAside}
+use Rattle.mdmp_lister.specs.Walker.{WalkerState}
+use Rattle.mdmp_summary.specs.Summary.{context_room}
+
+-- a number rose by no more than so many bytes for each name that was reached
+abbrev pub RisesByNames : (room old before new after : ℕ) → Type 0
+RisesByNames room old before new after = new + before * room ≤ old + after * room
+
+-- a name may cost its length, and as many bytes as the limit
+abbrev pub room_for_name : WalkerState → ℕ
+room_for_name v = v.list.limit + 4
+
+-- the bytes of the streams that are listed of all entries
+abbrev pub all_listed : WalkerState → ℕ
+all_listed v = cost_of v.list.choice v.list.source.size v.list.entries
+
+-- the number of the first entry that is not begun
+abbrev pub next_number : Position → ℕ → ℕ
+next_number (Sought number) passed = number
+next_number Begun passed = passed
+next_number Within passed = passed
+
+-- the bytes of the streams that are listed of the entries from there on
+abbrev pub ahead : WalkerState → ℕ
+ahead v = cost_of v.list.choice v.list.source.size (drop (next_number v.position v.list.passed) v.list.entries)
+
+-- nothing is known of that after the end
+abbrev pub ahead_after : Result (Unit {0}) ListFault → WalkerState → ℕ
+ahead_after (Ok done) v = 0
+ahead_after (Err f) v = ahead v
+
+-- counts of bytes: of those that were asked for, or fetched
+module _ (count : MeterCounts → ℕ) where
+  -- what may be counted once the entry that was begun last is passed over, names left out: what was counted before it, and its
+  -- stream
+  abbrev pub settled : WalkerState → ℕ
+  settled v = count v.mark + entry_cost v.list.source.size v.list.current
+
+  -- no more was counted than that, and names
+  abbrev pub KeepsSettled : WalkerState → Type 0
+  KeepsSettled v = RisesByNames (room_for_name v) (settled v) v.mark.names (count v.list.counts) v.list.counts.names
+
+  -- a look counts no more than the entry that was begun and those ahead have
+  pub record LookPaid (old : WalkerState) (result : Result (Unit {0}) ListFault) (new : WalkerState) : Type 0 where
+    pub rises : RisesByNames (room_for_name old) (settled old + ahead old) old.mark.names (settled new + ahead_after result new) new.mark.names
+    pub kept : KeepsSettled new
+
+  -- so many passes count no more than the entry that was begun, and as often all entries
+  pub record PassPaid (passes : ℕ) (old new : WalkerState) : Type 0 where
+    pub rises : RisesByNames (room_for_name old) (settled old + passes * all_listed old) old.mark.names (settled new) new.mark.names
+    pub kept : KeepsSettled old → KeepsSettled new
+
+-- names are counted up to the greatest u128; nothing is said from there on
+abbrev pub CountsNames : WalkerState → Type 0
+CountsNames v = v.list.counts.names + 1 < 2 ^ 128
+
+-- what a look fetches
+pub record PaysLook (old : WalkerState) (result : Result (Unit {0}) ListFault) (new : WalkerState) : Type 0 where
+  pub more_names : old.list.counts.names ≤ new.list.counts.names
+  pub asked : CountsNames new → LookPaid (λ c. c.asked) old result new
+  pub fetched : CountsNames new → LookPaid (λ c. c.fetched) old result new
+  pub aside : new.list.counts.aside ≡ old.list.counts.aside
+
+-- what so many passes over all entries fetch, and the reading of so many contexts, which is outside the listing
+pub record SpendsPasses (passes contexts : ℕ) (old new : WalkerState) : Type 0 where
+  pub more_names : old.list.counts.names ≤ new.list.counts.names
+  -- also with the read that was not made, so that no read limit of at least that many bytes ends them
+  pub asked : CountsNames new → PassPaid (λ c. c.asked) passes old new
+  pub fetched : CountsNames new → PassPaid (λ c. c.fetched) passes old new
+  pub aside : new.list.counts.aside.bytes ≤ old.list.counts.aside.bytes + contexts * context_room
+  pub aside_calls : new.list.counts.aside.calls ≤ old.list.counts.aside.calls + contexts
+
+-- the registers were read, and the listing stays as it was
+pub record ReadsContext (old new : WalkerState) : Type 0 where
+  pub same : new ≡ record old { list = record old.list { source = new.list.source; counts = new.list.counts } }
+  pub aside : SpendsAside 1 context_room old.list.counts new.list.counts
+  pub fetches : FetchesAtMost context_room old.list.source new.list.source

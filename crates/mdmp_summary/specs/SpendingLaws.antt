@@ -1,0 +1,42 @@
+-- What a summary of a file that was just opened fetches.
+use Rattle.std.proofs.Common.{◌≡◌, ◌≤◌, ◌+◌, ◌*◌, ◌∙◌, ℕ, ap, arith, subst, sym}
+use Rattle.mdmp_source.specs.Source.{SourceState}
+use Rattle.mdmp_lister.specs.declared.choice.Choice.{Choice}
+use Rattle.mdmp_lister.specs.declared.limits.Limits.{Limits}
+use Rattle.mdmp_lister.specs.declared.meter.MeterCounts.{MeterCounts}
+use Rattle.mdmp_lister.specs.Format.Bounds.{fetch_bound}
+use Rattle.mdmp_lister.specs.Listed.{entry_cost}
+use Rattle.mdmp_lister.specs.Walker.{IsNewWalker, WalkerState}
+use Rattle.mdmp_summary.specs.Spending.{CountsNames, KeepsSettled, PassPaid, RisesByNames, SpendsPasses, all_listed, room_for_name, settled}
+use Rattle.mdmp_summary.specs.Walking.{IsSameListing}
+
+-- the bytes that a summary fetches for the listing at most: of a file with so many entries, whose listed streams have so many
+-- bytes, where so many names were reached. A name counts as often as it is reached
+abbrev pub summary_bound : (limit entries listed names : ℕ) → ℕ
+summary_bound limit entries listed names = 32 + 12 * entries + 2 * listed + names * (limit + 4)
+
+-- that is at most twice the bound of a listing
+pub twice_listing : (limit entries listed names : ℕ) → summary_bound limit entries listed names ≤ 2 * fetch_bound limit entries listed names
+twice_listing limit entries listed names = omega arith
+
+module _ (source : SourceState) (choice : Choice) (limits : Limits) (old new : WalkerState) (opened : IsNewWalker source choice limits old) (spends : SpendsPasses 2 1 old new) (same : IsSameListing old.list new.list) where
+  begun_kept : (count : MeterCounts → ℕ) → KeepsSettled count old
+  begun_kept count =
+      subst (λ (m : MeterCounts). RisesByNames (room_for_name old) (count m + entry_cost old.list.source.size old.list.current) m.names (count old.list.counts) old.list.counts.names)
+      (sym opened.mark) (omega arith)
+
+  most_by : (count : MeterCounts → ℕ) (begun : ℕ) → count old.list.counts ≤ begun → PassPaid count 2 old new
+      → count new.list.counts ≤ begun + 2 * all_listed old + new.list.counts.names * room_for_name old
+  most_by count begun few paid =
+      let none : old.mark.names ≡ 0 = ap (λ (m : MeterCounts). m.names) opened.mark ∙ opened.list.counts.names in
+      let zero : old.mark.names * room_for_name old ≡ 0 * room_for_name old = ap (λ n. n * room_for_name old) none in
+      let unbegun = opened.unbegun in
+      let mark = ap count opened.mark in
+      let rises = paid.rises in
+      let kept : RisesByNames (room_for_name old) (settled count new) new.mark.names (count new.list.counts) new.list.counts.names =
+      subst (λ l. RisesByNames (l + 4) (settled count new) new.mark.names (count new.list.counts) new.list.counts.names) same.limit (paid.kept (begun_kept count)) in
+      omega (arith, zero, unbegun, mark, rises, kept, few)
+
+  -- what was asked for, with a read that the read limit forbids: so a read limit of that many bytes never ends a summary
+  pub asked_most : CountsNames new → new.list.counts.asked ≤ summary_bound old.list.limit old.list.header.number_of_streams (all_listed old) new.list.counts.names
+  asked_most few = most_by (λ c. c.asked) (32 + 12 * old.list.header.number_of_streams) opened.asked (spends.asked few)

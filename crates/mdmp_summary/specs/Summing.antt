@@ -1,0 +1,39 @@
+-- Why there may be no summary.
+use Rattle.std.specs.Prelude.{ℕ, List}
+use Rattle.mdmp_source.specs.Source.{IsTold}
+use Rattle.mdmp_lister.specs.declared.fault.OpenFault.TheVariants as opening
+use Rattle.mdmp_lister.specs.declared.limits.Limits.{Limits}
+use Rattle.mdmp_lister.specs.Fault.{IsOfStore, IsUnobtained}
+use Rattle.mdmp_lister.specs.Lister.{ListerState}
+use Rattle.mdmp_lister.specs.Memory.{IsWalkRefusal}
+use Rattle.mdmp_lister.specs.Opening.{IsUnread}
+use Rattle.mdmp_summary.specs.Walking.{IsPassFault}
+use Rattle.mdmp_summary.specs.declared.summary.SummaryFault.{SummaryFault}
+use Rattle.mdmp_summary.specs.declared.summary.SummaryFault.TheVariants as faults
+
+-- the file can't be listed within these limits, or memory ran out; or bytes were not read, because the store failed or the read
+-- limit was reached
+abbrev pub IsSummaryFault : Limits → List ℕ → SummaryFault → Type 0
+IsSummaryFault limits F (faults.Opening fault) = IsWalkRefusal limits F fault
+IsSummaryFault limits F (faults.List fault) = IsUnobtained fault.kind
+IsSummaryFault limits F (faults.Source fault) = Unit {0}
+
+-- if the store never fails and there is no read limit, only the file or the memory can be at fault
+abbrev pub IsFileFault : Limits → List ℕ → SummaryFault → Type 0
+IsFileFault limits F (faults.Opening (opening.Source fault)) = ⊥
+IsFileFault limits F (faults.Opening (opening.Budget offset size)) = ⊥
+IsFileFault limits F (faults.Opening fault) = IsWalkRefusal limits F fault
+IsFileFault limits F (faults.List fault) = ⊥
+IsFileFault limits F (faults.Source fault) = ⊥
+
+-- the error of a summary of a file that is open: bytes were not read. It has its cause in this call, and its place
+abbrev pub IsCallFault : ListerState → ListerState → SummaryFault → Type 0
+IsCallFault old new (faults.Opening fault) = ⊥
+IsCallFault old new (faults.List fault) = IsPassFault old new fault
+IsCallFault old new (faults.Source fault) = IsTold fault old.source new.source
+
+-- it is the store that failed
+abbrev pub IsUnreadIn : SummaryFault → Type 0
+IsUnreadIn (faults.Opening fault) = IsUnread fault
+IsUnreadIn (faults.List fault) = IsOfStore fault.kind
+IsUnreadIn (faults.Source fault) = Unit {0}

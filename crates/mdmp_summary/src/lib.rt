@@ -1,0 +1,45 @@
+//! What a minidump tells of a crash, in one call.
+//!
+//! [`summarize`] reads a file in two passes and gives its [`FileSummary`]: the crash, with its thread, the
+//! registers and the module at the address that ran; the system; how much the file has; the entries with
+//! an error; and the parts that lie outside the file. `specs/Summary.antt` defines it.
+//! [`summarize_listing`] does the same with a [`Walker`](mdmp_lister::Walker) that is open.
+//!
+//! A pass goes over all entries, each up to its own error, as `check` does. So an entry with an error hides
+//! nothing of the entries after it.
+//!
+//! [`registers_in`] reads three registers of a CPU context. [`CodeId`], [`BuildId`], [`Pdb20`] and
+//! [`DebugIdentifier`] are the ids by which a symbol server knows a module.
+//!
+//! ```text
+//! let source = Source::new(FileStore::open(rt, "crash.dmp")?);
+//! let summary = summarize(alloc, source, Limits::default())?;
+//! if let Some(crash) = summary.crash { .. }
+//! ```
+#![tactic(auto)]
+
+mod bad_entries;
+mod context;
+mod context_reading;
+mod crash;
+mod fold;
+mod gathering;
+mod identity;
+mod keeping;
+mod part;
+mod passes;
+mod reach;
+mod search;
+mod summary;
+mod summing;
+mod walking;
+
+pub use crate::bad_entries::BadEntries;
+pub use crate::context::{Registers, first_bytes_suffice, registers_in};
+pub use crate::crash::Platform;
+pub use crate::gathering::ItemCounts;
+pub use crate::identity::{BuildId, CodeId, DebugIdentifier, Pdb20};
+pub use crate::part::{PartKind, PartOutside, PartsOutside};
+pub use crate::reach::{AccessKind, Reached};
+pub use crate::summary::{Crash, FileSummary, PlaceInModule, SummaryFault};
+pub use crate::summing::{summarize, summarize_listing};

@@ -1,0 +1,89 @@
+//! The two passes of a summary.
+ghost use Rattle.std.specs.Prelude.{◌≡◌, ℕ, List, Some, false, IfErr, IfOk};
+ghost use Rattle.mdmp_source.specs.Store.{IsGood};
+ghost use Rattle.mdmp_lister.specs.Fault.{IsOfStore};
+ghost use Rattle.mdmp_lister.specs.Walker.{is_failed};
+ghost use Rattle.mdmp_lister.specs.declared.choice.Choice.TheVariants.{All};
+ghost use Rattle.mdmp_summary.specs.BadEntries.{all_items};
+ghost use Rattle.mdmp_summary.specs.Passes.{all_gathered, searched};
+ghost use Rattle.mdmp_summary.specs.Spending.{SpendsPasses};
+ghost use Rattle.mdmp_summary.specs.Walking.{IsPassFault, IsSameListing};
+
+use crate::bad_entries::BadEntries;
+use crate::gathering::Gathering;
+use crate::search::CrashSearch;
+use crate::summary::{Crash, FileSummary};
+use crate::walking::fold_all;
+use mdmp_lister::{ListFault, Walker};
+use mdmp_source::Store;
+use mdmp_wire::Header;
+use std::alloc::Allocator;
+
+/// What the first pass gives.
+#[derive(Clone, Copy)]
+pub(crate) struct FirstPass {
+    pub(crate) gathering: Gathering,
+    pub(crate) bad: BadEntries,
+}
+
+impl FirstPass {
+    ghost use Rattle.mdmp_summary.specs.Passes.{summary_with};
+
+    /// The summary of a file with this header and this crash.
+    pub(crate) fn summary(&self, header: Header, crash: Option<Crash>) -> FileSummary
+        ensures { result ≡ summary_with self.now header crash }
+    {
+        FileSummary {
+            header,
+            system: self.gathering.system,
+            program: self.gathering.program,
+            crash,
+            counts: self.gathering.counts,
+            outside: self.gathering.outside,
+            bad: self.bad,
+        }
+    }
+}
+
+/// Gathers what all items tell.
+pub(crate) fn gather_all<S: Store + Drop, A: Allocator + Copy>(
+    walker: &mut Walker<S, A>,
+) -> Result<FirstPass, ListFault>
+    requires all { walker.old.list.choice ≡ All }
+    requires going { is_failed walker.old.list.stop ≡ false }
+    ensures gathers { (file : List ℕ) → walker.old.list.source.store.content ≡ Some file
+        → IfOk result (λ told. told ≡ all_gathered file walker.old.list.limit) }
+    ensures going { IfOk result (λ told. is_failed walker.new.list.stop ≡ false) }
+    ensures fault { IfErr result (IsPassFault walker.old.list walker.new.list) }
+    ensures good { (file : List ℕ) → IsGood walker.old.list.source.store file → IfErr result (λ fault. IsOfStore fault.kind → ⊥) }
+    ensures spends { SpendsPasses 1 0 walker.old walker.new }
+    ensures same { IsSameListing walker.old.list walker.new.list }
+{
+    let mut gathering = Gathering::new();
+    match fold_all(walker, &mut gathering) {
+        Ok(bad) => Ok(FirstPass { gathering, bad }),
+        Err(fault) => Err(fault),
+    }
+}
+
+/// Searches all items for the modules at an address and for the name of a thread.
+pub(crate) fn search_all<S: Store + Drop, A: Allocator + Copy>(
+    walker: &mut Walker<S, A>,
+    address: u64,
+    thread: u32,
+) -> Result<CrashSearch, ListFault>
+    requires all { walker.old.list.choice ≡ All }
+    requires going { is_failed walker.old.list.stop ≡ false }
+    ensures finds { (file : List ℕ) → walker.old.list.source.store.content ≡ Some file
+        → IfOk result (λ search. search ≡ searched address thread (all_items file walker.old.list.limit)) }
+    ensures fault { IfErr result (IsPassFault walker.old.list walker.new.list) }
+    ensures good { (file : List ℕ) → IsGood walker.old.list.source.store file → IfErr result (λ fault. IsOfStore fault.kind → ⊥) }
+    ensures spends { SpendsPasses 1 0 walker.old walker.new }
+    ensures same { IsSameListing walker.old.list walker.new.list }
+{
+    let mut search = CrashSearch::new(address, thread);
+    match fold_all(walker, &mut search) {
+        Ok(_) => Ok(search),
+        Err(fault) => Err(fault),
+    }
+}

@@ -1,0 +1,87 @@
+//! Stores that fail, memory that is refused, and read limits.
+use crate::files::crash_file;
+use crate::same::assert_same_at;
+use crate::summing::{fetched_for, summary_in, summary_over};
+use mdmp_lister::{FaultKind, Limits, OpenFault};
+use mdmp_source::{MemoryStore, PatchyStore};
+use mdmp_summary::{FileSummary, SummaryFault};
+use mdmp_test_support::{MeteredHeap, Refusal};
+use std::process::Abort;
+
+/// What a summary came to.
+#[derive(Clone, Copy, Debug, PartialEq, Eq)]
+enum SummaryEnd {
+    Told(FileSummary),
+    Unread,
+    Budget,
+    Memory,
+    Refused,
+}
+
+fn end_of(told: Result<FileSummary, SummaryFault>) -> SummaryEnd {
+    match told {
+        Ok(summary) => SummaryEnd::Told(summary),
+        Err(SummaryFault::Source(_)) | Err(SummaryFault::Opening(OpenFault::Source(_))) =>
+            SummaryEnd::Unread,
+        Err(SummaryFault::Opening(OpenFault::Budget { .. })) => SummaryEnd::Budget,
+        Err(SummaryFault::Opening(OpenFault::Memory)) => SummaryEnd::Memory,
+        Err(SummaryFault::Opening(_)) => SummaryEnd::Refused,
+        Err(SummaryFault::List(fault)) => match fault.kind {
+            FaultKind::Source(_) => SummaryEnd::Unread,
+            FaultKind::Budget => SummaryEnd::Budget,
+            _ => SummaryEnd::Refused,
+        },
+    }
+}
+
+#[test]
+fn store_that_fails_at_a_call_ends_the_summary(rt: HostRuntime) {
+    let file = crash_file(&rt, rt.alloc(), 0x8201, 11, 0x5000, 0x100);
+    let whole = SummaryEnd::Told(summary_in(&rt, rt.alloc(), &file));
+    let mut calls = 0u32;
+    for call in 0..40u64 {
+        let store = PatchyStore::new(&file, &[1 << 20], Some(call));
+        let end = end_of(summary_over(rt.alloc(), store, Limits::default()));
+        if end == SummaryEnd::Unread {
+            calls = calls.saturating_add(1);
+        } else {
+            assert_same_at(&rt, &call, end, whole);
+        }
+    }
+    assert_same_at(&rt, &"calls", calls, 11);
+}
+
+#[test]
+fn growth_of_memory_that_is_refused_ends_the_summary(rt: HostRuntime) {
+    let file = crash_file(&rt, rt.alloc(), 0x8201, 11, 0x5000, 0x100);
+    let whole = SummaryEnd::Told(summary_in(&rt, rt.alloc(), &file));
+    for (growth, expected) in [(0, SummaryEnd::Memory), (2, SummaryEnd::Memory), (3, whole)] {
+        let heap = MeteredHeap::new(rt.alloc(), Refusal::Only(growth));
+        let store = MemoryStore::new(&file);
+        let end = end_of(summary_over(&heap, store, Limits::default()));
+        assert_same_at(&rt, &growth, end, expected);
+    }
+}
+
+#[test]
+fn budget_of_what_is_fetched_is_enough(rt: HostRuntime) {
+    let file = crash_file(&rt, rt.alloc(), 0x8201, 11, 0x5000, 0x100);
+    let whole = SummaryEnd::Told(summary_in(&rt, rt.alloc(), &file));
+    // Header, directory, and twice two exceptions, a module list and a system.
+    let fetched = 32 + 60 + 2 * (168 + 168 + 112 + 56);
+    assert_same_at(
+        &rt,
+        &"fetched",
+        fetched_for(rt.alloc(), &file),
+        Some((fetched, 256)),
+    );
+    for (budget, expected) in [
+        (fetched as u64, whole),
+        (fetched as u64 - 1, SummaryEnd::Budget),
+    ] {
+        let limits = Limits::with_budget(65536, 4096, budget).expect(&rt, "limits");
+        let store = MemoryStore::new(&file);
+        let end = end_of(summary_over(rt.alloc(), store, limits));
+        assert_same_at(&rt, &budget, end, expected);
+    }
+}

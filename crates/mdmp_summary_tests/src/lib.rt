@@ -1,0 +1,22 @@
+//! Tests of `mdmp_summary`, by its public calls alone.
+//!
+//! `summing` makes the calls whose contracts are long, in helpers without a contract; the tests compare plain
+//! values.
+#![tactic(auto)]
+
+#[cfg(test)]
+mod contexts;
+#[cfg(test)]
+mod failures;
+#[cfg(test)]
+mod files;
+#[cfg(test)]
+mod ids;
+#[cfg(test)]
+mod prefixes;
+#[cfg(test)]
+mod same;
+#[cfg(test)]
+mod summaries;
+#[cfg(test)]
+mod summing;
