@@ -313,7 +313,7 @@ PLACEHOLDERS = """
 |---|---|
 | `<n>` | a decimal number |
 | `<entry>`, `<e>` | the number of the directory entry, from 0 |
-| `<k>` | the index of the record in its stream, from 0 |
+| `<k>` | the index of the record in its stream, from 0, also for a stream of one record |
 | `<x16>` | `0x` and 16 hexadecimal digits |
 | `<4 digits>`, `<8 digits>`, `<2 digits>` | so many hexadecimal digits |
 | `<part>` | `empty`, `absent <size>`, `inside <size>@<offset>` or `outside <size>@<offset>` |
@@ -349,7 +349,9 @@ With `--json`, `list` and `check` print each line as one JSON object (RFC 8259) 
 The order of lines is that of the text. Error lines stay text.
 [line.schema.json](line.schema.json) is a JSON Schema (draft 2020-12) of each line, and [tests/schema](../../tests/schema) compares the program with it.
 
-- Keys come in the order of the tables, which is also that of the schema.
+- Keys come in the order of the tables, which is also that of the schema. Outside of strings there are no blanks.
+- In a string, `\\` comes before `"` and `\\`. A character below U+0020 is `\\b`, `\\t`, `\\n`, `\\f` or `\\r`, else `\\u` and 4 digits of lower case.
+  Every other character stands for itself.
 - A later version may print more keys, and more values of `line`. Ignore what you do not know. The schema is strict, and describes this version only.
 - The type of a number depends on its field, never on its value. It is a JSON number if the field has at most 32 bits. So are `entry` and `index`.
   A wider field is a string of decimal digits, and so are the size and offset of a range and the numbers of an error.
@@ -373,6 +375,7 @@ NAMES = """
 | string | the name. U+FFFD is in the place of each surrogate without its other half. |
 
 The name of a PDB is a string: its bytes as UTF-8. U+FFFD is in the place of bytes that are not UTF-8.
+If they begin a character, one U+FFFD replaces as many of them as can begin one. Any other byte has one of its own.
 If U+FFFD replaced something, `"lossy":true` follows the string. Otherwise there is no `lossy`.
 """
 
