@@ -182,6 +182,7 @@ fn list_items<S: Store + Drop, A: Allocator + Copy, O: Printer>(
 ///
 /// A fault of the listing or of the budget ends it with nothing printed, one of the store or the output may
 /// stand behind a first part of the lines.
+#[inline(always)]
 pub fn list_next<S: Store + Drop, A: Allocator + Copy, O: Printer>(
     lister: &mut Lister<S, A>,
     form: LineForm,
@@ -202,10 +203,13 @@ pub fn list_next<S: Store + Drop, A: Allocator + Copy, O: Printer>(
 {
     let symbols = match lister.next() {
         Ok(None) => return Ok(false),
-        Ok(Some(item)) => match print_item(form, &item, out) {
-            Ok(()) => symbols_of(pdb, &item),
-            Err(OutFailed) => return Err(ToolFault::Out),
-        },
+        Ok(Some(item)) => {
+            let symbols = symbols_of(pdb, &item);
+            match print_item(form, item, out) {
+                Ok(()) => symbols,
+                Err(OutFailed) => return Err(ToolFault::Out),
+            }
+        }
         Err(fault) => return Err(told_list(fault)),
     };
     list_symbols(lister, form, symbols, aside, out)?;

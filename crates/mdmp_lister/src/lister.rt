@@ -187,6 +187,7 @@ impl<S: Store + Drop, A: Allocator + Copy> Lister<S, A> {
     /// The head and the records of a stream pass through the window: where it does not hold all of what
     /// comes next, it is filled with the bytes behind those that it holds, as far as it has room and the
     /// stream goes. The name of an item is fetched beside it, of one over the limit its length alone.
+    #[inline(always)]
     pub fn next(&mut self) -> Result<Option<Item<'_>>, ListFault>
         ensures gives { (left : _) → self.old.left ≡ Some left → Gives left result }
         ensures* leaves { sem 𝓛 (Rests (the_row S.row A.row S.Store A.Allocator) self.entry (ListerLeaves self.old result)) }

@@ -47,25 +47,28 @@ fn print_header<O: Printer>(form: LineForm, header: &Header, out: &mut O) -> Res
 }
 
 /// Prints the line of an item.
+#[inline(always)]
 #[tactic(auto, using(crate::proofs::FormLemmas::in_item))]
-pub fn print_item<O: Printer>(form: LineForm, item: &Item<'_>, out: &mut O) -> Result<(), OutFailed>
-    ensures { Puts result (O.state out.old) (item_line_in form item.now) (O.state out.new) }
+pub fn print_item<O: Printer>(form: LineForm, item: Item<'_>, out: &mut O) -> Result<(), OutFailed>
+    ensures { Puts result (O.state out.old) (item_line_in form item.entry) (O.state out.new) }
 {
     print_kind(form, item, out)
 }
 
-fn print_kind<O: Printer>(form: LineForm, item: &Item<'_>, out: &mut O) -> Result<(), OutFailed>
-    ensures { Puts result (O.state out.old) (in_form form (item_line item.now) (object_line (item_object item.now))) (O.state out.new) }
+// By value: a record is then in a place of its own in each arm, and an item is never put together in memory.
+#[inline(always)]
+fn print_kind<O: Printer>(form: LineForm, item: Item<'_>, out: &mut O) -> Result<(), OutFailed>
+    ensures { Puts result (O.state out.old) (in_form form (item_line item.entry) (object_line (item_object item.entry))) (O.state out.new) }
 {
     match item {
-        Item::Stream(item) => print_stream(form, item, out),
-        Item::Thread(item) => print_thread(form, item, out),
-        Item::Module(item) => print_module(form, item, out),
-        Item::Unloaded(item) => print_unloaded(form, item, out),
-        Item::Exception(item) => print_exception(form, item, out),
-        Item::System(item) => print_system(form, item, out),
-        Item::MemoryInfo(item) => print_region(form, item, out),
-        Item::ThreadName(item) => print_thread_name(form, item, out),
-        Item::Range(item) => print_range(form, item, out),
+        Item::Stream(item) => print_stream(form, &item, out),
+        Item::Thread(item) => print_thread(form, &item, out),
+        Item::Module(item) => print_module(form, &item, out),
+        Item::Unloaded(item) => print_unloaded(form, &item, out),
+        Item::Exception(item) => print_exception(form, &item, out),
+        Item::System(item) => print_system(form, &item, out),
+        Item::MemoryInfo(item) => print_region(form, &item, out),
+        Item::ThreadName(item) => print_thread_name(form, &item, out),
+        Item::Range(item) => print_range(form, &item, out),
     }
 }

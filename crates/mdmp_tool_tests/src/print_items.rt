@@ -63,8 +63,8 @@ fn prints_regions(rt: HostRuntime) -> Result<(), Fail> {
     let mut inner = PatchyOut::with_room(rt.alloc(), 4096, 7, None)?;
     let mut buffer = [0; 1024];
     let mut out = LineOut::over(&mut buffer, &mut inner);
-    print_item(LineForm::Text, &region(), &mut out).map_err(|_| "out")?;
-    print_item(LineForm::Json, &region(), &mut out).map_err(|_| "out")?;
+    print_item(LineForm::Text, region(), &mut out).map_err(|_| "out")?;
+    print_item(LineForm::Json, region(), &mut out).map_err(|_| "out")?;
     out.flush().map_err(|_| "out")?;
     let expected =
         "region 12 base 0x00007ff612340000 allocation 0xfedcba9876543210 initial 4294967295 size 18446744073709551615 state 4096 protect 0 type 100000000\n{\"line\":\"region\",\"entry\":3,\"index\":12,\"base\":\"0x00007ff612340000\",\"allocation\":\"0xfedcba9876543210\",\"initial\":4294967295,\"size\":\"18446744073709551615\",\"state\":4096,\"protect\":0,\"type\":100000000}\n";
@@ -78,9 +78,9 @@ fn prints_modules(rt: HostRuntime) -> Result<(), Fail> {
     let mut buffer = [0; 1024];
     let mut out = LineOut::over(&mut buffer, &mut inner);
     let units = UnitsRef::over(b"a\0\\\0\x22\0\x0a\0\xe9\0\x3d\xd8\x00\xde\x00\xdc");
-    print_item(LineForm::Text, &module(Name::Units(units)), &mut out).map_err(|_| "out")?;
-    print_item(LineForm::Json, &module(Name::Units(units)), &mut out).map_err(|_| "out")?;
-    print_item(LineForm::Json, &module(Name::Long(70000)), &mut out).map_err(|_| "out")?;
+    print_item(LineForm::Text, module(Name::Units(units)), &mut out).map_err(|_| "out")?;
+    print_item(LineForm::Json, module(Name::Units(units)), &mut out).map_err(|_| "out")?;
+    print_item(LineForm::Json, module(Name::Long(70000)), &mut out).map_err(|_| "out")?;
     out.flush().map_err(|_| "out")?;
     let front =
         "module 0 base 0x0000000000400000 size 99 checksum 100 time 9999 version 10.1.65535.0 cv inside 42@10 misc absent 7 name ";
@@ -98,9 +98,9 @@ fn stops_at_a_refusal(rt: HostRuntime) -> Result<(), Fail> {
     let mut inner = PatchyOut::with_room(rt.alloc(), 4096, 100, Some(3))?;
     let mut buffer = [0; 1024];
     let mut out = LineOut::over(&mut buffer, &mut inner);
-    let first = print_item(LineForm::Text, &region(), &mut out);
-    let second = print_item(LineForm::Text, &region(), &mut out);
-    let third = print_item(LineForm::Text, &region(), &mut out);
+    let first = print_item(LineForm::Text, region(), &mut out);
+    let second = print_item(LineForm::Text, region(), &mut out);
+    let third = print_item(LineForm::Text, region(), &mut out);
     assert!(rt; first.is_ok() && second.is_ok());
     assert!(rt; third.is_err());
     assert_eq!(rt; inner.bytes().len(), 245);
