@@ -28,11 +28,11 @@ returns-in_err-list_symbols-clause-lists g c = λ file content left known.
     let is = refused_by c.from_residual.result f c.from_residual.ensures.1 in
     let first : slice_get left.items 0 ≡ Some (plain x) = rw c.in-Ok-Some.field-0-is at (c.in-Ok-Some.ensures.gives left known) in
     let limited = subst
-    (λ (n : ℕ). PutsSymbols n c.symbols_of.result (symbols_text c.args.form file n c.symbols_of.result) (g.O.Printer.state c.print_item.new.out) (Err f) (g.O.Printer.state c.list_symbols.new.out))
+    (λ (n : ℕ). PutsSymbols n c.symbols_of-symbols.result (symbols_text c.args.form file n c.symbols_of-symbols.result) (g.O.Printer.state c.print_item.new.out) (Err f) (g.O.Printer.state c.list_symbols.new.out))
     holds.same.limit (c.in_err-list_symbols.ensures.puts file (holds.spends.fetches.same_content ∙ content)) in
     let cut = subst
     (λ (s : Option ModuleSymbols). PutsSymbols c.args.lister.now.limit s (symbols_text c.args.form file c.args.lister.now.limit s) (g.O.Printer.state c.print_item.new.out) (Err f) (g.O.Printer.state c.list_symbols.new.out))
-    c.symbols_of.ensures limited in
+    c.symbols_of-symbols.ensures limited in
     rw is (ListsNext-cut c.args.form c.args.pdb file c.args.lister.now.limit left x first _ _ _ c.in-Ok.ensures f cut)
 
 pub returns-in_err-list_symbols-clause-leaves : goal.returns-in_err-list_symbols-clause-leaves
@@ -47,7 +47,7 @@ returns-clause-lists g c = λ file content left known.
     let x = c.in-Ok-Some.item in
     let holds = c.next.follows.holds-at-none.list in
     let first : slice_get left.items 0 ≡ Some (plain x) = rw c.in-Ok-Some.field-0-is at (c.in-Ok-Some.ensures.gives left known) in
-    let line = symbols_text-is c.args.form file _ _ _ _ holds.same.limit c.symbols_of.ensures in
+    let line = symbols_text-is c.args.form file _ _ _ _ holds.same.limit c.symbols_of-symbols.ensures in
     let told = rw line at (c.in_ok-list_symbols.ensures.puts file (holds.spends.fetches.same_content ∙ content)) in
     ListsNext-symbols c.args.form c.args.pdb file c.args.lister.now.limit left x first _ _ _ c.in-Ok.ensures told
 
@@ -77,7 +77,7 @@ pub list_symbols-requires : goal.list_symbols-requires
 list_symbols-requires g c =
     let holds = c.next.follows.holds-at-none.list in
     let inside = symbols-inside c.args.pdb _ c.next.follows.lender-at-none.current c.in-Ok-Some.item (rw (c.in-Ok-Some.is, c.in-Ok-Some.field-0-is) at holds.places.classed) in
-    rw (c.symbols_of.ensures, holds.spends.fetches.same_size) inside
+    rw (c.symbols_of-symbols.ensures, holds.spends.fetches.same_size) inside
 
 pub returns-in-Err-clause-over : goal.returns-in-Err-clause-over
 returns-in-Err-clause-over g c =
@@ -167,12 +167,12 @@ returns-in-Err-clause-read g c = ReadsNext-none c.args.pdb _ _ c.next.follows.ho
 
 pub returns-in_err-list_symbols-clause-read : goal.returns-in_err-list_symbols-clause-read
 returns-in_err-list_symbols-clause-read g c =
-    ReadsNext-record c.args.pdb _ _ _ c.in-Ok-Some.item _ c.next.follows.holds-at-none.list.same c.symbols_of.ensures
+    ReadsNext-record c.args.pdb _ _ _ c.in-Ok-Some.item _ c.next.follows.holds-at-none.list.same c.symbols_of-symbols.ensures
     (λ left known. rw c.in-Ok-Some.field-0-is at (c.in-Ok-Some.ensures.gives left known)) c.in_err-list_symbols.ensures.read
 
 pub returns-clause-read : goal.returns-clause-read
 returns-clause-read g c =
-    ReadsNext-record c.args.pdb _ _ _ c.in-Ok-Some.item _ c.next.follows.holds-at-none.list.same c.symbols_of.ensures
+    ReadsNext-record c.args.pdb _ _ _ c.in-Ok-Some.item _ c.next.follows.holds-at-none.list.same c.symbols_of-symbols.ensures
     (λ left known. rw c.in-Ok-Some.field-0-is at (c.in-Ok-Some.ensures.gives left known)) c.in_ok-list_symbols.ensures.read
 
 pub returns-in-Ok-None-clause-names : goal.returns-in-Ok-None-clause-names
