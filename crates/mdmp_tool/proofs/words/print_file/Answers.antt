@@ -12,5 +12,5 @@ returns g c =
       opened = record { store = rw c.new.ensures.store c.in-Ok.ensures.opened; fetched = c.new.ensures.counts.0 };
       printed = printed_lent _ c.into_inner-out.result.ghost_name (g.O.Out.state c.args.out.now) (g.O.Out.state c.into_inner-out.result.now) _ _ _
           (ap (λ (b : BlockState). b.inner) c.over-blocks.ensures) c.into_inner-out.ensures (λ same. ap g.O.Out.state (search (same, rules)))
-          _ _ _ _ _ _ _ _ _ c.print_and_report-status.ensures;
+          _ _ (g.E.Engine.Ends c.args.engine) (g.E.Engine.text c.args.engine) _ _ _ _ _ c.print_and_report-status.ensures;
     })
