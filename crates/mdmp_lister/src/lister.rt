@@ -204,6 +204,17 @@ impl<S: Store + Drop, A: Allocator + Copy> Lister<S, A> {
         }
     }
 
+    /// [`next`](Lister::next) as a call: a loop over it exists once for each sink.
+    #[inline(never)]
+    fn call_next(&mut self) -> Result<Option<Item<'_>>, ListFault>
+        ensures gives { (left : _) → self.old.left ≡ Some left → Gives left result }
+        ensures* leaves { sem 𝓛 (Rests (the_row S.row A.row S.Store A.Allocator) self.entry (ListerLeaves self.old result)) }
+        ensures repeats { (stop : _) → self.old.stop ≡ Some stop → stop_after result ≡ Some stop }
+        ensures good { (file : List ℕ) → IsGood self.old.source.store file → IfErr result (λ fault. IsOfStore fault.kind → ⊥) }
+    {
+        self.next()
+    }
+
     /// How many records of the current entry are still to come, by the head of its stream: fewer come
     /// where a name has a fault. It is 0 before the first of them was given, since the head is not
     /// read before that, behind the last one, behind a fault and where the entry was skipped.
@@ -253,7 +264,7 @@ impl<S: Store + Drop, A: Allocator + Copy> Lister<S, A> {
         ensures refused { IfErr result (λ r. (fault : _) → r ≡ RunFault.At fault → IsRefusedIn fault self.new) }
     {
         loop {
-            match self.next() {
+            match self.call_next() {
                 Ok(Some(item)) => match sink.take(&item) {
                     Ok(()) => {}
                     Err(Stopped) => return Err(RunFault::Stopped),
