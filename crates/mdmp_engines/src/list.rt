@@ -227,11 +227,15 @@ pub(crate) struct ModuleSymbols {
 
 /// Where the CodeView record of an item stands that is told: a module's, if it lies inside the file
 /// and such are asked for.
+#[inline(always)]
 fn symbols_of(pdb: bool, item: &Item<'_>) -> Option<ModuleSymbols>
     ensures { result ≡ symbols_of pdb item.now }
 {
+    if !pdb {
+        return None;
+    }
     match item {
-        Item::Module(module) if pdb => match module.codeview {
+        Item::Module(module) => match module.codeview {
             Extent::Inside => Some(ModuleSymbols {
                 place: ModulePlace {
                     entry: module.entry,
