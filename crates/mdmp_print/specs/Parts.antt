@@ -1,8 +1,9 @@
 -- A text that is put into a buffer part by part.
-use Rattle.std.specs.Prelude.{◌≡◌, ℕ, List, ◌++◌}
+use Rattle.std.specs.Prelude.{◌≡◌, ◌≤◌, ◌+◌, ℕ, List, ◌++◌, Result, MatchResult, length}
 use Rattle.mdmp_source.specs.Output.{OutState, PutsAll}
 use Rattle.mdmp_print.specs.Blocks.{BlockState}
 use Rattle.mdmp_print.specs.Buffer.{IsPutBehind}
+use Rattle.mdmp_print.specs.declared.piece.TheConstants.{LINE_ROOM}
 
 -- of a text a first part, of at most `most` bytes, stands behind the first `len` bytes of a buffer, and the rest is left
 pub record IsPartPut (before : List ℕ) (len : ℕ) (text rest : List ℕ) (most : ℕ) (after : List ℕ) (end : ℕ) : Type 0 where
@@ -21,3 +22,8 @@ pub record IsPartAppended (before : BlockState) (text rest : List ℕ) (after : 
   pub part : List ℕ
   pub whole : text ≡ part ++ rest
   pub put : after ≡ record before { pending = before.pending ++ part }
+
+-- as long as the block has room for a line, a first part of a text goes into the block, and nothing is asked of the inner output;
+-- from the place that is told on the rest is left
+abbrev pub FillsPart : {E : Type 0} → BlockState → List ℕ → (ℕ → List ℕ) → Result ℕ E → BlockState → Type 0
+FillsPart old text rest_from result new = length old.pending + LINE_ROOM ≤ old.room → MatchResult result (λ next. IsPartAppended old text (rest_from next) new) (λ _. ⊥)

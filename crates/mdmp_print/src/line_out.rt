@@ -2,7 +2,7 @@
 ghost use Rattle.std.specs.Prelude.{◌≡◌, ◌≤◌, ◌<◌, ◌+◌, ◌-◌, ◌++◌, [], ◌↔◌, length, take, drop, nat_lt, IsOk, IfOk, MatchResult, is_err};
 ghost use Rattle.mdmp_print.specs.Blocks.{BlockState, FillsBlock, MovesFront, output_state};
 ghost use Rattle.mdmp_source.specs.Output.{Puts, PutsPrefix, refused_if};
-ghost use Rattle.mdmp_print.specs.Parts.{IsUnprinted, IsPartAppended};
+ghost use Rattle.mdmp_print.specs.Parts.{FillsPart, IsUnprinted, IsPartAppended};
 
 use crate::parts::Parts;
 use crate::piece::{LINE_ROOM, Piece};
@@ -114,8 +114,10 @@ impl<'b, O: Out> LineOut<'b, O> {
 }
 
 impl<'b, O: Out> Printer for LineOut<'b, O> {
+    ghost use Rattle.std.specs.Prelude.{◌≤◌, ◌<◌, IfOk, MatchResult};
     ghost use Rattle.mdmp_print.specs.Blocks.{FillsBlock, output_state};
-    ghost use Rattle.mdmp_source.specs.Output.{Puts};
+    ghost use Rattle.mdmp_print.specs.Parts.{FillsPart, IsUnprinted};
+    ghost use Rattle.mdmp_source.specs.Output.{Puts, PutsPrefix};
 
     ghost state = { output_state };
 
@@ -131,7 +133,15 @@ impl<'b, O: Out> Printer for LineOut<'b, O> {
         Ok(())
     }
 
-    fn print_part<T: Parts>(&mut self, text: &T, place: usize) -> Result<usize, OutFailed> {
+    fn print_part<T: Parts>(&mut self, text: &T, place: usize) -> Result<usize, OutFailed>
+        requires { place < T.places text.now }
+        ensures next { IfOk result (λ next. place < next × next ≤ T.places text.now) }
+        ensures puts { MatchResult result
+            (λ next. IsUnprinted (output_state self.old) (T.text_from text.now place) (T.text_from text.now next) (output_state self.new))
+            (λ _. PutsPrefix (output_state self.old) (T.text_from text.now place) (output_state self.new)) }
+        // What this output says beside any other.
+        ensures fills { FillsPart self.old (T.text_from text.now place) (T.text_from text.now) result self.new }
+    {
         match self.reserve() {
             Ok(()) => Ok(self.append_part(text, place)),
             Err(failed) => Err(failed),
