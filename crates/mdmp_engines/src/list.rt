@@ -201,7 +201,7 @@ pub fn list_next<S: Store + Drop, A: Allocator + Copy, O: Printer>(
     ensures read { ReadsNext pdb lister.old lister.new }
     ensures names { (left : Run) → lister.old.left ≡ Some left → NamesNext left result lister.old.counts.names lister.new.counts.names }
 {
-    let symbols = match lister.next() {
+    let symbols = match lister.next_inlined() {
         Ok(None) => return Ok(false),
         Ok(Some(item)) => {
             let symbols = symbols_of(pdb, &item);

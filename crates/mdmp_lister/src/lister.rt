@@ -187,8 +187,19 @@ impl<S: Store + Drop, A: Allocator + Copy> Lister<S, A> {
     /// The head and the records of a stream pass through the window: where it does not hold all of what
     /// comes next, it is filled with the bytes behind those that it holds, as far as it has room and the
     /// stream goes. The name of an item is fetched beside it, of one over the limit its length alone.
-    #[inline(always)]
+    #[inline(never)]
     pub fn next(&mut self) -> Result<Option<Item<'_>>, ListFault>
+        ensures gives { (left : _) → self.old.left ≡ Some left → Gives left result }
+        ensures* leaves { sem 𝓛 (Rests (the_row S.row A.row S.Store A.Allocator) self.entry (ListerLeaves self.old result)) }
+        ensures repeats { (stop : _) → self.old.stop ≡ Some stop → stop_after result ≡ Some stop }
+        ensures good { (file : List ℕ) → IsGood self.old.source.store file → IfErr result (λ fault. IsOfStore fault.kind → ⊥) }
+    {
+        self.next_inlined()
+    }
+
+    /// The same as [`next`](Lister::next), compiled into the caller's loop: for a loop that takes each item apart at once.
+    #[inline(always)]
+    pub fn next_inlined(&mut self) -> Result<Option<Item<'_>>, ListFault>
         ensures gives { (left : _) → self.old.left ≡ Some left → Gives left result }
         ensures* leaves { sem 𝓛 (Rests (the_row S.row A.row S.Store A.Allocator) self.entry (ListerLeaves self.old result)) }
         ensures repeats { (stop : _) → self.old.stop ≡ Some stop → stop_after result ≡ Some stop }
@@ -202,17 +213,6 @@ impl<S: Store + Drop, A: Allocator + Copy> Lister<S, A> {
             }
             Err(fault) => Err(fault),
         }
-    }
-
-    /// [`next`](Lister::next) as a call: a loop over it exists once for each sink.
-    #[inline(never)]
-    fn call_next(&mut self) -> Result<Option<Item<'_>>, ListFault>
-        ensures gives { (left : _) → self.old.left ≡ Some left → Gives left result }
-        ensures* leaves { sem 𝓛 (Rests (the_row S.row A.row S.Store A.Allocator) self.entry (ListerLeaves self.old result)) }
-        ensures repeats { (stop : _) → self.old.stop ≡ Some stop → stop_after result ≡ Some stop }
-        ensures good { (file : List ℕ) → IsGood self.old.source.store file → IfErr result (λ fault. IsOfStore fault.kind → ⊥) }
-    {
-        self.next()
     }
 
     /// How many records of the current entry are still to come, by the head of its stream: fewer come
@@ -264,7 +264,7 @@ impl<S: Store + Drop, A: Allocator + Copy> Lister<S, A> {
         ensures refused { IfErr result (λ r. (fault : _) → r ≡ RunFault.At fault → IsRefusedIn fault self.new) }
     {
         loop {
-            match self.call_next() {
+            match self.next() {
                 Ok(Some(item)) => match sink.take(&item) {
                     Ok(()) => {}
                     Err(Stopped) => return Err(RunFault::Stopped),

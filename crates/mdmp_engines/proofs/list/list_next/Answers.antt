@@ -23,7 +23,7 @@ returns-in-Err-print_item-clause-lists g c = λ file content left known.
 pub returns-in_err-list_symbols-clause-lists : goal.returns-in_err-list_symbols-clause-lists
 returns-in_err-list_symbols-clause-lists g c = λ file content left known.
     let x = c.in-Ok-Some.item in
-    let holds = c.next.follows.holds-at-none.list in
+    let holds = c.next_inlined.follows.holds-at-none.list in
     let f = c.in_err-list_symbols.field-0.0 in
     let is = refused_by c.from_residual.result f c.from_residual.ensures.1 in
     let first : slice_get left.items 0 ≡ Some (plain x) = rw c.in-Ok-Some.field-0-is at (c.in-Ok-Some.ensures.gives left known) in
@@ -37,7 +37,7 @@ returns-in_err-list_symbols-clause-lists g c = λ file content left known.
 
 pub returns-in_err-list_symbols-clause-leaves : goal.returns-in_err-list_symbols-clause-leaves
 returns-in_err-list_symbols-clause-leaves g c =
-    let holds = c.next.follows.holds-at-none.list in
+    let holds = c.next_inlined.follows.holds-at-none.list in
     let f = c.in_err-list_symbols.field-0.0 in
     let is = refused_by c.from_residual.result f c.from_residual.ensures.1 in
     rw is (Leaves-fault f _ _ _ _ (Leaves-later _ _ _ _ _ _ _ (Err f) holds.spends.fetches c.in-Ok.ensures.steady c.in_err-list_symbols.ensures.leaves))
@@ -45,7 +45,7 @@ returns-in_err-list_symbols-clause-leaves g c =
 pub returns-clause-lists : goal.returns-clause-lists
 returns-clause-lists g c = λ file content left known.
     let x = c.in-Ok-Some.item in
-    let holds = c.next.follows.holds-at-none.list in
+    let holds = c.next_inlined.follows.holds-at-none.list in
     let first : slice_get left.items 0 ≡ Some (plain x) = rw c.in-Ok-Some.field-0-is at (c.in-Ok-Some.ensures.gives left known) in
     let line = symbols_text-is c.args.form file _ _ _ _ holds.same.limit c.symbols_of-symbols.ensures in
     let told = rw line at (c.in_ok-list_symbols.ensures.puts file (holds.spends.fetches.same_content ∙ content)) in
@@ -53,7 +53,7 @@ returns-clause-lists g c = λ file content left known.
 
 pub returns-clause-leaves : goal.returns-clause-leaves
 returns-clause-leaves g c =
-    let holds = c.next.follows.holds-at-none.list in
+    let holds = c.next_inlined.follows.holds-at-none.list in
     let told = c.in_ok-list_symbols.ensures.leaves in
     record {
       good = λ file good. tt;
@@ -68,23 +68,23 @@ returns-in-Err-clause-lists g c = λ file content left known.
 
 pub returns-in-Err-clause-leaves : goal.returns-in-Err-clause-leaves
 returns-in-Err-clause-leaves g c =
-    let holds = c.next.follows.holds-at-none in
-    let fits = next_fits c.args.lister.now c.in-Err.fault c.next.follows.lender-at-none (rw c.in-Err.is at (holds.follows c.requires)) in
+    let holds = c.next_inlined.follows.holds-at-none in
+    let fits = next_fits c.args.lister.now c.in-Err.fault c.next_inlined.follows.lender-at-none (rw c.in-Err.is at (holds.follows c.requires)) in
     rw c.told_list.ensures
     (Leaves-listed up_to_a_fault ⊥ c.args.lister.now.current c.in-Err.fault _ _ _ (record { count = _; fetches = holds.list.spends.fetches }) (rw c.in-Err.is at (holds.list.told c.requires)) c.in-Err.ensures.good fits tt tt)
 
 pub list_symbols-requires : goal.list_symbols-requires
 list_symbols-requires g c =
-    let holds = c.next.follows.holds-at-none.list in
-    let inside = symbols-inside c.args.pdb _ c.next.follows.lender-at-none.current c.in-Ok-Some.item (rw (c.in-Ok-Some.is, c.in-Ok-Some.field-0-is) at holds.places.classed) in
+    let holds = c.next_inlined.follows.holds-at-none.list in
+    let inside = symbols-inside c.args.pdb _ c.next_inlined.follows.lender-at-none.current c.in-Ok-Some.item (rw (c.in-Ok-Some.is, c.in-Ok-Some.field-0-is) at holds.places.classed) in
     rw (c.symbols_of-symbols.ensures, holds.spends.fetches.same_size) inside
 
 pub returns-in-Err-clause-over : goal.returns-in-Err-clause-over
 returns-in-Err-clause-over g c =
-    let list = (rw c.in-Err.is at c.next.follows.holds-at-none).list in
+    let list = (rw c.in-Err.is at c.next_inlined.follows.holds-at-none).list in
     let fetches = list.spends.fetches in
     let f = c.in-Err.fault in
-    let new = c.next.follows.lender-at-none in
+    let new = c.next_inlined.follows.lender-at-none in
     rw c.told_list.ensures (over_listing Bool f new list.spends.refused (run_fetch c.args.lister.now new f list.same fetches.same_content fetches.same_size list.places.current (list.next c.requires)))
 
 pub returns-in-Ok-None-clause-lists : goal.returns-in-Ok-None-clause-lists
@@ -94,19 +94,19 @@ pub returns-in-Ok-None-clause-rest : goal.returns-in-Ok-None-clause-rest
 returns-in-Ok-None-clause-rest g c = end-more _ refl
 
 pub returns-in-Ok-None-clause-leaves : goal.returns-in-Ok-None-clause-leaves
-returns-in-Ok-None-clause-leaves g c = Leaves-done _ _ _ _ _ false c.next.follows.holds-at-none.list.spends.fetches refl
+returns-in-Ok-None-clause-leaves g c = Leaves-done _ _ _ _ _ false c.next_inlined.follows.holds-at-none.list.spends.fetches refl
 
 pub returns-in-Ok-None-clause-same : goal.returns-in-Ok-None-clause-same
-returns-in-Ok-None-clause-same g c = run_list _ _ _ (run_none _) c.next.follows.holds-at-none.list.same
+returns-in-Ok-None-clause-same g c = run_list _ _ _ (run_none _) c.next_inlined.follows.holds-at-none.list.same
 
 pub returns-in-Err-print_item-clause-rest : goal.returns-in-Err-print_item-clause-rest
 returns-in-Err-print_item-clause-rest g c = fault-more _
 
 pub returns-in-Err-print_item-clause-leaves : goal.returns-in-Err-print_item-clause-leaves
-returns-in-Err-print_item-clause-leaves g c = Leaves-cut _ _ _ _ _ c.next.follows.holds-at-none.list.spends.fetches c.in-Err-print_item.ensures.refused
+returns-in-Err-print_item-clause-leaves g c = Leaves-cut _ _ _ _ _ c.next_inlined.follows.holds-at-none.list.spends.fetches c.in-Err-print_item.ensures.refused
 
 pub returns-in-Err-print_item-clause-same : goal.returns-in-Err-print_item-clause-same
-returns-in-Err-print_item-clause-same g c = run_list _ _ _ (run_none _) c.next.follows.holds-at-none.list.same
+returns-in-Err-print_item-clause-same g c = run_list _ _ _ (run_none _) c.next_inlined.follows.holds-at-none.list.same
 
 pub returns-in_err-list_symbols-clause-rest : goal.returns-in_err-list_symbols-clause-rest
 returns-in_err-list_symbols-clause-rest g c =
@@ -115,7 +115,7 @@ returns-in_err-list_symbols-clause-rest g c =
     rw is (fault-more f)
 
 pub returns-in_err-list_symbols-clause-same : goal.returns-in_err-list_symbols-clause-same
-returns-in_err-list_symbols-clause-same g c = run_then _ _ _ (run_list _ _ _ (run_none _) c.next.follows.holds-at-none.list.same) c.in_err-list_symbols.ensures.same
+returns-in_err-list_symbols-clause-same g c = run_then _ _ _ (run_list _ _ _ (run_none _) c.next_inlined.follows.holds-at-none.list.same) c.in_err-list_symbols.ensures.same
 
 pub returns-in_err-list_symbols-clause-over : goal.returns-in_err-list_symbols-clause-over
 returns-in_err-list_symbols-clause-over g c =
@@ -125,64 +125,64 @@ returns-in_err-list_symbols-clause-over g c =
 
 pub returns-clause-rest : goal.returns-clause-rest
 returns-clause-rest g c = λ more.
-    IsBehindNext-aside _ _ _ c.in-Ok-Some.item (rw (c.in-Ok-Some.is, c.in-Ok-Some.field-0-is) at c.next.follows.holds-at-none.list.stands) c.in_ok-list_symbols.ensures.stays
+    IsBehindNext-aside _ _ _ c.in-Ok-Some.item (rw (c.in-Ok-Some.is, c.in-Ok-Some.field-0-is) at c.next_inlined.follows.holds-at-none.list.stands) c.in_ok-list_symbols.ensures.stays
 
 pub returns-clause-same : goal.returns-clause-same
-returns-clause-same g c = run_then _ _ _ (run_list _ _ _ (run_none _) c.next.follows.holds-at-none.list.same) c.in_ok-list_symbols.ensures.same
+returns-clause-same g c = run_then _ _ _ (run_list _ _ _ (run_none _) c.next_inlined.follows.holds-at-none.list.same) c.in_ok-list_symbols.ensures.same
 
 pub returns-in-Err-clause-rest : goal.returns-in-Err-clause-rest
 returns-in-Err-clause-rest g c = fault-more _
 
 pub returns-in-Err-clause-same : goal.returns-in-Err-clause-same
-returns-in-Err-clause-same g c = run_list _ _ _ (run_none _) c.next.follows.holds-at-none.list.same
+returns-in-Err-clause-same g c = run_list _ _ _ (run_none _) c.next_inlined.follows.holds-at-none.list.same
 
 pub returns-in-Ok-None-clause-aside : goal.returns-in-Ok-None-clause-aside
-returns-in-Ok-None-clause-aside g c = λ kept. record { kept = aside_same c.args.aside _ _ c.next.follows.holds-at-none.list.same kept; over = tt }
+returns-in-Ok-None-clause-aside g c = λ kept. record { kept = aside_same c.args.aside _ _ c.next_inlined.follows.holds-at-none.list.same kept; over = tt }
 
 pub returns-in-Err-print_item-clause-aside : goal.returns-in-Err-print_item-clause-aside
-returns-in-Err-print_item-clause-aside g c = λ kept. record { kept = aside_same c.args.aside _ _ c.next.follows.holds-at-none.list.same kept; over = tt }
+returns-in-Err-print_item-clause-aside g c = λ kept. record { kept = aside_same c.args.aside _ _ c.next_inlined.follows.holds-at-none.list.same kept; over = tt }
 
 pub returns-in_err-list_symbols-clause-aside : goal.returns-in_err-list_symbols-clause-aside
 returns-in_err-list_symbols-clause-aside g c = λ kept.
     let f = c.in_err-list_symbols.field-0.0 in
     let is = refused_by c.from_residual.result f c.from_residual.ensures.1 in
-    rw is (aside_fault (Unit {0}) Bool c.args.aside f _ (c.in_err-list_symbols.ensures.aside (aside_same c.args.aside _ _ c.next.follows.holds-at-none.list.same kept)))
+    rw is (aside_fault (Unit {0}) Bool c.args.aside f _ (c.in_err-list_symbols.ensures.aside (aside_same c.args.aside _ _ c.next_inlined.follows.holds-at-none.list.same kept)))
 
 pub returns-clause-aside : goal.returns-clause-aside
 returns-clause-aside g c = λ kept.
-    record { kept = (c.in_ok-list_symbols.ensures.aside (aside_same c.args.aside _ _ c.next.follows.holds-at-none.list.same kept)).kept; over = tt }
+    record { kept = (c.in_ok-list_symbols.ensures.aside (aside_same c.args.aside _ _ c.next_inlined.follows.holds-at-none.list.same kept)).kept; over = tt }
 
 pub returns-in-Err-clause-aside : goal.returns-in-Err-clause-aside
 returns-in-Err-clause-aside g c = λ kept.
-    rw c.told_list.ensures (aside_listing Bool c.args.aside c.in-Err.fault _ (aside_same c.args.aside _ _ c.next.follows.holds-at-none.list.same kept))
+    rw c.told_list.ensures (aside_listing Bool c.args.aside c.in-Err.fault _ (aside_same c.args.aside _ _ c.next_inlined.follows.holds-at-none.list.same kept))
 
 pub returns-in-Ok-None-clause-read : goal.returns-in-Ok-None-clause-read
-returns-in-Ok-None-clause-read g c = ReadsNext-none c.args.pdb _ _ c.next.follows.holds-at-none.list.same.aside
+returns-in-Ok-None-clause-read g c = ReadsNext-none c.args.pdb _ _ c.next_inlined.follows.holds-at-none.list.same.aside
 
 pub returns-in-Err-print_item-clause-read : goal.returns-in-Err-print_item-clause-read
-returns-in-Err-print_item-clause-read g c = ReadsNext-none c.args.pdb _ _ c.next.follows.holds-at-none.list.same.aside
+returns-in-Err-print_item-clause-read g c = ReadsNext-none c.args.pdb _ _ c.next_inlined.follows.holds-at-none.list.same.aside
 
 pub returns-in-Err-clause-read : goal.returns-in-Err-clause-read
-returns-in-Err-clause-read g c = ReadsNext-none c.args.pdb _ _ c.next.follows.holds-at-none.list.same.aside
+returns-in-Err-clause-read g c = ReadsNext-none c.args.pdb _ _ c.next_inlined.follows.holds-at-none.list.same.aside
 
 pub returns-in_err-list_symbols-clause-read : goal.returns-in_err-list_symbols-clause-read
 returns-in_err-list_symbols-clause-read g c =
-    ReadsNext-record c.args.pdb _ _ _ c.in-Ok-Some.item _ c.next.follows.holds-at-none.list.same c.symbols_of-symbols.ensures
+    ReadsNext-record c.args.pdb _ _ _ c.in-Ok-Some.item _ c.next_inlined.follows.holds-at-none.list.same c.symbols_of-symbols.ensures
     (λ left known. rw c.in-Ok-Some.field-0-is at (c.in-Ok-Some.ensures.gives left known)) c.in_err-list_symbols.ensures.read
 
 pub returns-clause-read : goal.returns-clause-read
 returns-clause-read g c =
-    ReadsNext-record c.args.pdb _ _ _ c.in-Ok-Some.item _ c.next.follows.holds-at-none.list.same c.symbols_of-symbols.ensures
+    ReadsNext-record c.args.pdb _ _ _ c.in-Ok-Some.item _ c.next_inlined.follows.holds-at-none.list.same c.symbols_of-symbols.ensures
     (λ left known. rw c.in-Ok-Some.field-0-is at (c.in-Ok-Some.ensures.gives left known)) c.in_ok-list_symbols.ensures.read
 
 pub returns-in-Ok-None-clause-names : goal.returns-in-Ok-None-clause-names
 returns-in-Ok-None-clause-names g c = λ left known.
-    let holds = c.next.follows.holds-at-none in
+    let holds = c.next_inlined.follows.holds-at-none in
     names_none left _ _ (rw c.in-Ok-None.field-0-is at (c.in-Ok-None.ensures.gives left known)) holds.few_names (rw (c.in-Ok-None.is, c.in-Ok-None.field-0-is) at holds.list.spends.names)
 
 pub returns-in-Err-print_item-clause-names : goal.returns-in-Err-print_item-clause-names
 returns-in-Err-print_item-clause-names g c = λ left known.
-    let holds = c.next.follows.holds-at-none in
+    let holds = c.next_inlined.follows.holds-at-none in
     let x = c.in-Ok-Some.item in
     let first : slice_get left.items 0 ≡ Some (plain x) = rw c.in-Ok-Some.field-0-is at (c.in-Ok-Some.ensures.gives left known) in
     let now = names_next left x _ _ first holds.few_names (rw (c.in-Ok-Some.is, c.in-Ok-Some.field-0-is) at holds.list.spends.names) in
@@ -190,7 +190,7 @@ returns-in-Err-print_item-clause-names g c = λ left known.
 
 pub returns-in_err-list_symbols-clause-names : goal.returns-in_err-list_symbols-clause-names
 returns-in_err-list_symbols-clause-names g c = λ left known.
-    let holds = c.next.follows.holds-at-none in
+    let holds = c.next_inlined.follows.holds-at-none in
     let f = c.in_err-list_symbols.field-0.0 in
     let is = refused_by c.from_residual.result f c.from_residual.ensures.1 in
     let x = c.in-Ok-Some.item in
@@ -201,12 +201,12 @@ returns-in_err-list_symbols-clause-names g c = λ left known.
 
 pub returns-clause-names : goal.returns-clause-names
 returns-clause-names g c = λ left known.
-    let holds = c.next.follows.holds-at-none in
+    let holds = c.next_inlined.follows.holds-at-none in
     let x = c.in-Ok-Some.item in
     let first : slice_get left.items 0 ≡ Some (plain x) = rw c.in-Ok-Some.field-0-is at (c.in-Ok-Some.ensures.gives left known) in
     c.in_ok-list_symbols.ensures.names ∙ names_next left x _ _ first holds.few_names (rw (c.in-Ok-Some.is, c.in-Ok-Some.field-0-is) at holds.list.spends.names)
 
 pub returns-in-Err-clause-names : goal.returns-in-Err-clause-names
 returns-in-Err-clause-names g c = λ left known.
-    let spends = c.next.follows.holds-at-none.list.spends in
+    let spends = c.next_inlined.follows.holds-at-none.list.spends in
     names_fault left c.in-Err.fault.kind _ _ (rw c.in-Err.is at (spends.names_at_fault c.requires)).1

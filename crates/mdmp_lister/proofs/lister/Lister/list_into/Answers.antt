@@ -38,18 +38,18 @@ loop-item-init g c = record {
 }
 
 pub returns-in-Ok-None-clause-same : goal.returns-in-Ok-None-clause-same
-returns-in-Ok-None-clause-same g c = same_lister-then _ _ _ c.loop-item.invariant.same c.call_next.follows.holds-at-none.list.same
+returns-in-Ok-None-clause-same g c = same_lister-then _ _ _ c.loop-item.invariant.same c.next.follows.holds-at-none.list.same
 
 pub returns-in-Err-clause-same : goal.returns-in-Err-clause-same
-returns-in-Err-clause-same g c = same_lister-then _ _ _ c.loop-item.invariant.same c.call_next.follows.holds-at-none.list.same
+returns-in-Err-clause-same g c = same_lister-then _ _ _ c.loop-item.invariant.same c.next.follows.holds-at-none.list.same
 
 pub returns-in-Err-take-clause-same : goal.returns-in-Err-take-clause-same
-returns-in-Err-take-clause-same g c = same_lister-then _ _ _ c.loop-item.invariant.same c.call_next.follows.holds-at-none.list.same
+returns-in-Err-take-clause-same g c = same_lister-then _ _ _ c.loop-item.invariant.same c.next.follows.holds-at-none.list.same
 
 pub returns-in-Err-take-clause-runs : goal.returns-in-Err-take-clause-runs
 returns-in-Err-take-clause-runs g c =
     let run = c.loop-item.invariant.given in
-    let leaves = c.call_next.follows.holds-at-none in
+    let leaves = c.next.follows.holds-at-none in
     let holds = leaves.list in
     let x = c.in-Ok-Some.item in
     let now = rw (c.in-Ok-Some.is, c.in-Ok-Some.field-0-is) at holds.places.current in
@@ -60,7 +60,7 @@ returns-in-Err-take-clause-runs g c =
       handed = TakenToStop-end g.K.Sink.step (plain x) run.items c.args.sink.now c.loop-item.sink c.take.new.self run.taken c.in-Err-take.ensures;
       passed = passed_behind-more run.items (plain x) _ _ _ run.passed (rw (c.in-Ok-Some.is, c.in-Ok-Some.field-0-is) at holds.places.passed ∙ sym (passed_after-plain x _));
       current = current_behind-more run.items (plain x) _ _ _ run.current (now ∙ sym (current_after-plain x _));
-      classed = AllClassed-more _ run.items x _ _ c.call_next.follows.lender-at-none.current run.classed run.current now
+      classed = AllClassed-more _ run.items x _ _ c.next.follows.lender-at-none.current run.classed run.current now
           (rw (run.cost.fetches.same_size, c.in-Ok-Some.is, c.in-Ok-Some.field-0-is) at holds.places.classed);
       ranges = ranges_of-more _ _ _ run.items x run.ranges (rw (c.in-Ok-Some.is, c.in-Ok-Some.field-0-is) at leaves.ranges);
       left = λ run_left known.
@@ -85,7 +85,7 @@ pub loop-item-preserved : goal.loop-item-preserved
 loop-item-preserved g c =
     let so_far = c.loop-item.invariant in
     let run = so_far.given in
-    let leaves = c.call_next.follows.holds-at-none in
+    let leaves = c.next.follows.holds-at-none in
     let holds = leaves.list in
     let x = c.in-Ok-Some.item in
     let now = rw (c.in-Ok-Some.is, c.in-Ok-Some.field-0-is) at holds.places.current in
@@ -102,7 +102,7 @@ loop-item-preserved g c =
         taken = Taken-more g.K.Sink.step (plain x) run.items c.args.sink.now c.loop-item.sink c.take.new.self run.taken c.in-Ok.ensures;
         passed = passed_behind-more run.items (plain x) _ _ _ run.passed (rw (c.in-Ok-Some.is, c.in-Ok-Some.field-0-is) at holds.places.passed ∙ sym (passed_after-plain x _));
         current = current_behind-more run.items (plain x) _ _ _ run.current (now ∙ sym (current_after-plain x _));
-        classed = AllClassed-more _ run.items x _ _ c.call_next.follows.lender-at-none.current run.classed run.current now
+        classed = AllClassed-more _ run.items x _ _ c.next.follows.lender-at-none.current run.classed run.current now
             (rw (run.cost.fetches.same_size, c.in-Ok-Some.is, c.in-Ok-Some.field-0-is) at holds.places.classed);
         ranges = ranges_of-more _ _ _ run.items x run.ranges (rw (c.in-Ok-Some.is, c.in-Ok-Some.field-0-is) at leaves.ranges);
         left = λ run_left known.
@@ -122,7 +122,7 @@ pub returns-in-Err-clause-runs : goal.returns-in-Err-clause-runs
 returns-in-Err-clause-runs g c =
     let so_far = c.loop-item.invariant in
     let run = so_far.given in
-    let leaves = c.call_next.follows.holds-at-none in
+    let leaves = c.next.follows.holds-at-none in
     let holds = leaves.list in
     let f = c.in-Err.fault in
     let none = rw c.in-Err.is at holds.spends.unread in
@@ -151,7 +151,7 @@ returns-in-Err-clause-runs g c =
 pub returns-in-Ok-None-clause-runs : goal.returns-in-Ok-None-clause-runs
 returns-in-Ok-None-clause-runs g c =
     let run = c.loop-item.invariant.given in
-    let leaves = c.call_next.follows.holds-at-none in
+    let leaves = c.next.follows.holds-at-none in
     let holds = leaves.list in
     let none = rw (c.in-Ok-None.is, c.in-Ok-None.field-0-is) at holds.spends.unread in
     record {
@@ -183,4 +183,4 @@ returns-in-Err-clause-good g c = λ file good fault is of.
     c.in-Err.ensures.good file now (subst (λ (f : ListFault). IsOfStore f.kind) (sym same) of)
 
 pub returns-in-Err-take-clause-stop : goal.returns-in-Err-take-clause-stop
-returns-in-Err-take-clause-stop g c = rw (c.in-Ok-Some.is, c.in-Ok-Some.field-0-is) at c.call_next.follows.holds-at-none.list.stands.stop
+returns-in-Err-take-clause-stop g c = rw (c.in-Ok-Some.is, c.in-Ok-Some.field-0-is) at c.next.follows.holds-at-none.list.stands.stop

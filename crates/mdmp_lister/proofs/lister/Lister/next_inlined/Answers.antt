@@ -7,7 +7,7 @@ use Rattle.mdmp_lister.proofs.HeldSteps.{item_told, ranges_told-few, ranges_told
 use Rattle.mdmp_lister.proofs.Leaving.{follows_fault, follows_item, follows_none, gives_fault, gives_item, gives_none, leaves_fault, leaves_item, leaves_none}
 use Rattle.mdmp_lister.proofs.Mapping.{kept, mapped, ranges-given, ranges_of-within, same_file}
 use Rattle.mdmp_lister.proofs.Paying.{bounded_then, few_names}
-use Rattle.mdmp_lister.proofs.lister.Lister.next.Goals as goal
+use Rattle.mdmp_lister.proofs.lister.Lister.next_inlined.Goals as goal
 
 pub returns-in-Ok-None : goal.returns-in-Ok-None
 returns-in-Ok-None g c =
