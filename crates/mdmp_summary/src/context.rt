@@ -12,7 +12,7 @@ pub struct Registers {
     pub instruction: u64,
     /// The stack pointer: `Esp`, `Rsp`, `Sp`.
     pub stack: u64,
-    /// The frame pointer: `Ebp`, `Rbp`, `R11` of ARM, `Fp` of ARM64.
+    /// The frame pointer: `Ebp`, `Rbp`, `Fp` of ARM64. On ARM it is the register `r11`.
     pub frame: u64,
 }
 
