@@ -1,13 +1,19 @@
 -- Why there may be no summary.
-use Rattle.std.specs.Prelude.{ℕ, List}
-use Rattle.mdmp_source.specs.Source.{IsTold}
+use Rattle.std.specs.Prelude.{◌≡◌, ℕ, List, Result, Err, IfErr}
+use Rattle.mdmp_source.specs.Source.{IsTold, SourceState}
+use Rattle.mdmp_lister.specs.declared.choice.Choice.TheVariants.{All}
+use Rattle.mdmp_lister.specs.declared.fault.OpenFault.{OpenFault}
 use Rattle.mdmp_lister.specs.declared.fault.OpenFault.TheVariants as opening
 use Rattle.mdmp_lister.specs.declared.limits.Limits.{Limits}
 use Rattle.mdmp_lister.specs.Fault.{IsOfStore, IsUnobtained}
 use Rattle.mdmp_lister.specs.Lister.{ListerState}
 use Rattle.mdmp_lister.specs.Memory.{IsWalkRefusal}
 use Rattle.mdmp_lister.specs.Opening.{IsUnread}
-use Rattle.mdmp_summary.specs.Walking.{IsPassFault}
+use Rattle.mdmp_lister.specs.Refused.{IsRefusedWalker}
+use Rattle.mdmp_lister.specs.Walker.{IsNewWalker, WalkerState}
+use Rattle.mdmp_summary.specs.Spending.{SpendsPasses}
+use Rattle.mdmp_summary.specs.Walking.{IsPassFault, IsSameListing}
+use Rattle.mdmp_summary.specs.declared.summary.FileSummary.{FileSummary}
 use Rattle.mdmp_summary.specs.declared.summary.SummaryFault.{SummaryFault}
 use Rattle.mdmp_summary.specs.declared.summary.SummaryFault.TheVariants as faults
 
@@ -37,3 +43,10 @@ abbrev pub IsUnreadIn : SummaryFault → Type 0
 IsUnreadIn (faults.Opening fault) = IsUnread fault
 IsUnreadIn (faults.List fault) = IsOfStore fault.kind
 IsUnreadIn (faults.Source fault) = Unit {0}
+
+-- how a source was read that is dropped: its opening was refused, and says why; or a walker that was just opened made both
+-- passes, and read no more than these, with an error that has its cause and its place in them
+pub data IsSummarizedThrough (limits : Limits) (source : SourceState) (result : Result FileSummary SummaryFault) : Type 0 where
+  refused : (fault : OpenFault) (new : SourceState) → result ≡ Err (faults.Opening fault) → IsRefusedWalker limits source fault new → IsSummarizedThrough limits source result
+  passed : (old new : WalkerState) → IsNewWalker source All limits old → SpendsPasses 2 1 old new → IsSameListing old.list new.list
+      → IfErr result (IsCallFault old.list new.list) → IsSummarizedThrough limits source result

@@ -8,7 +8,7 @@ ghost use Rattle.mdmp_lister.specs.declared.choice.Choice.TheVariants.{All};
 ghost use Rattle.mdmp_summary.specs.Spending.{SpendsPasses};
 ghost use Rattle.mdmp_summary.specs.BadEntries.{all_items};
 ghost use Rattle.mdmp_summary.specs.Summary.{address_ran, crash_told, near_of, place_in_module, platform_in, file_summary};
-ghost use Rattle.mdmp_summary.specs.Summing.{IsCallFault, IsFileFault, IsSummaryFault, IsUnreadIn};
+ghost use Rattle.mdmp_summary.specs.Summing.{IsCallFault, IsFileFault, IsSummarizedThrough, IsSummaryFault, IsUnreadIn};
 ghost use Rattle.mdmp_summary.specs.Walking.{IsSameListing};
 
 use crate::context::Registers;
@@ -149,6 +149,7 @@ pub fn summarize<S: Store + Drop, A: Allocator + Copy>(
         → MatchResult result (λ summary. (walk_fault limits file ≡ None) × (summary ≡ file_summary file limits.name)) (IsSummaryFault limits file) }
     // If each read succeeds and there is no read limit, only the file itself or too little memory is an error.
     ensures succeeds { (file : List ℕ) → IsGood source.store file → limits.budget ≡ None → IfErr result (IsFileFault limits file) }
+    ensures through { IsSummarizedThrough limits source result }
 {
     match Walker::open(alloc, source, limits, Choice::All) {
         Ok(mut walker) => summarize_listing(&mut walker),

@@ -1,6 +1,7 @@
-use Rattle.std.proofs.Common.{◌≡◌, None, ap, ◌∙◌}
+use Rattle.std.proofs.Common.{◌≡◌, None, ap, ◌∙◌, refl}
 use Rattle.mdmp_lister.specs.Memory.{walk_fault}
 use Rattle.mdmp_summary.specs.Summary.{file_summary}
+use Rattle.mdmp_summary.specs.Summing.{IsSummarizedThrough}
 use Rattle.mdmp_summary.proofs.Told.{good_still, opened_good, told_good, told_known}
 use Rattle.mdmp_summary.proofs.summing.summarize.Goals as goal
 
@@ -22,3 +23,11 @@ pub returns-in-Err-clause-succeeds : goal.returns-in-Err-clause-succeeds
 returns-in-Err-clause-succeeds g c = λ file good none.
     let fetches = c.in-Err.ensures.refused.fetches in
     opened_good c.args.limits file c.args.source fetches.kept.fetched c.in-Err.refused.fault none (c.in-Err.ensures.within file good.known) (fetches.good file good) fetches.kept.over
+
+pub returns-in-Ok-clause-through : goal.returns-in-Ok-clause-through
+returns-in-Ok-clause-through g c =
+    let sums = c.summarize_listing.ensures in
+    IsSummarizedThrough.passed c.in-Ok.walker c.summarize_listing.new.walker c.in-Ok.ensures.new sums.spends sums.same sums.fault
+
+pub returns-in-Err-clause-through : goal.returns-in-Err-clause-through
+returns-in-Err-clause-through g c = IsSummarizedThrough.refused c.in-Err.refused.fault c.in-Err.refused.source refl c.in-Err.ensures.refused
