@@ -35,7 +35,7 @@ fn count(calls: &FileCalls, fail_at: u64) -> io::Result<()> {
     Ok(())
 }
 
-/// The files of a runtime, of which a call fails. What opens, asks for the size, seeks, reads and writes is
+/// The files of a runtime, of which a call fails. What looks up, opens, asks for the size, seeks, reads and writes is
 /// counted, from 0 on.
 #[derive(Drop)]
 pub struct FailingSystem<'r, 'a, R> {
@@ -81,6 +81,7 @@ impl<'a, R: Files> Files for FailingSystem<'_, 'a, R> {
     }
 
     fn metadata(&self, path: &str) -> io::Result<Metadata> {
+        count(self.calls, self.fail_at)?;
         self.rt.metadata(path)
     }
 

@@ -90,17 +90,17 @@ fn assert_calls<R: Files + AllocGlobal + Abort>(
 /// Where no block holds two parts, the header is sought and read, the directory, the system, and the length of its
 /// name, whose text stands in one block with that.
 const SPREAD_LISTED: [FailingCalls<'static>; 5] = [
-    (2, "mdmp: cannot open spread.dmp\n"),
-    (4, "mdmp: store failed at 0\n"),
-    (6, "mdmp: store failed at 20000\n"),
-    (8, "mdmp: store failed at 40000\n"),
-    (10, "mdmp: store failed at 60000\n"),
+    (3, "mdmp: cannot open spread.dmp\n"),
+    (5, "mdmp: store failed at 0\n"),
+    (7, "mdmp: store failed at 20000\n"),
+    (9, "mdmp: store failed at 40000\n"),
+    (11, "mdmp: store failed at 60000\n"),
 ];
 
-/// A small file is opened, asked for its size, and read into a block.
+/// A small file is looked up, opened, asked for its size, and read into a block.
 const SMALL: [FailingCalls<'static>; 2] = [
-    (2, "mdmp: cannot open system.dmp\n"),
-    (4, "mdmp: store failed at 0\n"),
+    (3, "mdmp: cannot open system.dmp\n"),
+    (5, "mdmp: store failed at 0\n"),
 ];
 
 const PRINTS: [SystemCallsRow<'static>; 9] = [
@@ -112,8 +112,8 @@ const PRINTS: [SystemCallsRow<'static>; 9] = [
         WIDE_TEXT,
         None,
         &[
-            (2, "mdmp: cannot open wide.dmp\n"),
-            (4, "mdmp: store failed at 0\n"),
+            (3, "mdmp: cannot open wide.dmp\n"),
+            (5, "mdmp: store failed at 0\n"),
         ],
     ),
     (&["list", "spread.dmp"], SPREAD_TEXT, None, &SPREAD_LISTED),
@@ -135,11 +135,11 @@ const PRINTS: [SystemCallsRow<'static>; 9] = [
         SPREAD_TEXT,
         None,
         &[
-            (2, "mdmp: cannot open name.dmp\n"),
-            (4, "mdmp: store failed at 0\n"),
-            (6, "mdmp: store failed at 20000\n"),
-            (8, "mdmp: store failed at 40000\n"),
-            (9, "mdmp: store failed at 40512\n"),
+            (3, "mdmp: cannot open name.dmp\n"),
+            (5, "mdmp: store failed at 0\n"),
+            (7, "mdmp: store failed at 20000\n"),
+            (9, "mdmp: store failed at 40000\n"),
+            (10, "mdmp: store failed at 40512\n"),
         ],
     ),
     // Behind the heads of the lists they are sought again, and then the memory.
@@ -148,14 +148,14 @@ const PRINTS: [SystemCallsRow<'static>; 9] = [
         WIDE_TEXT,
         None,
         &[
-            (2, "mdmp: cannot open memory.dmp\n"),
-            (4, "mdmp: store failed at 0\n"),
-            (6, "mdmp: store failed at 20000\n"),
-            (8, "mdmp: store failed at 40000\n"),
-            (10, "mdmp: store failed at 60000\n"),
-            (12, "mdmp: store failed at 40000\n"),
-            (14, "mdmp: store failed at 60000\n"),
-            (16, "mdmp: store failed at 100000\n"),
+            (3, "mdmp: cannot open memory.dmp\n"),
+            (5, "mdmp: store failed at 0\n"),
+            (7, "mdmp: store failed at 20000\n"),
+            (9, "mdmp: store failed at 40000\n"),
+            (11, "mdmp: store failed at 60000\n"),
+            (13, "mdmp: store failed at 40000\n"),
+            (15, "mdmp: store failed at 60000\n"),
+            (17, "mdmp: store failed at 100000\n"),
         ],
     ),
 ];
@@ -169,17 +169,17 @@ fn each_call_behind_a_print_may_fail(rt: HostRuntime) {
     assert_calls(&rt, rt.alloc(), &PRINTS);
 }
 
-/// What is copied is opened and asked for its size, and the copy made.
+/// What is copied is looked up, opened and asked for its size, and the copy made.
 const COPIES: [SystemCallsRow<'static>; 2] = [
     (
         &["copy", "system.dmp", "copy.dmp", "7"],
         "",
         Some(&SYSTEM),
         &[
-            (2, "mdmp: cannot open system.dmp\n"),
-            (3, "mdmp: cannot create copy.dmp\n"),
-            (5, "mdmp: store failed at 0\n"),
-            (6, "mdmp: output failed\n"),
+            (3, "mdmp: cannot open system.dmp\n"),
+            (4, "mdmp: cannot create copy.dmp\n"),
+            (6, "mdmp: store failed at 0\n"),
+            (7, "mdmp: output failed\n"),
         ],
     ),
     (
@@ -187,17 +187,17 @@ const COPIES: [SystemCallsRow<'static>; 2] = [
         "",
         Some(&SYSTEM),
         &[
-            (2, "mdmp: cannot open spread.dmp\n"),
-            (3, "mdmp: cannot create copy.dmp\n"),
-            (5, "mdmp: store failed at 0\n"),
-            (7, "mdmp: store failed at 20000\n"),
-            (9, "mdmp: store failed at 40000\n"),
-            (11, "mdmp: store failed at 60000\n"),
-            (13, "mdmp: store failed at 40000\n"),
-            (15, "mdmp: store failed at 60000\n"),
-            (17, "mdmp: store failed at 40000\n"),
-            (19, "mdmp: store failed at 60000\n"),
-            (20, "mdmp: output failed\n"),
+            (3, "mdmp: cannot open spread.dmp\n"),
+            (4, "mdmp: cannot create copy.dmp\n"),
+            (6, "mdmp: store failed at 0\n"),
+            (8, "mdmp: store failed at 20000\n"),
+            (10, "mdmp: store failed at 40000\n"),
+            (12, "mdmp: store failed at 60000\n"),
+            (14, "mdmp: store failed at 40000\n"),
+            (16, "mdmp: store failed at 60000\n"),
+            (18, "mdmp: store failed at 40000\n"),
+            (20, "mdmp: store failed at 60000\n"),
+            (21, "mdmp: output failed\n"),
         ],
     ),
 ];

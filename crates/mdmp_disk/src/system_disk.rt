@@ -1,9 +1,13 @@
 //! The disk of the system.
+ghost use Rattle.std.specs.Prelude.{IfOk, None, false};
+ghost use Rattle.mdmp_source.specs.Store.{IsNew};
 
 use crate::disk::{Disk, DiskRefused, Requests};
-use mdmp_source::{FileStore, Out, OutFailed, WriteOut};
+use mdmp_source::{FileStore, Out, OutFailed, Store, WriteOut};
 use std::alloc::Alloc;
-use std::fs::OpenOptions;
+use std::fs::{self, Metadata, OpenOptions};
+use std::io::Read;
+use std::os::unix::fs::FileTypeExt;
 use std::rt::Files;
 
 /// The files of the system. No contract knows any of them.
@@ -37,8 +41,10 @@ impl<R: Files + Alloc> Disk for SystemDisk<'_, R> {
 
     ghost state = { λ d. system d.requests };
 
+    /// A folder, a pipe and a socket are refused, and so is a regular file that has bytes although its size is 0, as
+    /// those of `/proc` do.
     fn open(&mut self, name: &str) -> Result<Self::File, DiskRefused> {
-        let answer = FileStore::open(self.rt, name).map_err(|_| DiskRefused);
+        let answer = open_dump(self.rt, name);
         self.requests.count_open(answer.is_ok());
         answer
     }
@@ -64,6 +70,38 @@ impl<R: Files + Alloc> Disk for SystemDisk<'_, R> {
 
     /// The file is closed where it is dropped.
     fn close(&mut self, _name: &str, _made: Self::Made) {}
+}
+
+/// Opens the file of this name, if it can be a dump.
+// A pipe is told by its name, before it is opened: to open it would wait for somebody who writes to it.
+fn open_dump<R: Files + Alloc>(rt: &R, name: &str) -> Result<FileStore<R::File, R::A>, DiskRefused>
+    ensures { IfOk result (λ store. IsNew (⟦<FileStore<R::File, R::A> as Store>⟧.state store) None false) }
+{
+    let metadata = fs::metadata(rt, name).map_err(|_| DiskRefused)?;
+    if !has_bytes_in_place(&metadata) || has_hidden_bytes(rt, name, &metadata)? {
+        return Err(DiskRefused);
+    }
+    FileStore::open(rt, name).map_err(|_| DiskRefused)
+}
+
+/// Whether what has this metadata is read at places of its own: no folder, pipe or socket is.
+fn has_bytes_in_place(metadata: &Metadata) -> bool {
+    let kind = metadata.file_type();
+    !kind.is_dir() && !kind.is_fifo() && !kind.is_socket()
+}
+
+/// Whether a regular file gives a byte although its size is 0.
+fn has_hidden_bytes<R: Files>(
+    rt: &R,
+    name: &str,
+    metadata: &Metadata,
+) -> Result<bool, DiskRefused> {
+    if !metadata.is_file() || metadata.len() > 0 {
+        return Ok(false);
+    }
+    let mut file = fs::open(rt, name).map_err(|_| DiskRefused)?;
+    let count = file.read(&mut [0]).map_err(|_| DiskRefused)?;
+    Ok(count > 0)
 }
 
 /// A file of the system that was made. No contract knows its bytes.

@@ -1,4 +1,5 @@
 pub mod Bytes
 pub mod Filling
 pub mod Held
+pub mod Sending
 pub mod Writing

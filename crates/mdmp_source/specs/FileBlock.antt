@@ -1,9 +1,10 @@
 -- A block of a file, and how it is read.
-use Rattle.std.specs.Prelude.{◌≡◌, ◌≤◌, ◌<◌, ◌+◌, ◌-◌, ◌*◌, ◌/◌, ◌%◌, ◌^◌, ◌↔◌, ℕ, List, [], Option, Result, Ok, Err, IsOk, length, max, min, take}
+use Rattle.std.specs.Prelude.{◌≡◌, ◌≤◌, ◌<◌, ◌+◌, ◌-◌, ◌*◌, ◌/◌, ◌%◌, ◌^◌, ◌↔◌, ℕ, Bool, List, [], Result, Ok, Err, IsOk, length, max, min, take}
 use Rattle.mdmp_source.specs.Files.{IsFileRead}
 use Rattle.mdmp_source.specs.Range.{bytes_at}
 use Rattle.mdmp_source.specs.declared.file_block.TheConstants.{CALL_USE, NEW_PLACE}
 use Rattle.mdmp_source.specs.declared.placed_file.PlacedFile.{PlacedFile}
+use Rattle.mdmp_source.specs.declared.store.StoreFailed.{StoreFailed}
 
 -- a block as its callers see it
 pub record FileBlockState : Type 0 where
@@ -12,6 +13,8 @@ pub record FileBlockState : Type 0 where
   pub bytes : List ℕ
   -- how many bytes a read into the block may give
   pub room : ℕ
+  -- how many bytes of memory the block has
+  pub memory : ℕ
   -- how many bytes the last read into the block asked for
   pub reach : ℕ
   -- how many bytes it gave, modulo 2^64, and to how many calls, modulo 2^32
@@ -61,15 +64,16 @@ given_by (Err e) out = []
 
 -- a file was read at this place into a block, of which so many bytes are wanted: the block holds what the read gave, and
 -- nothing if the read failed
-pub record IsBlockFilled {F T E : Type 0} (position : F → Option ℕ) (left : F → Option (List ℕ)) (file_before : PlacedFile F)
+pub record IsBlockFilled {F T E : Type 0} (may_seek : F → ℕ → Bool → F → Type 0)
+    (may_read : F → Result ℕ StoreFailed → List ℕ → F → Type 0) (file_before : PlacedFile F)
     (at wanted : ℕ) (result : Result T E) (before after : FileBlockState) (file_after : PlacedFile F) : Type 0 where
-  pub answer : Result ℕ E
+  pub answer : Result ℕ StoreFailed
   pub bytes : List ℕ
   pub reach : IsReach before at wanted (length bytes)
-  pub read : IsFileRead position left file_before at answer bytes file_after
+  pub read : IsFileRead may_seek may_read file_before at answer bytes file_after
   pub at_place : after.at ≡ at
   pub holds : after.bytes ≡ given_by answer bytes
-  pub same_room : after.room ≡ before.room
+  pub same_room : (after.room ≡ before.room) × (after.memory ≡ before.memory)
   pub asked : after.reach ≡ length bytes
   pub fresh : (after.given ≡ 0) × (after.calls ≡ 0)
   pub fails : IsOk result ↔ IsOk answer

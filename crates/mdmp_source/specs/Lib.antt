@@ -1,4 +1,5 @@
 pub mod BlockedFile
+pub mod Calls
 pub mod Count
 pub mod Extent
 pub mod Fault

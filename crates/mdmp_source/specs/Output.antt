@@ -1,5 +1,5 @@
 -- What an output has taken, and what a call that writes a text leaves.
-use Rattle.std.specs.Prelude.{◌≡◌, ℕ, Bool, if◌then◌else◌, List, [], ◌∷◌, ◌++◌, Option, Some, Result, Ok, Err, MatchResult}
+use Rattle.std.specs.Prelude.{◌≡◌, ℕ, Bool, if◌then◌else◌, List, [], ◌∷◌, ◌++◌, Option, Some, Result, MatchResult}
 use Rattle.mdmp_source.specs.Count.{raised}
 
 -- how often an output refused, and by which loans it is reached

@@ -1,12 +1,12 @@
 //! An open file, whose small reads are answered from a block.
-ghost use Rattle.std.specs.Prelude.{◌≡◌, ◌≤◌, length, IfOk};
+ghost use Rattle.std.specs.Prelude.{◌≡◌, ◌≤◌, length, vec_capacity, vec_len, IfOk};
 ghost use Rattle.mdmp_source.specs.BlockedFile.{IsBlockedRead, IsFilledRead, IsReadPast, HoldsNoBlock};
 
+use crate::calls::AskedFile;
 use crate::file_block::FileBlock;
 use crate::placed_file::PlacedFile;
 use crate::store::StoreFailed;
-use std::alloc::{AllocError, Allocator};
-use std::io::{Read, Seek};
+use std::alloc::Allocator;
 
 /// How many bytes a block holds at most: a read of fewer is answered from it.
 pub(crate) const BLOCK: usize = 16384;
@@ -20,26 +20,24 @@ pub(crate) struct BlockedFile<F, A: Allocator> {
     block: FileBlock<A>,
 }
 
-impl<F: Read + Seek, A: Allocator> BlockedFile<F, A> {
-    /// A file of which nothing was read. The memory for the block is taken here, and no later call takes any.
-    pub(crate) fn new(alloc: A, file: F) -> Result<Self, AllocError>
-    where
-        F: Drop,
-        ensures file { IfOk result (λ blocked. blocked.file.file ≡ file) }
-        ensures unread { IfOk result (HoldsNoBlock BLOCK) }
+impl<F: AskedFile, A: Allocator> BlockedFile<F, A> {
+    /// A file of which nothing was read. The memory of the block is that of `buffer`, which is empty.
+    pub(crate) fn new(buffer: Vec<u8, A>, file: F) -> Self
+        requires { vec_len buffer ≡ 0 }
+        ensures file { result.file.file ≡ file }
+        ensures unread { HoldsNoBlock (vec_capacity buffer) result }
     {
-        let block = FileBlock::with_room(alloc, BLOCK)?;
-        Ok(BlockedFile {
+        BlockedFile {
             file: PlacedFile::new(file),
-            block,
-        })
+            block: FileBlock::over(buffer),
+        }
     }
 
     /// Reads some of the bytes at `at` into the front of `out`, and answers how many. Behind a read that
     /// failed the block holds nothing.
     pub(crate) fn read_at(&mut self, at: u64, out: &mut [u8]) -> Result<usize, StoreFailed>
         ensures bound { IfOk result (λ k. k ≤ length out.new) }
-        ensures read { IsBlockedRead F.stream_position F.remaining self.old at result out.new self.new }
+        ensures read { IsBlockedRead F.may_seek F.may_read self.old at result out.new self.new }
     {
         if self.block.holds(at) {
             Ok(self.block.give(at, out))
@@ -53,7 +51,7 @@ impl<F: Read + Seek, A: Allocator> BlockedFile<F, A> {
     /// Reads a block at `at`, and answers from it.
     fn read_filled(&mut self, at: u64, out: &mut [u8]) -> Result<usize, StoreFailed>
         ensures bound { IfOk result (λ k. k ≤ length out.new) }
-        ensures read { IsFilledRead F.stream_position F.remaining self.old at result out.new self.new }
+        ensures read { IsFilledRead F.may_seek F.may_read self.old at result out.new self.new }
     {
         self.block.fill(&mut self.file, at, out.len())?;
         Ok(self.block.give(at, out))
@@ -62,7 +60,7 @@ impl<F: Read + Seek, A: Allocator> BlockedFile<F, A> {
     /// Reads past the block.
     fn read_past(&mut self, at: u64, out: &mut [u8]) -> Result<usize, StoreFailed>
         ensures bound { IfOk result (λ k. k ≤ length out.new) }
-        ensures read { IsReadPast F.stream_position F.remaining self.old at result out.new self.new }
+        ensures read { IsReadPast F.may_seek F.may_read self.old at result out.new self.new }
     {
         let answer = self.file.read_at(at, out);
         if answer.is_err() {

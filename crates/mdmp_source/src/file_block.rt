@@ -1,12 +1,13 @@
 //! A block of a file, which small reads are answered from.
-ghost use Rattle.std.specs.Prelude.{◌≡◌, ◌≤◌, ◌↔◌, [], IfOk, IsTrue, take, vec_len};
+ghost use Rattle.std.specs.Prelude.{◌≡◌, ◌≤◌, ◌↔◌, [], IsTrue, take, vec_capacity, vec_len};
 ghost use Rattle.mdmp_source.specs.FileBlock.{FileBlockState, GivesHeld, Holds, IsBlockFilled, IsFollowed, IsReach, used_by, used_of};
 
+use crate::calls::AskedFile;
 use crate::memory_store::copy_at;
 use crate::placed_file::PlacedFile;
 use crate::store::StoreFailed;
-use std::alloc::{AllocError, Allocator};
-use std::io::{Read, Seek};
+use crate::window::lengthen;
+use std::alloc::Allocator;
 use std::marker::Model;
 
 /// How many bytes a read into the block asks for at a new place, if no more are wanted.
@@ -45,6 +46,7 @@ impl<A: Allocator> Model for FileBlock<A> {
       at = b.at;
       bytes = take b.len b.buffer.items;
       room = vec_len b.buffer;
+      memory = vec_capacity b.buffer;
       reach = b.reach;
       given = b.given;
       calls = b.calls;
@@ -54,21 +56,30 @@ impl<A: Allocator> Model for FileBlock<A> {
 }
 
 impl<A: Allocator> FileBlock<A> {
-    /// A block that holds nothing, and has room for that many bytes. The memory for them is taken here,
-    /// and no later call takes any.
-    pub(crate) fn with_room(alloc: A, room: usize) -> Result<Self, AllocError>
-        ensures { IfOk result (λ b. b ≡ record { at = 0; bytes = []; room = room; reach = 0; given = 0; calls = 0 }) }
+    /// A block that holds nothing. Its memory is that of `buffer`, which is empty, and no call takes any more.
+    pub(crate) fn over(buffer: Vec<u8, A>) -> Self
+        requires { vec_len buffer ≡ 0 }
+        ensures { result ≡ record {
+          at = 0;
+          bytes = [];
+          room = vec_capacity buffer;
+          memory = vec_capacity buffer;
+          reach = 0;
+          given = 0;
+          calls = 0;
+        } }
     {
-        let mut buffer = Vec::with_capacity(alloc, room)?;
-        buffer.resize(room, 0)?;
-        Ok(FileBlock {
+        let mut buffer = buffer;
+        let room = buffer.capacity();
+        lengthen(&mut buffer, room);
+        FileBlock {
             buffer,
             len: 0,
             at: 0,
             reach: 0,
             given: 0,
             calls: 0,
-        })
+        }
     }
 
     /// How many bytes a read may give.
@@ -125,13 +136,13 @@ impl<A: Allocator> FileBlock<A> {
 
     /// Reads some of the bytes at `at` into the block, of which so many are wanted. If that fails, the block
     /// holds nothing.
-    pub(crate) fn fill<F: Read + Seek>(
+    pub(crate) fn fill<F: AskedFile>(
         &mut self,
         file: &mut PlacedFile<F>,
         at: u64,
         wanted: usize,
     ) -> Result<(), StoreFailed>
-        ensures { IsBlockFilled F.stream_position F.remaining file.old at wanted result self.old self.new file.new }
+        ensures { IsBlockFilled F.may_seek F.may_read file.old at wanted result self.old self.new file.new }
     {
         let reach = self.reach_at(at, wanted);
         self.reach = reach;

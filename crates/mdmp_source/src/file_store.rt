@@ -2,35 +2,12 @@
 ghost use Rattle.std.specs.Prelude.{◌≡◌, ◌≤◌, length, IfOk};
 
 use crate::blocked_file::{BLOCK, BlockedFile};
+use crate::calls::{AskedFile, AskedSystem, Described};
 use crate::store::{Store, StoreCounts, StoreFailed};
 use std::alloc::{Alloc, Allocator, Global};
-use std::fs::{Metadata, OpenFile};
+use std::fs::Metadata;
 use std::io::{Read, Seek};
 use std::rt::Files;
-use std::{fs, io};
-
-/// An open file that tells its metadata, as every [`OpenFile`] does.
-// No contract of std says which metadata a file has. As a bound of its own this trait has one that does: so what is
-// proved for each such file holds the code to the metadata that it told.
-pub(crate) trait Described {
-    ghost use Rattle.std.specs.declared.fs.attrs.Metadata.{Metadata};
-
-    /// Whether a file may have this metadata.
-    ghost may_have: { Self → Metadata → Type 0 };
-
-    /// The file's metadata.
-    fn described(&self) -> io::Result<Metadata>
-        ensures { IfOk result (may_have self.now) };
-}
-
-impl<F: OpenFile> Described for F {
-    // of a file of std any may be its
-    ghost may_have = { λ _ _. Unit {0} };
-
-    fn described(&self) -> io::Result<Metadata> {
-        self.metadata()
-    }
-}
 
 /// An open file of the system, whose size is taken once. No contract knows its bytes.
 ///
@@ -57,24 +34,30 @@ pub struct FileStore<F, A: Allocator = Global> {
     counts: StoreCounts,
 }
 
-impl<F: Read + Seek + Described + Drop, A: Allocator> FileStore<F, A> {
-    ghost use Rattle.std.specs.Prelude.{◌≡◌, IfOk, None, false};
+impl<F: Read + Seek + AskedFile + Described + Drop, A: Allocator> FileStore<F, A> {
+    ghost use Rattle.std.specs.Prelude.{◌≡◌, IfOk, OnErr, None, false};
     ghost use Rattle.std.specs.Fs.{metadata_len};
     ghost use Rattle.mdmp_source.specs.BlockedFile.{HoldsNoBlock, file_of};
-    ghost use Rattle.mdmp_source.specs.Files.{HasFileSize};
+    ghost use Rattle.mdmp_source.specs.Files.{HasFileSize, IsOpenRefused};
     ghost use Rattle.mdmp_source.specs.Store.{IsNew};
 
     /// Opens the file at `path` for reading, and takes the memory of the block, which is all that the store
-    /// ever takes. Every refusal of the system is `StoreFailed`, and so is want of memory.
-    pub fn open<R: Files<File = F> + Alloc<A = A>>(rt: &R, path: &str) -> Result<Self, StoreFailed>
+    /// ever takes. Every refusal of the system is `StoreFailed`, and so is want of memory. Nothing else is.
+    pub fn open<R: Files<File = F> + Alloc<A = A> + AskedSystem<F, A>>(
+        rt: &R,
+        path: &str,
+    ) -> Result<Self, StoreFailed>
         ensures new { IfOk result (λ store. IsNew (⟦<FileStore<F, A> as Store>⟧.state store) None false) }
+        ensures file { IfOk result (λ store. R.may_open rt.now path.now (file_of store.file)) }
         ensures size { IfOk result (λ store. HasFileSize F.may_have (file_of store.file) (⟦<FileStore<F, A> as Store>⟧.state store).size) }
         ensures unread { IfOk result (λ store. HoldsNoBlock BLOCK store.file) }
+        ensures refused { OnErr result (IsOpenRefused (R.may_refuse rt.now path.now) (R.may_open rt.now path.now) F.may_hide
+            (R.may_lack rt.now BLOCK)) }
     {
-        let file = fs::open(rt, path).map_err(|_| StoreFailed)?;
-        let metadata = file.described().map_err(|_| StoreFailed)?;
-        let file = BlockedFile::new(rt.alloc(), file).map_err(|_| StoreFailed)?;
-        Ok(FileStore::of_size(file, &metadata))
+        let file = rt.ask_open(path)?;
+        let metadata = file.described()?;
+        let buffer = rt.ask_room(BLOCK)?;
+        Ok(FileStore::of_size(BlockedFile::new(buffer, file), &metadata))
     }
 
     /// A store over an open file of this metadata.
@@ -91,7 +74,7 @@ impl<F: Read + Seek + Described + Drop, A: Allocator> FileStore<F, A> {
     }
 }
 
-impl<F: Read + Seek, A: Allocator> Store for FileStore<F, A> {
+impl<F: Read + Seek + AskedFile, A: Allocator> Store for FileStore<F, A> {
     ghost use Rattle.std.specs.Prelude.{◌≡◌, ◌≤◌, IfOk, None, false, length};
     ghost use Rattle.mdmp_source.specs.BlockedFile.{IsBlockedRead};
     ghost use Rattle.mdmp_source.specs.Store.{StoreState, counts_after};
@@ -114,7 +97,7 @@ impl<F: Read + Seek, A: Allocator> Store for FileStore<F, A> {
           file = self.new.file;
           counts = counts_after self.old.counts result at (length out.new);
         } }
-        ensures read { IsBlockedRead F.stream_position F.remaining self.old.file at result out.new self.new.file }
+        ensures read { IsBlockedRead F.may_seek F.may_read self.old.file at result out.new self.new.file }
     {
         let answer = self.file.read_at(at, out);
         self.counts.count(&answer, at, out.len());

@@ -19,6 +19,7 @@
 #![tactic(auto)]
 
 mod blocked_file;
+mod calls;
 mod fault;
 mod file_block;
 mod file_store;

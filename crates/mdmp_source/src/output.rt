@@ -3,6 +3,9 @@ ghost use Rattle.std.specs.Prelude.{◌≡◌, ◌≤◌, ◌||◌, length, take
 ghost use Rattle.mdmp_source.specs.Count.{raised_if};
 ghost use Rattle.mdmp_source.specs.Store.{is_empty_answer};
 ghost use Rattle.mdmp_source.specs.Output.{OutState, Keeps, Takes, Puts, refused_if};
+ghost use Rattle.mdmp_source.specs.Calls.{Sends, SendsAll};
+
+use crate::calls::AskedOut;
 
 /// An output refused a call.
 #[derive(Clone, Copy, Debug, PartialEq, Eq)]
@@ -55,16 +58,17 @@ pub(crate) fn failures_after(
 }
 
 /// Writes the bytes up to the output's first refusal, by as many calls as it takes, and answers how
-/// many went out.
-pub fn send<O: Out>(out: &mut O, bytes: &[u8]) -> usize
+/// many went out. Each call is handed all bytes that are left.
+pub fn send<O: Out + AskedOut>(out: &mut O, bytes: &[u8]) -> usize
     ensures bound { result ≤ length bytes.now }
     ensures took { Takes (O.state out.old).taken (take result bytes.now) (O.state out.new).taken }
     ensures failures { (O.state out.new).failures
         ≡ refused_if (nat_lt result (length bytes.now)) (O.state out.old).failures }
+    ensures calls { Sends O.may_take out.old bytes.now result out.new }
 {
     let mut sent = 0;
     while sent < bytes.len() {
-        match out.write(&bytes[sent..]) {
+        match out.ask(&bytes[sent..]) {
             Ok(0) => return sent,
             Ok(count) => sent += count,
             Err(_) => return sent,
@@ -74,9 +78,10 @@ pub fn send<O: Out>(out: &mut O, bytes: &[u8]) -> usize
 }
 
 /// Writes all of the bytes, by as many calls as it takes. Where the output refuses, the first of
-/// them went out.
-pub fn write_all<O: Out>(out: &mut O, bytes: &[u8]) -> Result<(), OutFailed>
-    ensures { Puts result (O.state out.old) bytes.now (O.state out.new) }
+/// them went out. Each call is handed all bytes that are left.
+pub fn write_all<O: Out + AskedOut>(out: &mut O, bytes: &[u8]) -> Result<(), OutFailed>
+    ensures puts { Puts result (O.state out.old) bytes.now (O.state out.new) }
+    ensures calls { SendsAll O.may_take result out.old bytes.now out.new }
 {
     if send(out, bytes) == bytes.len() {
         Ok(())

@@ -167,7 +167,7 @@ fn move_to_front<A: Allocator>(buffer: &mut Vec<u8, A>, first: usize, len: usize
 
 /// Has the buffer hold at least that many bytes, for which it has memory.
 // `Vec::resize` says that the capacity does not shrink, and not that it stays.
-fn lengthen<A: Allocator>(buffer: &mut Vec<u8, A>, len: usize)
+pub(crate) fn lengthen<A: Allocator>(buffer: &mut Vec<u8, A>, len: usize)
     requires { len ≤ vec_capacity buffer.old }
     ensures kept { (n : ℕ) → n ≤ vec_len buffer.old → take n buffer.new.items ≡ take n buffer.old.items }
     ensures len { vec_len buffer.new ≡ max (vec_len buffer.old) len }

@@ -1,6 +1,7 @@
 //! An output over a writer of std.
 ghost use Rattle.std.specs.Prelude.{◌≡◌};
 
+use crate::calls::AskedWriter;
 use crate::output::{Out, OutFailed, failures_after};
 use std::io::Write;
 
@@ -36,13 +37,25 @@ impl<W: Write> WriteOut<W> {
     }
 }
 
-impl<W: Write> Out for WriteOut<W> {
-    ghost use Rattle.mdmp_source.specs.Output.{OutState, unlent};
+impl<W: Write + AskedWriter> Out for WriteOut<W> {
+    ghost use Rattle.std.specs.Prelude.{◌≤◌, ◌||◌, IfOk, OnErr, is_err, length, take};
+    ghost use Rattle.mdmp_source.specs.Count.{raised_if};
+    ghost use Rattle.mdmp_source.specs.Output.{Keeps, OutState, Takes, unlent};
+    ghost use Rattle.mdmp_source.specs.Store.{is_empty_answer};
 
     ghost state = { λ o. record { taken = W.contents o.writer; failures = unlent o.failures } };
 
-    fn write(&mut self, bytes: &[u8]) -> Result<usize, OutFailed> {
-        let answer = self.writer.write(bytes).map_err(|_| OutFailed);
+    /// Asks the writer once.
+    fn write(&mut self, bytes: &[u8]) -> Result<usize, OutFailed>
+        ensures bound { IfOk result (λ k. k ≤ length bytes.now) }
+        ensures took { IfOk result (λ k. Takes (W.contents self.old.writer) (take k bytes.now) (W.contents self.new.writer)) }
+        ensures none { OnErr result (Keeps (W.contents self.old.writer) (W.contents self.new.writer)) }
+        ensures failures { self.new.failures
+            ≡ raised_if (is_err result || is_empty_answer result (length bytes.now)) self.old.failures }
+        // What this output says beside any other.
+        ensures asked { W.may_write self.old.writer bytes.now result self.new.writer }
+    {
+        let answer = self.writer.ask(bytes);
         self.failures = failures_after(self.failures, &answer, bytes.len());
         answer
     }

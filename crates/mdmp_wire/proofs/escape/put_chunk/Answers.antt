@@ -11,4 +11,4 @@ returns g c =
     let count : c.args.start + c.min.result - c.args.start ≡ min (length rest) 64 = omega (arith, c.min.ensures, c.len.ensures, length-drop c.args.start units) in
     let text : take c.escape_at-len.result c.escape_at-len.new.text ≡ escaped (take 64 rest) =
     c.escape_at-len.ensures.text ∙ ap escaped (same_taken 64 _ rest count) in
-    rw text at c.write_all.ensures
+    rw text at c.write_all.ensures.puts
