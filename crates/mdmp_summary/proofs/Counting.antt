@@ -23,7 +23,7 @@ pub record CountsOn (F : List ℕ) (limit : ℕ) (now : ListerState) (met : List
   pub few : length met ≤ at
   pub within : at ≤ entry_count F
 
-pub counts_begin : (F : List ℕ) (limit : ℕ) (now : ListerState) → now.left ≡ Some (listing F All limit) → CountsOn F limit now [] []
+unfoldable pub counts_begin : (F : List ℕ) (limit : ℕ) (now : ListerState) → now.left ≡ Some (listing F All limit) → CountsOn F limit now [] []
 counts_begin F limit now fresh = record {
   at = 0;
   given = sym (items_from_first F limit);
@@ -34,7 +34,7 @@ counts_begin F limit now fresh = record {
 }
 
 -- a look ended at a bad entry, which was skipped
-pub counts_more : (F : List ℕ) (limit : ℕ) (now new : ListerState) (met : List ListFault) (before items : List Item) (f : ListFault) → CountsOn F limit now met before
+unfoldable pub counts_more : (F : List ℕ) (limit : ℕ) (now new : ListerState) (met : List ListFault) (before items : List Item) (f : ListFault) → CountsOn F limit now met before
     → ((left : Run) → now.left ≡ Some left → left ≡ record { items = items; fault = Some f })
     → new.left ≡ Some (listing_from F All limit (f.entry + 1)) → CountsOn F limit new (met ++ f ∷ []) (before ++ items)
 counts_more F limit now new met before items f so_far all left =

@@ -38,15 +38,15 @@ fault_body : (F : List ℕ) (limit : ℕ) (x : Numbered) (outside : Option Fault
 fault_body F limit x None inside = rw (← inside) (fault_records F limit x.number x.entry.location.rva x.entry.location.size (kind_of x.entry.stream_type))
 fault_body F limit x (Some f) outside = rw (← outside) refl
 
-fault_entry : (F : List ℕ) (limit : ℕ) (x : Numbered) → IfSome (entry_listing F limit x).fault (λ f. f.entry ≡ x.number)
+pub fault_entry : (F : List ℕ) (limit : ℕ) (x : Numbered) → IfSome (entry_listing F limit x).fault (λ f. f.entry ≡ x.number)
 fault_entry F limit x = fault_body F limit x (location_fault (length F) x.entry) refl
 
 -- ---- n entries from entry k on
 
-abbrev some_entries : List ℕ → ℕ → ℕ → List Numbered
+abbrev pub some_entries : List ℕ → ℕ → ℕ → List Numbered
 some_entries F n k = only_chosen All (entries_from F n k)
 
-abbrev run_of : List ℕ → ℕ → List Numbered → Run
+abbrev pub run_of : List ℕ → ℕ → List Numbered → Run
 run_of F limit xs = all_joined (map (entry_listing F limit) xs)
 
 abbrev faults_by : List ℕ → ℕ → List Numbered → List ListFault

@@ -1,3 +1,4 @@
+pub mod CheckingOn
 mod ContextRows
 pub mod Contexts
 pub mod Counting
@@ -9,6 +10,9 @@ mod IdentityRows
 pub mod Padding
 pub mod Passing
 pub mod Paying
+pub mod RowsBehind
+pub mod RowsTaken
+pub mod RunTold
 pub mod Sought
 mod SummaryRows
 pub mod Told

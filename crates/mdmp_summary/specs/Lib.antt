@@ -1,4 +1,6 @@
 pub mod BadEntries
+pub mod CheckRows
+pub mod Checking
 pub mod Context
 pub mod Crash
 pub mod Passes
@@ -7,6 +9,7 @@ pub mod Identity
 pub mod Keeping
 pub mod Part
 pub mod Reach
+pub mod RowMaking
 pub mod Search
 pub mod Spending
 pub mod SpendingLaws

@@ -19,6 +19,8 @@
 #![tactic(auto)]
 
 mod bad_entries;
+mod check_row;
+mod checking;
 mod context;
 mod context_reading;
 mod crash;
@@ -30,12 +32,15 @@ mod lost_parts;
 mod part;
 mod passes;
 mod reach;
+mod row_maker;
 mod search;
 mod summary;
 mod summing;
 mod walking;
 
 pub use crate::bad_entries::BadEntries;
+pub use crate::check_row::{CheckRow, CheckRowSink, EntryRow};
+pub use crate::checking::check_parts_into;
 pub use crate::context::{Registers, first_bytes_suffice, registers_in};
 pub use crate::crash::Platform;
 pub use crate::gathering::ItemCounts;

@@ -16,7 +16,7 @@ use std::alloc::Allocator;
 
 /// Whether bytes that were needed were not read, or do not agree with what was read before. Any other error is
 /// one of the file.
-fn is_unobtained(fault: ListFault) -> bool
+pub(crate) fn is_unobtained(fault: ListFault) -> bool
     ensures { result ≡ is_unobtained fault.kind }
 {
     matches!(fault.kind, FaultKind::Source(_) | FaultKind::Budget)

@@ -1,0 +1,77 @@
+-- A check of all entries and of the parts of their records.
+use Rattle.std.specs.Prelude.{◌≡◌, ◌≤◌, ◌+◌, ◌++◌, ℕ, List, Bool, true, false, Some, None, Result, Ok, Err}
+use Rattle.mdmp_source.specs.Source.{FetchesSome}
+use Rattle.mdmp_wire.specs.Header.{header_at}
+use Rattle.mdmp_lister.specs.declared.choice.Choice.TheVariants.{All}
+use Rattle.mdmp_lister.specs.declared.fault.ListFault.{ListFault}
+use Rattle.mdmp_lister.specs.declared.item.Item.{Item}
+use Rattle.mdmp_lister.specs.declared.sink.RunFault.{RunFault}
+use Rattle.mdmp_lister.specs.declared.sink.Stopped.{Stopped}
+use Rattle.mdmp_lister.specs.Format.Listing.{Run, listing}
+use Rattle.mdmp_lister.specs.Format.Numbers.{faulty_name}
+use Rattle.mdmp_lister.specs.Lister.{IsSameLister, ListerState, listing_behind}
+use Rattle.mdmp_lister.specs.Sink.{Handed, TellsRunFetch, names_of_all}
+use Rattle.mdmp_summary.specs.CheckRows.{AreFirstRows, check_rows, run_rows}
+use Rattle.mdmp_summary.specs.declared.check_row.CheckRow.{CheckRow}
+
+-- nothing was given of a listing of all entries
+pub record IsAllLeft (v : ListerState) : Type 0 where
+  pub choice_is : v.choice ≡ All
+  pub stop : v.stop ≡ None
+  pub header_is : (file : List ℕ) → v.source.store.content ≡ Some file → v.header ≡ header_at file 0
+  pub left : (file : List ℕ) → v.source.store.content ≡ Some file → v.left ≡ Some (listing file All v.limit)
+
+-- a sink was handed some rows, of a known file the first of all
+pub record RowsHanded {K : Type 0} (step : K → CheckRow → Result (Unit {0}) Stopped → K → Type 0) (old : ListerState) (k : K) (result : Result (Unit {0}) RunFault) (l : K) : Type 0 where
+  pub rows : List CheckRow
+  pub handed : Handed step k rows result l
+  pub of_file : (file : List ℕ) → old.source.store.content ≡ Some file → AreFirstRows (check_rows file old.limit) rows result
+
+-- ---- a run, up to the end or the first error
+
+-- all that was left was given
+pub record EndsRun (old : ListerState) (left : Run) (items : List Item) (rows : List CheckRow) (new : ListerState) : Type 0 where
+  pub all : left ≡ record { items = items; fault = None }
+  pub rows_are : rows ≡ run_rows left
+  pub names : new.counts.names ≤ old.counts.names + names_of_all items
+
+-- the error of an entry was met, and told, and the entry was dropped
+pub record MeetsBad (old : ListerState) (left : Run) (items : List Item) (rows : List CheckRow) (new : ListerState) : Type 0 where
+  pub fault : ListFault
+  pub all : left ≡ record { items = items; fault = Some fault }
+  pub rows_are : rows ≡ run_rows left
+  pub names : new.counts.names ≤ old.counts.names + names_of_all items + faulty_name fault.kind
+  pub entry : fault.entry + 1 ≡ new.passed
+
+-- the first of what was left was given
+pub record EndsEarly (old : ListerState) (left : Run) (items : List Item) (rows : List CheckRow) (new : ListerState) : Type 0 where
+  pub more : List Item
+  pub items_first : left.items ≡ items ++ more
+  pub rest : List CheckRow
+  pub rows_first : run_rows left ≡ rows ++ rest
+  pub names : new.counts.names ≤ old.counts.names + names_of_all items + 1
+
+abbrev pub GivesRows : ListerState → Run → List Item → List CheckRow → Result Bool RunFault → ListerState → Type 0
+GivesRows old left items rows (Ok false) new = EndsRun old left items rows new
+GivesRows old left items rows (Ok true) new = MeetsBad old left items rows new
+GivesRows old left items rows (Err fault) new = EndsEarly old left items rows new
+
+-- how it ends, whether there is more or not
+abbrev pub run_end : Result Bool RunFault → Result (Unit {0}) RunFault
+run_end (Ok more) = Ok tt
+run_end (Err fault) = Err fault
+
+-- a sink was handed the rows of some items, and of their error
+pub record TellsRows {K : Type 0} (step : K → CheckRow → Result (Unit {0}) Stopped → K → Type 0) (old : ListerState) (k : K) (result : Result Bool RunFault) (new : ListerState) (l : K) : Type 0 where
+  pub items : List Item
+  pub rows : List CheckRow
+  pub handed : Handed step k rows (run_end result) l
+  pub gives : (left : Run) → old.left ≡ Some left → GivesRows old left items rows result new
+
+-- the same listing of the same file, and what is left after a bad entry
+pub record LeavesRun (old : ListerState) (result : Result Bool RunFault) (new : ListerState) : Type 0 where
+  pub same : IsSameLister old new
+  pub fetches : FetchesSome old.source new.source
+  pub next : TellsRunFetch (run_end result) new
+  pub going : result ≡ Ok true → new.stop ≡ None
+  pub left : result ≡ Ok true → new.left ≡ listing_behind new new.passed

@@ -1,0 +1,120 @@
+//! A check of all entries and of the parts of their records.
+ghost use Rattle.std.specs.Prelude.{◌≡◌, ◌≤◌, ◌+◌, ℕ, List, None, Some, false, IfErr, IfOk};
+ghost use Rattle.mdmp_source.specs.Source.{FetchesSome};
+ghost use Rattle.mdmp_source.specs.Store.{IsGood};
+ghost use Rattle.mdmp_lister.specs.Check.{items_of, names_judged};
+ghost use Rattle.mdmp_lister.specs.Fault.{IsOfStore, IsToldIn, IsUnobtained};
+ghost use Rattle.mdmp_lister.specs.Format.Listing.{chosen, verdicts};
+ghost use Rattle.mdmp_lister.specs.Lister.{IsRefusedIn, IsSameLister};
+ghost use Rattle.mdmp_lister.specs.Sink.{TellsRunFetch};
+ghost use Rattle.mdmp_lister.specs.declared.choice.Choice.TheVariants.{All};
+ghost use Rattle.mdmp_summary.specs.Checking.{IsAllLeft, LeavesRun, RowsHanded, TellsRows};
+
+use crate::check_row::CheckRowSink;
+use crate::row_maker::RowMaker;
+use crate::walking::is_unobtained;
+use mdmp_lister::{Lister, RunFault, Stopped};
+use mdmp_source::Store;
+use std::alloc::Allocator;
+
+/// Hands a sink the rows of a check, for each entry in the order of the directory: its parts that lie outside the
+/// file, and then its result. An entry is read to its end or its first error, and after a bad entry the next one is
+/// read. If bytes are not read, or the read limit is reached, the check ends, with no result of that entry; so it does
+/// if the sink wants no more.
+///
+/// No item, result or error was given before.
+pub fn check_parts_into<S: Store + Drop, A: Allocator + Copy, K: CheckRowSink>(
+    lister: &mut Lister<S, A>,
+    sink: &mut K,
+) -> Result<(), RunFault>
+    requires { IsAllLeft lister.old }
+    ensures rows { RowsHanded K.step lister.old sink.old result sink.new }
+    ensures told { IfErr result (λ r. (fault : _) → r ≡ RunFault.At fault
+        → IsUnobtained fault.kind × IsToldIn lister.new.current fault lister.old.source lister.new.source) }
+    ensures good { (file : List ℕ) → IsGood lister.old.source.store file
+        → IfErr result (λ r. (fault : _) → r ≡ RunFault.At fault → IsOfStore fault.kind → ⊥) }
+    ensures refused { IfErr result (λ r. (fault : _) → r ≡ RunFault.At fault → IsRefusedIn fault lister.new) }
+    ensures next { TellsRunFetch result lister.new }
+    ensures names { (file : List ℕ) → lister.old.source.store.content ≡ Some file
+        → lister.new.counts.names ≤ lister.old.counts.names + names_judged (items_of file lister.old.limit (chosen file All)) (verdicts file All lister.old.limit) + 1 }
+    ensures same { IsSameLister lister.old lister.new }
+    ensures fetches { FetchesSome lister.old.source lister.new.source }
+{
+    let mut maker = RowMaker {
+        sink,
+        entry: None,
+        loses_parts: false,
+    };
+    check_runs(lister, &mut maker)
+}
+
+/// Hands on the rows of all entries.
+fn check_runs<S: Store + Drop, A: Allocator + Copy, K: CheckRowSink>(
+    lister: &mut Lister<S, A>,
+    maker: &mut RowMaker<'_, K>,
+) -> Result<(), RunFault>
+    requires left { IsAllLeft lister.old }
+    requires fresh { (maker.old.entry ≡ None) × (maker.old.loses_parts ≡ false) }
+    ensures same_sink { maker.new.sink.ghost_name ≡ maker.old.sink.ghost_name }
+    ensures rows { RowsHanded K.step lister.old maker.old.sink.now result maker.new.sink.now }
+    ensures told { IfErr result (λ r. (fault : _) → r ≡ RunFault.At fault
+        → IsUnobtained fault.kind × IsToldIn lister.new.current fault lister.old.source lister.new.source) }
+    ensures good { (file : List ℕ) → IsGood lister.old.source.store file
+        → IfErr result (λ r. (fault : _) → r ≡ RunFault.At fault → IsOfStore fault.kind → ⊥) }
+    ensures refused { IfErr result (λ r. (fault : _) → r ≡ RunFault.At fault → IsRefusedIn fault lister.new) }
+    ensures next { TellsRunFetch result lister.new }
+    ensures names { (file : List ℕ) → lister.old.source.store.content ≡ Some file
+        → lister.new.counts.names ≤ lister.old.counts.names + names_judged (items_of file lister.old.limit (chosen file All)) (verdicts file All lister.old.limit) + 1 }
+    ensures same { IsSameLister lister.old lister.new }
+    ensures fetches { FetchesSome lister.old.source lister.new.source }
+{
+    // Each run but the last ends at the error of an entry.
+    let runs = u64::from(lister.header().number_of_streams) + 1;
+    'entries: for _ in 0..runs {
+        match check_run(lister, maker) {
+            Ok(true) => {}
+            Ok(false) => return Ok(()),
+            Err(fault) => return Err(fault),
+        }
+    }
+    Ok(())
+}
+
+/// Hands on the rows of the entries that are left, up to the end or the first bad entry, which it drops: true after a
+/// bad entry.
+fn check_run<S: Store + Drop, A: Allocator + Copy, K: CheckRowSink>(
+    lister: &mut Lister<S, A>,
+    maker: &mut RowMaker<'_, K>,
+) -> Result<bool, RunFault>
+    requires going { lister.old.stop ≡ None }
+    requires fresh { (maker.old.entry ≡ None) × (maker.old.loses_parts ≡ false) }
+    ensures same_sink { maker.new.sink.ghost_name ≡ maker.old.sink.ghost_name }
+    ensures fresh { IfOk result (λ more. (maker.new.entry ≡ None) × (maker.new.loses_parts ≡ false)) }
+    ensures rows { TellsRows K.step lister.old maker.old.sink.now result lister.new maker.new.sink.now }
+    ensures told { IfErr result (λ r. (fault : _) → r ≡ RunFault.At fault
+        → IsUnobtained fault.kind × IsToldIn lister.new.current fault lister.old.source lister.new.source) }
+    ensures good { (file : List ℕ) → IsGood lister.old.source.store file
+        → IfErr result (λ r. (fault : _) → r ≡ RunFault.At fault → IsOfStore fault.kind → ⊥) }
+    ensures refused { IfErr result (λ r. (fault : _) → r ≡ RunFault.At fault → IsRefusedIn fault lister.new) }
+    ensures leaves { LeavesRun lister.old result lister.new }
+{
+    match lister.list_into(maker) {
+        Ok(()) => match maker.close() {
+            Ok(()) => Ok(false),
+            Err(Stopped) => Err(RunFault::Stopped),
+        },
+        Err(RunFault::Stopped) => Err(RunFault::Stopped),
+        Err(RunFault::At(fault)) => {
+            if is_unobtained(fault) {
+                return Err(RunFault::At(fault));
+            }
+            match maker.close_bad(fault) {
+                Ok(()) => {
+                    lister.skip_entry();
+                    Ok(true)
+                }
+                Err(Stopped) => Err(RunFault::Stopped),
+            }
+        }
+    }
+}
