@@ -21,7 +21,7 @@
  *                          `fault` is MDMP_FAULT_NONE.
  *   MDMP_FAULT             The file has an error, and `fault` says which and where. `out` has what precedes the error.
  *                          mdmp_check, mdmp_check_json and mdmp_verdicts go on after an error, and return everything.
- *                          mdmp_copy, mdmp_memory, mdmp_header and mdmp_name return nothing.
+ *                          mdmp_copy, mdmp_memory, mdmp_header, mdmp_name and mdmp_summary return nothing.
  *                          mdmp_symbols returns zeros.
  *                          If the file cannot be opened, a call returns nothing.
  *   MDMP_BAD_ARGUMENT      Limits, types or lengths are wrong, and `fault` says which. The call returns nothing;
@@ -36,7 +36,8 @@
  *                          MDMP_FAULT_MEMORY_LIMIT  The next lists would pass `memory`, and are not allocated.
  *                          MDMP_FAULT_COPY_BUDGET   The copy would pass `budget`, and is not started.
  *                          After the first two, `out` has what precedes the limit, and `size` or `count` says how much.
- *                          A check and its results end there; mdmp_memory and mdmp_copy return nothing.
+ *                          A check and its results end there; mdmp_memory, mdmp_copy and mdmp_summary return
+ *                          nothing.
  *                          After the last two, and if the file is not open yet, the call returns nothing.
  *
  * So two calls are enough: the first with a guess of `room`, or with 0, and the second with the number that the first
@@ -140,6 +141,24 @@ typedef enum mdmp_symbol_kind {
     MDMP_SYMBOLS_OTHER = 1, /* another kind */
     MDMP_SYMBOLS_SHORT = 2  /* a record that is too short for its kind */
 } mdmp_symbol_kind;
+
+/* Which kind of CodeView record the ids of a module are from. */
+typedef enum mdmp_id_kind {
+    MDMP_IDS_NONE = 0,  /* no record inside the file, or one that is too short for its kind */
+    MDMP_IDS_RSDS = 1,  /* RSDS: identity and age of a PDB file */
+    MDMP_IDS_PDB20 = 2, /* NB10: time and age of a file of PDB 2.0 */
+    MDMP_IDS_ELF = 3,   /* the bytes 4c 45 70 42: the build id of an ELF file */
+    MDMP_IDS_OTHER = 4  /* another kind */
+} mdmp_id_kind;
+
+/* What a thread tried to do at an address when it crashed. */
+typedef enum mdmp_access {
+    MDMP_ACCESS_NONE = 0,    /* the exception does not say that the thread tried to reach an address */
+    MDMP_ACCESS_READ = 1,    /* to read */
+    MDMP_ACCESS_WRITE = 2,   /* to write */
+    MDMP_ACCESS_EXECUTE = 3, /* to execute */
+    MDMP_ACCESS_NOT_SAID = 4 /* the exception does not say what */
+} mdmp_access;
 
 /* How much a call reads, and how much memory it uses. For a file from a stranger, use
  * MDMP_LIMITS_UNTRUSTED. MDMP_LIMITS_DEFAULT does not limit `budget`, `memory` and `aside`. In these
@@ -335,6 +354,108 @@ typedef struct mdmp_symbol_file {
     uint32_t reserved[3]; /* 0 */
 } mdmp_symbol_file;
 
+/* The ids by which symbol servers know a module: numbers and bytes. A field that the kind does not have is
+ * 0. */
+typedef struct mdmp_module_ids {
+    uint32_t kind;            /* mdmp_id_kind: which kind of CodeView record it is */
+    uint32_t age;             /* RSDS, NB10: how often the symbol file was written since it got its identity */
+    uint8_t guid[16];         /* RSDS: GUID; ELF: what Breakpad makes a GUID of; in the order in which it is printed */
+    uint32_t signature;       /* NB10: when the symbol file was made, in seconds since 1970 */
+    uint32_t build_id_size;   /* ELF: bytes of build_id, at most 20 */
+    uint32_t build_id_cut;    /* ELF: 1 if the record has more bytes of the id, else 0 */
+    uint32_t time_date_stamp; /* code id of a PE file: TimeDateStamp; 0 for none */
+    uint32_t size_of_image;   /* code id of a PE file: SizeOfImage; 0 for none */
+    uint8_t build_id[20];     /* ELF: the first bytes of the build id, in the order of the file */
+} mdmp_module_ids;
+
+/* Where a thread was, by its CPU context. */
+typedef struct mdmp_registers {
+    uint64_t instruction; /* the instruction pointer: Eip, Rip, Pc */
+    uint64_t stack;       /* the stack pointer: Esp, Rsp, Sp */
+    uint64_t frame;       /* the frame pointer: Ebp, Rbp, Fp of ARM64; of ARM the register r11 */
+} mdmp_registers;
+
+/* A module of a summary: MINIDUMP_MODULE, without its number in the list of modules. */
+typedef struct mdmp_summary_module {
+    uint64_t base_of_image;      /* BaseOfImage, an address of the dumped process */
+    mdmp_name_place name;        /* the name at ModuleNameRva */
+    uint32_t size_of_image;      /* SizeOfImage, in bytes */
+    uint32_t checksum;           /* CheckSum */
+    uint32_t time_date_stamp;    /* TimeDateStamp, in seconds since 1970 */
+    uint32_t file_version_ms;    /* VersionInfo.dwFileVersionMS: the first two of four numbers */
+    uint32_t file_version_ls;    /* VersionInfo.dwFileVersionLS: the last two */
+    uint32_t product_version_ms; /* VersionInfo.dwProductVersionMS */
+    uint32_t product_version_ls; /* VersionInfo.dwProductVersionLS */
+    mdmp_place codeview;         /* CvRecord: what it says about its symbol file */
+    uint32_t reserved;           /* 0 */
+} mdmp_summary_module;
+
+/* A module, and an address at its base or above it. */
+typedef struct mdmp_place_in_module {
+    mdmp_summary_module module; /* the module */
+    uint64_t offset;            /* how many bytes the address is above the base of the module */
+} mdmp_place_in_module;
+
+/* The system of a summary: MINIDUMP_SYSTEM_INFO. */
+typedef struct mdmp_summary_system {
+    mdmp_name_place csd_version;     /* the name at CSDVersionRva: the service pack */
+    uint32_t processor_architecture; /* ProcessorArchitecture */
+    uint32_t processor_level;        /* ProcessorLevel */
+    uint32_t processor_revision;     /* ProcessorRevision */
+    uint32_t number_of_processors;   /* NumberOfProcessors */
+    uint32_t product_type;           /* ProductType */
+    uint32_t major_version;          /* MajorVersion */
+    uint32_t minor_version;          /* MinorVersion */
+    uint32_t build_number;           /* BuildNumber */
+    uint32_t platform_id;            /* PlatformId */
+    uint32_t suite_mask;             /* SuiteMask */
+    uint8_t cpu[24];                 /* Cpu */
+    uint32_t reserved[2];            /* 0 */
+} mdmp_summary_system;
+
+/* How many records the entries have, each entry up to its own error. */
+typedef struct mdmp_counts {
+    uint64_t streams;     /* entries of the directory */
+    uint64_t threads;     /* threads */
+    uint64_t modules;     /* modules */
+    uint64_t exceptions;  /* exceptions */
+    uint64_t ranges;      /* ranges of memory, of both kinds of memory list */
+    uint64_t memory;      /* bytes of these ranges that are inside the file: the lower 64 bits */
+    uint64_t memory_high; /* the upper 64 bits of memory */
+} mdmp_counts;
+
+/* The crash: the first exception that is one. */
+typedef struct mdmp_crash {
+    mdmp_exception exception;    /* the record */
+    mdmp_name_place thread_name; /* the first name of the thread */
+    uint64_t address;            /* the address that ran: on Windows ExceptionAddress, else the instruction pointer */
+    mdmp_registers registers;    /* the registers of the thread, if has_registers is 1; else 0 */
+    mdmp_place_in_module module; /* the first module that has the address, if has_module is 1; else 0 */
+    mdmp_place_in_module near;   /* if no module has it: the one with the greatest base below it, if has_near is 1; else 0 */
+    uint64_t reached;            /* the address that the thread tried to reach, if access is not MDMP_ACCESS_NONE; else 0 */
+    uint32_t access;             /* mdmp_access: what the thread tried to do there */
+    uint32_t has_registers;      /* 1 if the context is inside the file and its layout is known, else 0 */
+    uint32_t has_module;         /* 1 if a module has the address, else 0 */
+    uint32_t has_near;           /* 1 if no module has the address, and one has a base below it; else 0 */
+} mdmp_crash;
+
+/* What a dump says of a crash and of itself. A structure whose `has` is 0 is all zero. */
+typedef struct mdmp_summary_record {
+    mdmp_header_record header;   /* the header */
+    mdmp_counts counts;          /* how many records there are */
+    uint64_t bad_entries;        /* how many entries have an error: those that mdmp_check calls bad */
+    mdmp_fault first_error;      /* the first of these errors, or MDMP_FAULT_NONE */
+    uint64_t parts_outside;      /* how many parts of records are not inside the file */
+    mdmp_fault first_outside;    /* the first of these parts as MDMP_FAULT_PART_OUTSIDE, or MDMP_FAULT_NONE */
+    mdmp_crash crash;            /* the crash, if has_crash is 1 */
+    mdmp_summary_module program; /* the first module: the program, if has_program is 1 */
+    mdmp_summary_system system;  /* the first system, if has_system is 1 */
+    uint32_t has_crash;          /* 1 if an exception is a crash, else 0 */
+    uint32_t has_program;        /* 1 if there is a module, else 0 */
+    uint32_t has_system;         /* 1 if there is a system, else 0 */
+    uint32_t reserved;           /* 0 */
+} mdmp_summary_record;
+
 /* As a limit: no limit. */
 #define MDMP_NO_LIMIT UINT64_MAX
 
@@ -401,6 +522,9 @@ uint32_t mdmp_name_(const uint8_t *file, size_t file_size, uint64_t rva, uint32_
     size_t room, uint64_t *size, mdmp_fault *fault);
 uint32_t mdmp_symbols_(const uint8_t *file, size_t file_size, const mdmp_limits *limits,
     const mdmp_place *place, mdmp_symbol_file *out, mdmp_fault *fault);
+uint32_t mdmp_summary_(const uint8_t *file, size_t file_size, const mdmp_limits *limits,
+    mdmp_summary_record *out, mdmp_fault *fault);
+uint32_t mdmp_ids_(const uint8_t *file, size_t file_size, const mdmp_module *module, mdmp_module_ids *out);
 uint32_t mdmp_fault_text_(const mdmp_fault *fault, uint8_t *out, size_t room, uint64_t *size);
 
 /* Returns the header of a file whose directory is inside the file; else the status is MDMP_FAULT. The
@@ -677,6 +801,25 @@ static inline uint32_t mdmp_symbols(const uint8_t *file, size_t file_size, const
     return mdmp_symbols_(file_size != 0 ? file : &no_file, file_size, limits, place, out, fault);
 }
 
+/* Returns what the file says of a crash and of itself. It covers all entries, each up to its own error, so
+ * an error in an entry hides nothing of the others. If an entry is bad, the status is still MDMP_OK. If
+ * the status is not MDMP_OK, `out` is unchanged. The call goes over the entries twice if there is a crash,
+ * and `budget` counts both. It allocates the window, the directory and a name, and no ranges of memory. */
+static inline uint32_t mdmp_summary(const uint8_t *file, size_t file_size, const mdmp_limits *limits,
+    mdmp_summary_record *out, mdmp_fault *fault) {
+    static uint8_t no_file;
+    return mdmp_summary_(file_size != 0 ? file : &no_file, file_size, limits, out, fault);
+}
+
+/* Returns the ids by which symbol servers know a module. The call uses `codeview`, `time_date_stamp` and
+ * `size_of_image` of the module, and not the extent of `codeview`: if that place is not inside the file,
+ * the kind is MDMP_IDS_NONE. The status is always MDMP_OK. Allocates nothing. */
+static inline uint32_t mdmp_ids(const uint8_t *file, size_t file_size, const mdmp_module *module,
+    mdmp_module_ids *out) {
+    static uint8_t no_file;
+    return mdmp_ids_(file_size != 0 ? file : &no_file, file_size, module, out);
+}
+
 /* Returns the message of the command for an error, without `mdmp: ` and without a line feed. For
  * MDMP_FAULT_NONE the text is empty. mdmp_name and mdmp_symbols know no entry: the message of their errors
  * says entry 0. From MDMP_FAULT_BAD_LIMITS to MDMP_FAULT_LENGTHS_DIFFER, the message is the library's own.
@@ -837,6 +980,83 @@ MDMP_ASSERT_(offsetof(mdmp_symbol_file, name_ended) == 20, "mdmp_symbol_file.nam
 MDMP_ASSERT_(offsetof(mdmp_symbol_file, guid) == 24, "mdmp_symbol_file.guid");
 MDMP_ASSERT_(offsetof(mdmp_symbol_file, signature) == 40, "mdmp_symbol_file.signature");
 MDMP_ASSERT_(offsetof(mdmp_symbol_file, reserved) == 44, "mdmp_symbol_file.reserved");
+MDMP_ASSERT_(sizeof(mdmp_module_ids) == 64, "mdmp_module_ids");
+MDMP_ASSERT_(offsetof(mdmp_module_ids, kind) == 0, "mdmp_module_ids.kind");
+MDMP_ASSERT_(offsetof(mdmp_module_ids, age) == 4, "mdmp_module_ids.age");
+MDMP_ASSERT_(offsetof(mdmp_module_ids, guid) == 8, "mdmp_module_ids.guid");
+MDMP_ASSERT_(offsetof(mdmp_module_ids, signature) == 24, "mdmp_module_ids.signature");
+MDMP_ASSERT_(offsetof(mdmp_module_ids, build_id_size) == 28, "mdmp_module_ids.build_id_size");
+MDMP_ASSERT_(offsetof(mdmp_module_ids, build_id_cut) == 32, "mdmp_module_ids.build_id_cut");
+MDMP_ASSERT_(offsetof(mdmp_module_ids, time_date_stamp) == 36, "mdmp_module_ids.time_date_stamp");
+MDMP_ASSERT_(offsetof(mdmp_module_ids, size_of_image) == 40, "mdmp_module_ids.size_of_image");
+MDMP_ASSERT_(offsetof(mdmp_module_ids, build_id) == 44, "mdmp_module_ids.build_id");
+MDMP_ASSERT_(sizeof(mdmp_registers) == 24, "mdmp_registers");
+MDMP_ASSERT_(offsetof(mdmp_registers, instruction) == 0, "mdmp_registers.instruction");
+MDMP_ASSERT_(offsetof(mdmp_registers, stack) == 8, "mdmp_registers.stack");
+MDMP_ASSERT_(offsetof(mdmp_registers, frame) == 16, "mdmp_registers.frame");
+MDMP_ASSERT_(sizeof(mdmp_summary_module) == 72, "mdmp_summary_module");
+MDMP_ASSERT_(offsetof(mdmp_summary_module, base_of_image) == 0, "mdmp_summary_module.base_of_image");
+MDMP_ASSERT_(offsetof(mdmp_summary_module, name) == 8, "mdmp_summary_module.name");
+MDMP_ASSERT_(offsetof(mdmp_summary_module, size_of_image) == 24, "mdmp_summary_module.size_of_image");
+MDMP_ASSERT_(offsetof(mdmp_summary_module, checksum) == 28, "mdmp_summary_module.checksum");
+MDMP_ASSERT_(offsetof(mdmp_summary_module, time_date_stamp) == 32, "mdmp_summary_module.time_date_stamp");
+MDMP_ASSERT_(offsetof(mdmp_summary_module, file_version_ms) == 36, "mdmp_summary_module.file_version_ms");
+MDMP_ASSERT_(offsetof(mdmp_summary_module, file_version_ls) == 40, "mdmp_summary_module.file_version_ls");
+MDMP_ASSERT_(offsetof(mdmp_summary_module, product_version_ms) == 44, "mdmp_summary_module.product_version_ms");
+MDMP_ASSERT_(offsetof(mdmp_summary_module, product_version_ls) == 48, "mdmp_summary_module.product_version_ls");
+MDMP_ASSERT_(offsetof(mdmp_summary_module, codeview) == 52, "mdmp_summary_module.codeview");
+MDMP_ASSERT_(offsetof(mdmp_summary_module, reserved) == 68, "mdmp_summary_module.reserved");
+MDMP_ASSERT_(sizeof(mdmp_place_in_module) == 80, "mdmp_place_in_module");
+MDMP_ASSERT_(offsetof(mdmp_place_in_module, module) == 0, "mdmp_place_in_module.module");
+MDMP_ASSERT_(offsetof(mdmp_place_in_module, offset) == 72, "mdmp_place_in_module.offset");
+MDMP_ASSERT_(sizeof(mdmp_summary_system) == 88, "mdmp_summary_system");
+MDMP_ASSERT_(offsetof(mdmp_summary_system, csd_version) == 0, "mdmp_summary_system.csd_version");
+MDMP_ASSERT_(offsetof(mdmp_summary_system, processor_architecture) == 16, "mdmp_summary_system.processor_architecture");
+MDMP_ASSERT_(offsetof(mdmp_summary_system, processor_level) == 20, "mdmp_summary_system.processor_level");
+MDMP_ASSERT_(offsetof(mdmp_summary_system, processor_revision) == 24, "mdmp_summary_system.processor_revision");
+MDMP_ASSERT_(offsetof(mdmp_summary_system, number_of_processors) == 28, "mdmp_summary_system.number_of_processors");
+MDMP_ASSERT_(offsetof(mdmp_summary_system, product_type) == 32, "mdmp_summary_system.product_type");
+MDMP_ASSERT_(offsetof(mdmp_summary_system, major_version) == 36, "mdmp_summary_system.major_version");
+MDMP_ASSERT_(offsetof(mdmp_summary_system, minor_version) == 40, "mdmp_summary_system.minor_version");
+MDMP_ASSERT_(offsetof(mdmp_summary_system, build_number) == 44, "mdmp_summary_system.build_number");
+MDMP_ASSERT_(offsetof(mdmp_summary_system, platform_id) == 48, "mdmp_summary_system.platform_id");
+MDMP_ASSERT_(offsetof(mdmp_summary_system, suite_mask) == 52, "mdmp_summary_system.suite_mask");
+MDMP_ASSERT_(offsetof(mdmp_summary_system, cpu) == 56, "mdmp_summary_system.cpu");
+MDMP_ASSERT_(offsetof(mdmp_summary_system, reserved) == 80, "mdmp_summary_system.reserved");
+MDMP_ASSERT_(sizeof(mdmp_counts) == 56, "mdmp_counts");
+MDMP_ASSERT_(offsetof(mdmp_counts, streams) == 0, "mdmp_counts.streams");
+MDMP_ASSERT_(offsetof(mdmp_counts, threads) == 8, "mdmp_counts.threads");
+MDMP_ASSERT_(offsetof(mdmp_counts, modules) == 16, "mdmp_counts.modules");
+MDMP_ASSERT_(offsetof(mdmp_counts, exceptions) == 24, "mdmp_counts.exceptions");
+MDMP_ASSERT_(offsetof(mdmp_counts, ranges) == 32, "mdmp_counts.ranges");
+MDMP_ASSERT_(offsetof(mdmp_counts, memory) == 40, "mdmp_counts.memory");
+MDMP_ASSERT_(offsetof(mdmp_counts, memory_high) == 48, "mdmp_counts.memory_high");
+MDMP_ASSERT_(sizeof(mdmp_crash) == 424, "mdmp_crash");
+MDMP_ASSERT_(offsetof(mdmp_crash, exception) == 0, "mdmp_crash.exception");
+MDMP_ASSERT_(offsetof(mdmp_crash, thread_name) == 192, "mdmp_crash.thread_name");
+MDMP_ASSERT_(offsetof(mdmp_crash, address) == 208, "mdmp_crash.address");
+MDMP_ASSERT_(offsetof(mdmp_crash, registers) == 216, "mdmp_crash.registers");
+MDMP_ASSERT_(offsetof(mdmp_crash, module) == 240, "mdmp_crash.module");
+MDMP_ASSERT_(offsetof(mdmp_crash, near) == 320, "mdmp_crash.near");
+MDMP_ASSERT_(offsetof(mdmp_crash, reached) == 400, "mdmp_crash.reached");
+MDMP_ASSERT_(offsetof(mdmp_crash, access) == 408, "mdmp_crash.access");
+MDMP_ASSERT_(offsetof(mdmp_crash, has_registers) == 412, "mdmp_crash.has_registers");
+MDMP_ASSERT_(offsetof(mdmp_crash, has_module) == 416, "mdmp_crash.has_module");
+MDMP_ASSERT_(offsetof(mdmp_crash, has_near) == 420, "mdmp_crash.has_near");
+MDMP_ASSERT_(sizeof(mdmp_summary_record) == 840, "mdmp_summary_record");
+MDMP_ASSERT_(offsetof(mdmp_summary_record, header) == 0, "mdmp_summary_record.header");
+MDMP_ASSERT_(offsetof(mdmp_summary_record, counts) == 40, "mdmp_summary_record.counts");
+MDMP_ASSERT_(offsetof(mdmp_summary_record, bad_entries) == 96, "mdmp_summary_record.bad_entries");
+MDMP_ASSERT_(offsetof(mdmp_summary_record, first_error) == 104, "mdmp_summary_record.first_error");
+MDMP_ASSERT_(offsetof(mdmp_summary_record, parts_outside) == 168, "mdmp_summary_record.parts_outside");
+MDMP_ASSERT_(offsetof(mdmp_summary_record, first_outside) == 176, "mdmp_summary_record.first_outside");
+MDMP_ASSERT_(offsetof(mdmp_summary_record, crash) == 240, "mdmp_summary_record.crash");
+MDMP_ASSERT_(offsetof(mdmp_summary_record, program) == 664, "mdmp_summary_record.program");
+MDMP_ASSERT_(offsetof(mdmp_summary_record, system) == 736, "mdmp_summary_record.system");
+MDMP_ASSERT_(offsetof(mdmp_summary_record, has_crash) == 824, "mdmp_summary_record.has_crash");
+MDMP_ASSERT_(offsetof(mdmp_summary_record, has_program) == 828, "mdmp_summary_record.has_program");
+MDMP_ASSERT_(offsetof(mdmp_summary_record, has_system) == 832, "mdmp_summary_record.has_system");
+MDMP_ASSERT_(offsetof(mdmp_summary_record, reserved) == 836, "mdmp_summary_record.reserved");
 #undef MDMP_ASSERT_
 
 #ifdef __cplusplus

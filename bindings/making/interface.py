@@ -58,6 +58,15 @@ class Structure:
     python_also: list[tuple[str, str, str, str]]
 
     @property
+    def shown(self) -> list[Field]:
+        """The fields that are members of its record: none that is reserved, or the upper half of another."""
+        return [field for field in self.fields if not field.is_reserved and not field.name.endswith("_high")]
+
+    def is_halved(self, field: Field) -> bool:
+        """Whether another field has the upper half of this one."""
+        return any(other.name == f"{field.name}_high" for other in self.fields)
+
+    @property
     def has_record(self) -> bool:
         return self.is_public or self.table is not None
 
@@ -104,6 +113,11 @@ class Interface:
         self.calls: list[Call] = []
         for entry in data["call"]:
             self.calls += self._calls(entry)
+
+    @property
+    def records(self) -> list[Structure]:
+        """The structures that have a record."""
+        return [structure for structure in self.structures.values() if structure.has_record]
 
     @property
     def soname(self) -> str:

@@ -2,6 +2,7 @@
 
 from __future__ import annotations
 
+import re
 import textwrap
 
 from .interface import Argument, Call, Enum, Field, Interface, Structure
@@ -90,17 +91,20 @@ def enum_text(enum: Enum) -> str:
     return "\n".join(lines + [f"    {name} = {number}" for name, number, _ in rows])
 
 
+def bound(structure: Structure, name: str, value: str) -> str:
+    """The value of a member, which has a name where another member is made of it."""
+    is_used = any(re.search(rf"\b{name}\b", also) for _, _, also, _ in structure.python_also)
+    return f"({name} := {value})" if is_used else value
+
+
 def members(interface: Interface, structure: Structure) -> list[tuple[str, str, str, str]]:
     """Of each member of a record: its name, its type, how it comes of the plain structure, and its doc."""
     made = []
-    names = {field.name for field in structure.fields}
-    for field in structure.fields:
+    for field in structure.shown:
         name, raw = field.name, f"raw.{field.name}"
-        if field.is_reserved or name.endswith("_high"):
-            continue
         if field.base == "mdmp_name_place":
             doc = field.doc + "; None if there is none within the limit"
-            made.append((name, "str | None", f"read._name_at({raw})", doc))
+            made.append((name, "str | None", bound(structure, name, f"read._name_at({raw})"), doc))
             made.append((f"{name}_place", "NamePlace", f"NamePlace._of({raw}, read)", "the place of the name"))
         elif field.base in interface.structures:
             face = interface.structures[field.base].face
@@ -110,7 +114,7 @@ def members(interface: Interface, structure: Structure) -> list[tuple[str, str, 
         elif field.count:
             kind = ("bytes", "bytes") if field.base == "u8" else ("tuple[int, ...]", "tuple")
             made.append((name, kind[0], f"{kind[1]}({raw})", field.doc))
-        elif f"{name}_high" in names:
+        elif structure.is_halved(field):
             made.append((name, "int", f"{raw} | raw.{name}_high << 64", field.doc.split(":")[0]))
         else:
             made.append((name, "int", raw, field.doc))
@@ -129,16 +133,15 @@ def record_text(interface: Interface, structure: Structure) -> str:
 
 
 def records_text(interface: Interface) -> str:
-    records = [structure for structure in interface.structures.values() if structure.has_record]
-    names = sorted([enum.face for enum in interface.enums.values()] + [structure.face for structure in records])
+    names = sorted([enum.face for enum in interface.enums.values()] + [structure.face for structure in interface.records])
     return (
         f'"""Records and numbers as programs see them. {MADE}"""\n\n'
         "from __future__ import annotations\n\n"
         "from dataclasses import dataclass\n\n"
-        "from . import _structures\nfrom ._parts import Numbers, Reader, SymbolFile, Version, version\n\n"
+        "from . import _structures\nfrom ._ids import ModuleIds\nfrom ._parts import Numbers, Reader, SymbolFile, Version, version\n\n"
         + "__all__ = [\n" + "".join(f'    "{name}",\n' for name in names) + "]\n\n\n"
         + "\n\n\n".join(enum_text(enum) for enum in interface.enums.values())
         + "\n\n\n"
-        + "\n\n\n".join(record_text(interface, structure) for structure in records)
+        + "\n\n\n".join(record_text(interface, structure) for structure in interface.records)
         + "\n"
     )

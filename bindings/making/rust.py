@@ -137,16 +137,13 @@ def enum_text(enum: Enum) -> str:
 def members(interface: Interface, structure: Structure) -> list[tuple[str, str, str, str]]:
     """Of each member of a record: its name, its type, how it comes of the plain structure, and its doc."""
     made = []
-    names = {field.name for field in structure.fields}
-    for field in structure.fields:
+    for field in structure.shown:
         name, raw = field.name, f"raw.{field.name}"
-        if field.is_reserved or name.endswith("_high"):
-            continue
         if field.base in interface.structures:
             made.append((name, interface.structures[field.base].face, f"{raw}.into()", field.doc))
         elif field.enum:
             made.append((name, field.enum.face, f"{raw}.into()", field.doc))
-        elif f"{name}_high" in names:
+        elif structure.is_halved(field):
             value = f"u128::from({raw}) | u128::from(raw.{name}_high) << 64"
             made.append((name, "u128", value, field.doc.split(":")[0]))
         else:
@@ -168,11 +165,10 @@ def record_text(interface: Interface, structure: Structure) -> str:
 
 
 def records_text(interface: Interface) -> str:
-    records = [structure for structure in interface.structures.values() if structure.has_record]
     return (
         f"//! Records and numbers as programs see them. {MADE}\n\nuse crate::ffi;\n\n"
         + "\n\n".join(enum_text(enum) for enum in interface.enums.values())
         + "\n\n"
-        + "\n\n".join(record_text(interface, structure) for structure in records)
+        + "\n\n".join(record_text(interface, structure) for structure in interface.records)
         + "\n"
     )

@@ -1,4 +1,4 @@
-//! Tests of `mdmp_source`, `mdmp_wire`, `mdmp_map` and `mdmp_index`, by their public calls alone.
+//! Tests of `mdmp_source`, `mdmp_wire`, `mdmp_map`, `mdmp_index` and `mdmp_names`, by their public calls alone.
 //!
 //! A crate with tests is proved twice, so those of the libraries stand in crates on top, which
 //! docs/LAYERS.md names. What is dear to prove of a test is a call with many clauses. So such calls stand
@@ -10,6 +10,8 @@
 mod index;
 #[cfg(test)]
 mod map;
+#[cfg(test)]
+mod names;
 #[cfg(test)]
 mod refusals;
 #[cfg(test)]

@@ -13,3 +13,5 @@ pub mod Judging
 pub mod Worded
 pub mod Parted
 pub mod Listed
+pub mod Summarized
+pub mod Fronts

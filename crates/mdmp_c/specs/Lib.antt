@@ -15,3 +15,7 @@ pub mod Copies
 pub mod Symbols
 pub mod Verdicts
 pub mod TextPart
+pub mod SummaryModules
+pub mod SummaryRows
+pub mod Summary
+pub mod Ids

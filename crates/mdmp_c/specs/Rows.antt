@@ -1,5 +1,6 @@
 -- Records as plain structures.
 use Rattle.std.specs.Prelude.{◌/◌, ◌%◌, ◌^◌, Option, Some, None, replicate}
+use Rattle.mdmp_lister.specs.declared.item.ExceptionItem.{ExceptionItem}
 use Rattle.mdmp_lister.specs.declared.item.Item.{Item}
 use Rattle.mdmp_lister.specs.declared.item.Item.TheVariants as items
 use Rattle.mdmp_c.specs.Places.{extent_number, name_place, part_place}
@@ -60,8 +61,8 @@ unloaded_row (items.Unloaded x) = Some (record {
 })
 unloaded_row item = None
 
-abbrev pub exception_row : Item → Option ExceptionRow
-exception_row (items.Exception x) = Some (record {
+abbrev pub exception_fields : ExceptionItem → ExceptionRow
+exception_fields x = record {
   index = x.index;
   exception_record = x.fields.exception_record;
   exception_address = x.fields.exception_address;
@@ -73,7 +74,10 @@ exception_row (items.Exception x) = Some (record {
   number_parameters = x.fields.number_parameters;
   context = part_place x.fields.thread_context x.context;
   reserved = replicate 3 0;
-})
+}
+
+abbrev pub exception_row : Item → Option ExceptionRow
+exception_row (items.Exception x) = Some (exception_fields x)
 exception_row item = None
 
 abbrev pub system_row : Item → Option SystemRow

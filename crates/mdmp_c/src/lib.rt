@@ -23,6 +23,7 @@ mod fault;
 mod fault_text;
 mod giving;
 mod header_rows;
+mod ids;
 mod index;
 mod limits;
 mod list_part;
@@ -33,6 +34,9 @@ mod parts;
 mod ranging;
 mod records;
 mod rows;
+mod summary;
+mod summary_modules;
+mod summary_rows;
 mod symbols;
 mod table;
 mod text_part;
@@ -48,6 +52,7 @@ pub use crate::directory::{mdmp_header_, mdmp_streams_};
 pub use crate::fault::{NO_FAULT, PlainFault};
 pub use crate::fault_text::mdmp_fault_text_;
 pub use crate::header_rows::{HeaderRow, StreamRow};
+pub use crate::ids::{ModuleIds, mdmp_ids_};
 pub use crate::index::{NO_OWNER, mdmp_index_, mdmp_index_modules_, mdmp_read_index_, mdmp_where_};
 pub use crate::limits::PlainLimits;
 pub use crate::list_part::mdmp_list_part_;
@@ -61,6 +66,9 @@ pub use crate::records::{
 pub use crate::rows::{
     ExceptionRow, ModuleRow, RangeRow, RegionRow, SystemRow, ThreadNameRow, ThreadRow, UnloadedRow,
 };
+pub use crate::summary::mdmp_summary_;
+pub use crate::summary_modules::{PlaceInModuleRow, SummaryModuleRow, SummarySystemRow};
+pub use crate::summary_rows::{CountsRow, CrashRow, RegistersRow, SummaryRow};
 pub use crate::symbols::{Symbols, mdmp_symbols_};
 pub use crate::texts::{mdmp_check_, mdmp_check_json_, mdmp_list_, mdmp_list_json_};
 pub use crate::verdicts::mdmp_verdicts_;

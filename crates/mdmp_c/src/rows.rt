@@ -1,7 +1,9 @@
 //! Records as plain structures, of which a call gives an array.
+ghost use Rattle.std.specs.Prelude.{◌≡◌};
+ghost use Rattle.mdmp_c.specs.Rows.{exception_fields};
 
 use crate::parts::{NamePlace, PartPlace, extent_number, name_place, part_place};
-use mdmp_lister::Item;
+use mdmp_lister::{ExceptionItem, Item};
 use std::mem::size_of;
 
 /// A record of one kind as a plain structure.
@@ -213,6 +215,25 @@ pub struct ExceptionRow {
 
 const _: () = prove!(size_of::<ExceptionRow>() == 192);
 
+/// An exception as a row.
+pub(crate) fn exception_fields(item: &ExceptionItem) -> ExceptionRow
+    ensures { result ≡ exception_fields item.now }
+{
+    ExceptionRow {
+        index: item.index,
+        exception_record: item.fields.exception_record,
+        exception_address: item.fields.exception_address,
+        information: item.fields.exception_information,
+        entry: item.entry,
+        thread_id: item.fields.thread_id,
+        exception_code: item.fields.exception_code,
+        exception_flags: item.fields.exception_flags,
+        number_parameters: item.fields.number_parameters,
+        context: part_place(item.fields.thread_context, item.context),
+        reserved: [0; 3],
+    }
+}
+
 impl PlainRow for ExceptionRow {
     ghost use Rattle.mdmp_c.specs.Rows.{exception_row};
 
@@ -222,19 +243,7 @@ impl PlainRow for ExceptionRow {
         let Item::Exception(item) = item else {
             return None;
         };
-        Some(ExceptionRow {
-            index: item.index,
-            exception_record: item.fields.exception_record,
-            exception_address: item.fields.exception_address,
-            information: item.fields.exception_information,
-            entry: item.entry,
-            thread_id: item.fields.thread_id,
-            exception_code: item.fields.exception_code,
-            exception_flags: item.fields.exception_flags,
-            number_parameters: item.fields.number_parameters,
-            context: part_place(item.fields.thread_context, item.context),
-            reserved: [0; 3],
-        })
+        Some(exception_fields(item))
     }
 }
 

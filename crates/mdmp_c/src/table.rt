@@ -79,7 +79,7 @@ pub(crate) fn tell(
 }
 
 /// The fault at which the rows of a listing end.
-fn list_end(fault: Option<ListFault>) -> PlainFault
+pub(crate) fn list_end(fault: Option<ListFault>) -> PlainFault
     ensures { result ≡ list_told fault }
 {
     match fault {

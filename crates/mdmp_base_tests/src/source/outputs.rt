@@ -2,7 +2,8 @@
 use super::{OutStep, assert_out, assert_taken, patchy_out};
 use crate::same::assert_same;
 use mdmp_source::{OutFailed, WriteOut};
-use std::fs;
+use std::io::Write;
+use std::{fs, io};
 
 /// How many bytes an output in memory takes in all and a call, which call fails, its calls, and what it has taken then.
 type TakenRow = (usize, usize, Option<u64>, &'static [OutStep], &'static [u8]);
@@ -76,4 +77,51 @@ fn write_out_tells_that_a_write_failed(rt: HostRuntime) {
     // The system opens a folder for reading, and refuses each write to it.
     let mut out = WriteOut::new(fs::open(&rt, ".").expect(&rt, "a folder"));
     assert_out(&rt, &mut out, &REFUSED);
+}
+
+/// A writer that takes at most `cap` bytes a call, or fails if there is no cap, and counts what it was handed.
+#[derive(Drop)]
+struct CountingWriter {
+    cap: Option<usize>,
+    /// Its calls, and the bytes that it was handed by all of them together.
+    handed: (u32, usize),
+}
+
+impl CountingWriter {
+    fn new(cap: Option<usize>) -> Self {
+        CountingWriter {
+            cap,
+            handed: (0, 0),
+        }
+    }
+}
+
+impl Write for CountingWriter {
+    fn write(&mut self, buf: &[u8]) -> io::Result<usize> {
+        self.handed.0 = self.handed.0.saturating_add(1);
+        self.handed.1 = self.handed.1.saturating_add(buf.len());
+        match self.cap {
+            Some(cap) => Ok(buf.len().min(cap)),
+            None => Err(io::Error::from(io::ErrorKind::Other)),
+        }
+    }
+
+    fn flush(&mut self) -> io::Result<()> {
+        Ok(())
+    }
+}
+
+#[test]
+fn writer_that_fails_is_asked_once(rt: HostRuntime) {
+    let mut out = WriteOut::new(CountingWriter::new(None));
+    assert_out(&rt, &mut out, &REFUSED);
+    assert_same(&rt, out.into_inner().handed, (3, 6));
+}
+
+#[test]
+fn each_call_hands_over_all_that_is_left(rt: HostRuntime) {
+    let mut out = WriteOut::new(CountingWriter::new(Some(4)));
+    assert_out(&rt, &mut out, &[OutStep::Send(b"abcdefghij", 10)]);
+    // Ten bytes, then six, then two.
+    assert_same(&rt, out.into_inner().handed, (3, 18));
 }

@@ -1,0 +1,98 @@
+-- Why there is no summary.
+use Rattle.std.proofs.Common.{◌≡◌, ◌≤◌, ◌<◌, ◌+◌, ◌^◌, ◌∙◌, ℕ, Bool, List, Option, None, Some, true, false, ap, arith, length, refl, subst, sym}
+use Rattle.std.specs.Prelude.{IsTrue, max, if◌then◌else◌}
+use Rattle.std.proofs.lemmas.Bool.Decides.{nat_tests}
+use Rattle.mdmp_source.specs.Count.{raised}
+use Rattle.mdmp_source.specs.Source.{SourceState}
+use Rattle.mdmp_lister.specs.declared.choice.Choice.TheVariants.{All}
+use Rattle.mdmp_lister.specs.declared.fault.FaultKind.{FaultKind}
+use Rattle.mdmp_lister.specs.declared.fault.FaultKind.TheVariants as kinds
+use Rattle.mdmp_lister.specs.declared.fault.ListFault.{ListFault}
+use Rattle.mdmp_lister.specs.declared.fault.OpenFault.{OpenFault}
+use Rattle.mdmp_lister.specs.declared.fault.OpenFault.TheVariants as opening
+use Rattle.mdmp_lister.specs.declared.limits.Limits.{Limits}
+use Rattle.mdmp_lister.specs.Fault.{IsOfStore}
+use Rattle.mdmp_lister.specs.Format.Refusal.{directory_refusal, range_fault}
+use Rattle.mdmp_lister.specs.Lister.{ListerState, Rooms}
+use Rattle.mdmp_lister.specs.Memory.{IsWalkRefusal, TellsWalkMemory, earlier_fault, is_within, mapped_fault, opening_fault_within, unmapped_fault, walk_fault}
+use Rattle.mdmp_lister.specs.Meter.{IsRefusedFetch, IsUnmade, KeepsTo, is_passed}
+use Rattle.mdmp_lister.specs.Opening.{IsUnread, KeepsToBudget}
+use Rattle.mdmp_summary.specs.Summing.{IsCallFault, IsUnreadIn}
+use Rattle.mdmp_summary.specs.Walking.{IsPassFault, IsSameListing}
+use Rattle.mdmp_summary.specs.declared.summary.SummaryFault.{SummaryFault}
+use Rattle.mdmp_summary.specs.declared.summary.SummaryFault.TheVariants as faults
+use Rattle.mdmp_c.specs.declared.limits.PlainLimits.{PlainLimits}
+use Rattle.mdmp_c.specs.Fault.{open_fault, plain_list_fault}
+use Rattle.mdmp_c.specs.Limits.{AreGiven, reaches_memory}
+use Rattle.mdmp_c.specs.Summary.{IsUnsummarized, of_file, of_limit, of_memory, summary_fault}
+use Rattle.mdmp_c.proofs.Ending.{plain_budget}
+use Rattle.mdmp_c.proofs.Stopping.{budget_passed, is_budget, is_limit, opening_passed}
+
+-- ---- the opening
+
+-- nothing, or the limit of memory
+abbrev IsOfMemory : Option OpenFault → Type 0
+IsOfMemory None = Unit {0}
+IsOfMemory (Some (opening.MemoryLimit held)) = Unit {0}
+IsOfMemory (Some fault) = ⊥
+
+of_memory_only : (within : Bool) (bytes : ℕ) → IsOfMemory (if within then None else Some (opening.MemoryLimit bytes))
+of_memory_only true bytes = tt
+of_memory_only false bytes = tt
+
+-- another fault that keeps a walk from being opened is that of the directory
+of_directory : (d u : Option OpenFault) (fault : OpenFault) → IsOfMemory u → (IsOfMemory (Some fault) → ⊥) → earlier_fault d u ≡ Some fault → d ≡ Some fault
+of_directory (Some f) u fault memory never is = is
+of_directory None u fault memory never is = absurd (never (subst IsOfMemory is memory))
+
+module _ (plain : PlainLimits) (limits : Limits) (F : List ℕ) (given : AreGiven plain limits) where
+  refused : (fault : OpenFault) → (IsOfMemory (Some fault) → ⊥) → walk_fault limits F ≡ Some fault → IsUnsummarized F plain (open_fault fault)
+  refused fault never is = of_file fault (of_directory (directory_refusal F) (unmapped_fault limits F) fault (of_memory_only _ _) never is) refl
+
+  -- the limit of memory keeps a lister from being opened too
+  over_memory : (held : ℕ) → walk_fault limits F ≡ Some (opening.MemoryLimit held) → opening_fault_within limits F All ≡ Some (opening.MemoryLimit held)
+  over_memory held is = ap (λ (w : Option OpenFault). earlier_fault w (earlier_fault (range_fault F All) (mapped_fault limits F All))) is
+
+  pub opening_told : (old : SourceState) (fault : OpenFault) (new : SourceState) → old.store.content ≡ Some F → old.size ≡ length F → old.size < 2 ^ 64
+      → IsWalkRefusal limits F fault → (IsUnread fault → ⊥) → KeepsToBudget limits old fault new → TellsWalkMemory limits old fault new → IsUnsummarized F plain (open_fault fault)
+  opening_told old (opening.Source f) new known size small is read kept over = absurd (read tt)
+  opening_told old (opening.Budget at len) new known size small is read kept over =
+      of_limit (opening_passed plain limits F All None old at len new given known size small tt kept)
+  opening_told old (opening.MemoryLimit held) new known size small is read kept over =
+      of_limit (reaches_memory (is_limit plain.memory limits.memory given.memory (λ none. let more = over.over in let open_end : is_within limits.memory held ≡ true = rw none refl in cc)) held refl limits given (over_memory held is))
+  opening_told old opening.Memory new known size small is read kept over = of_memory refl
+  opening_told old (opening.TooShort n) new known size small is read kept over = refused (opening.TooShort n) (λ never. never) is
+  opening_told old opening.BadSignature new known size small is read kept over = refused opening.BadSignature (λ never. never) is
+  opening_told old (opening.BadVersion low) new known size small is read kept over = refused (opening.BadVersion low) (λ never. never) is
+  opening_told old (opening.DirectoryOutside at len) new known size small is read kept over = refused (opening.DirectoryOutside at len) (λ never. never) is
+  opening_told old (opening.TooManyRanges n) new known size small is read kept over = refused (opening.TooManyRanges n) (λ never. never) is
+
+  -- ---- the passes
+
+  -- more bytes pass a budget too
+  passes_more : (budget : Option ℕ) (n m : ℕ) → n ≤ m → IsTrue (is_passed budget n) → IsTrue (is_passed budget m)
+  passes_more None n m le passes = passes
+  passes_more (Some b) n m le passes = grind (arith, nat_tests, passes)
+
+  -- a pass ended by its budget
+  pass_told : (old new : ListerState) (f : ListFault) → old.counts.budget ≡ limits.budget → old.rooms.window ≡ limits.window → old.limit ≡ limits.name → old.source.size ≡ length F
+      → IsSameListing old new → KeepsTo new.counts.budget new.counts.fetched → IsPassFault old new f → (IsOfStore f.kind → ⊥) → IsUnsummarized F plain (plain_list_fault f)
+  pass_told old new f budget window limit size same keeps told never =
+      let kind : f.kind ≡ kinds.Budget = is_budget f.kind never told.unobtained in
+      let over : IsRefusedFetch (max new.rooms.window new.limit) f.offset f.size new.counts new.source.size =
+      subst (λ (k : FaultKind). IsUnmade (max new.rooms.window new.limit) k f.offset f.size new.counts new.source.size) kind told.look.refused in
+      let given_budget : new.counts.budget ≡ limits.budget = same.budget ∙ budget in
+      let most : raised new.counts.fetched f.size ≤ new.counts.fetched + f.size = omega arith in
+      let passes : IsTrue (is_passed limits.budget (new.counts.fetched + f.size)) =
+      subst (λ (b : Option ℕ). IsTrue (is_passed b (new.counts.fetched + f.size))) given_budget (passes_more new.counts.budget _ _ most over.passes) in
+      let few : f.size ≤ max limits.window limits.name =
+      subst (λ n. f.size ≤ n) (ap (λ n. max n new.limit) (ap (λ (r : Rooms). r.window) same.rooms ∙ window) ∙ ap (max limits.window) (same.limit ∙ limit)) over.few in
+      subst (IsUnsummarized F plain) (sym (plain_budget f kind))
+      (of_limit (budget_passed plain limits F All None new.counts.fetched f.offset f.size new.source.size given
+      (subst (λ (b : Option ℕ). KeepsTo b new.counts.fetched) given_budget keeps) passes tt over.inside (same.same_file.fetches.same_size ∙ size) few))
+
+  pub call_told : (old new : ListerState) (fault : SummaryFault) → old.counts.budget ≡ limits.budget → old.rooms.window ≡ limits.window → old.limit ≡ limits.name → old.source.size ≡ length F
+      → IsSameListing old new → KeepsTo new.counts.budget new.counts.fetched → IsCallFault old new fault → (IsUnreadIn fault → ⊥) → IsUnsummarized F plain (summary_fault fault)
+  call_told old new (faults.Opening f) budget window limit size same keeps told never = absurd told
+  call_told old new (faults.List f) budget window limit size same keeps told never = pass_told old new f budget window limit size same keeps told never
+  call_told old new (faults.Source f) budget window limit size same keeps told never = absurd (never tt)

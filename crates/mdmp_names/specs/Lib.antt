@@ -1,0 +1,11 @@
+pub mod Architectures
+pub mod Exceptions
+pub mod LinuxCodes
+pub mod LinuxSignals
+pub mod MachArmCodes
+pub mod MachCodes
+pub mod MachExceptions
+pub mod MachX86Codes
+pub mod Platforms
+pub mod SiCodes
+pub mod WindowsExceptions
