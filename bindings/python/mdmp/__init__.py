@@ -15,21 +15,25 @@
 `open` maps a file, and `Dump` takes its bytes. An error in the file raises `Fault`, and its `partial` has what precedes
 the error. A dump begins with the limits for files from strangers, `Limits.untrusted()`. If a limit is reached,
 `LimitReached` is raised; `limits=None` lifts all limits. Wrong limits or types raise ValueError. If memory runs out,
-MemoryError is raised. `python -m mdmp FILE` prints the output of `mdmp list --untrusted FILE`.
+MemoryError is raised. `python -m mdmp` has the commands of `mdmp`, with the limits of `--untrusted`.
 """
 
 from ._buffer import Bytes
 from ._dump import Dump, Where, open
 from ._fault import Fault, LimitReached, OutputLimit
+from ._ids import ModuleIds
 from ._library import library as _library
 from ._limits import Limits
 from ._memory import Cells, Memory
 from ._parts import SymbolFile, Version
 from ._records import (
+    Access,
+    Counts,
     ExceptionRecord,
     Extent,
     FaultKind,
     Header,
+    IdKind,
     Module,
     NamePlace,
     NameState,
@@ -37,37 +41,51 @@ from ._records import (
     Place,
     Range,
     Region,
+    Registers,
     Status,
     Stream,
+    SummaryModule,
     SymbolKind,
     System,
     Thread,
     ThreadName,
     UnloadedModule,
 )
+from ._summary import Crash, PlaceInModule, Reached, Summary, SummarySystem
 
 __all__ = [
+    "Access",
     "Bytes",
     "Cells",
+    "Counts",
+    "Crash",
     "Dump",
     "ExceptionRecord",
     "Extent",
     "Fault",
     "FaultKind",
     "Header",
+    "IdKind",
     "LimitReached",
     "Limits",
     "Memory",
     "Module",
+    "ModuleIds",
     "NamePlace",
     "NameState",
     "OutputLimit",
     "Part",
     "Place",
+    "PlaceInModule",
     "Range",
+    "Reached",
     "Region",
+    "Registers",
     "Status",
     "Stream",
+    "Summary",
+    "SummaryModule",
+    "SummarySystem",
     "SymbolFile",
     "SymbolKind",
     "System",

@@ -9,11 +9,12 @@ from uuid import UUID
 from . import _structures
 from ._buffer import Bytes, Lent, bytes_at
 from ._fault import expect_good, output_limit
+from ._ids import ModuleIds, ids_of
 from ._library import Filled, fill, library
 from ._limits import Limits
 from ._output import Counting, row_size
 from ._parts import SymbolFile
-from ._records import Extent, NameState, SymbolKind
+from ._records import Extent, IdKind, NameState, SymbolKind
 
 _T = TypeVar("_T")
 
@@ -123,6 +124,16 @@ class Calls:
         guid = UUID(bytes=bytes(raw.guid)) if kind == SymbolKind.RSDS else None
         signature = bytes(raw.signature) if kind == SymbolKind.OTHER else b""
         return SymbolFile(kind, guid, raw.age, name, raw.name_ended == 1, signature)
+
+    def _ids_of(
+        self, raw: _structures.Module | _structures.SummaryModule, name: str | None, symbols: SymbolFile | None
+    ) -> ModuleIds:
+        """The ids of a module with this name and this symbol file."""
+        row, ids = _structures.Module(), _structures.ModuleIds()
+        row.codeview, row.time_date_stamp, row.size_of_image = raw.codeview, raw.time_date_stamp, raw.size_of_image
+        with self._lent() as (file, size):
+            library.mdmp_ids_(file, size, byref(row), byref(ids))  # it always returns MDMP_OK
+        return ids_of(ids, IdKind(ids.kind), name, symbols)
 
     def _thread_name(self, thread_id: int) -> str | None:
         """The first name that the file has for a thread, or None."""

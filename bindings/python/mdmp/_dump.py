@@ -31,6 +31,7 @@ from ._records import (
     ThreadName,
     UnloadedModule,
 )
+from ._summary import Crash, Summary, summary_of
 
 _PART = 64 << 20
 _WRITTEN = 1 << 20
@@ -154,6 +155,39 @@ class Dump(Calls):
             return tuple(given)
 
         return self._keep("verdicts", make)
+
+    @property
+    def summary(self) -> Summary:
+        """What the dump says of a crash and of itself. It covers all entries, each up to its own error, so an error in an entry
+        hides nothing of the others, and raises no `Fault`. If a limit is reached, there is no summary.
+
+        >>> import mdmp
+        >>> with mdmp.open("crashpad-one.dmp") as dump:
+        ...     summary = dump.summary
+        >>> print(summary.system.platform_id.name, summary.program.name, summary.counts.modules)
+        MD_OS_LINUX /usr/sample/cpad 4
+        """
+
+        def make() -> Summary:
+            raw, fault = _structures.Summary(), _structures.Fault()
+            with self._lent() as (file, size):
+                status = library.mdmp_summary_(file, size, byref(self._plain), byref(raw), byref(fault))
+            expect_good(status, fault)
+            return summary_of(raw, self)
+
+        return self._keep("summary", make)
+
+    @property
+    def crash(self) -> Crash | None:
+        """The crash: the first exception that is one. None if no exception is one.
+
+        >>> import mdmp
+        >>> with mdmp.open("crashpad-one.dmp") as dump:
+        ...     crash = dump.crash
+        >>> print(crash.reason, "in thread", crash.thread_id, crash.thread_name, "at", crash.module)
+        SIGSEGV / SEGV_MAPERR in thread 22570 cpad at /usr/sample/cpad+0x14d8
+        """
+        return self.summary.crash
 
     @property
     def threads(self) -> tuple[Thread, ...]:

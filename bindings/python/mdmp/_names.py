@@ -9,6 +9,7 @@ from ._parts import Numbers
 __all__ = [
     "Architecture",
     "DumpFlags",
+    "ExceptionFlags",
     "LinuxSignal",
     "MachException",
     "MemoryState",
@@ -372,6 +373,19 @@ class DumpFlags(IntFlag):
     MiniDumpWithIptTrace = 0x00400000
     MiniDumpScanInaccessiblePartialPages = 0x00800000
     MiniDumpFilterWriteCombinedMemory = 0x01000000
+
+
+class ExceptionFlags(IntFlag):
+    """The ExceptionFlags of MINIDUMP_EXCEPTION, on Windows."""
+
+    EXCEPTION_NONCONTINUABLE = 0x01
+    EXCEPTION_UNWINDING = 0x02
+    EXCEPTION_EXIT_UNWIND = 0x04
+    EXCEPTION_STACK_INVALID = 0x08
+    EXCEPTION_NESTED_CALL = 0x10
+    EXCEPTION_TARGET_UNWIND = 0x20
+    EXCEPTION_COLLIDED_UNWIND = 0x40
+    EXCEPTION_SOFTWARE_ORIGINATE = 0x80
 
 
 class Protection(IntFlag):

@@ -9,8 +9,9 @@ from typing import Any
 from uuid import UUID
 
 from . import _structures
+from ._ids import ModuleIds
 from ._parts import Reader, SymbolFile
-from ._records import SymbolKind
+from ._records import IdKind, SymbolKind
 
 _PLACE_IN_A_TUPLE = 8
 _BIG = (1 << 32) - 1  # takes as many bytes as any number of 32 bits
@@ -39,6 +40,9 @@ class _NoNames:
     def _symbols_at(self, place: _structures.Place) -> SymbolFile | None:
         return SymbolFile(SymbolKind.RSDS, UUID(int=(1 << 128) - 1), _BIG, b"", True, b"")
 
+    def _ids_of(self, raw: Any, name: str | None, symbols: SymbolFile | None) -> ModuleIds:
+        return ModuleIds(IdKind.ELF, "F" * 40, "f" * 40, bytes(20), True, None, None)
+
     def _thread_name(self, thread_id: int) -> str | None:
         return None
 
@@ -66,6 +70,11 @@ class Counting:
         found = self._read._symbols_at(place)
         self.bytes += 0 if found is None else getsizeof(found.name)
         return found
+
+    def _ids_of(self, raw: Any, name: str | None, symbols: SymbolFile | None) -> ModuleIds:
+        ids = self._read._ids_of(raw, name, symbols)
+        self.bytes += sum(getsizeof(file) for file in (ids.debug_file, ids.code_file) if file is not None)
+        return ids
 
     def _thread_name(self, thread_id: int) -> str | None:
         return self._read._thread_name(thread_id)

@@ -9,6 +9,7 @@ from uuid import UUID
 
 if TYPE_CHECKING:
     from . import _structures
+    from ._ids import ModuleIds
     from ._records import SymbolKind
 
 
@@ -72,6 +73,11 @@ class Reader(Protocol):
 
     def _symbols_at(self, place: _structures.Place) -> SymbolFile | None:
         """A CodeView record, or None if it is not inside the file."""
+
+    def _ids_of(
+        self, raw: _structures.Module | _structures.SummaryModule, name: str | None, symbols: SymbolFile | None
+    ) -> ModuleIds:
+        """The ids of a module with this name and this symbol file."""
 
     def _thread_name(self, thread_id: int) -> str | None:
         """The first name that the file has for a thread, or None."""

@@ -5,13 +5,17 @@ from __future__ import annotations
 from dataclasses import dataclass
 
 from . import _structures
+from ._ids import ModuleIds
 from ._parts import Numbers, Reader, SymbolFile, Version, version
 
 __all__ = [
+    "Access",
+    "Counts",
     "ExceptionRecord",
     "Extent",
     "FaultKind",
     "Header",
+    "IdKind",
     "Module",
     "NamePlace",
     "NameState",
@@ -19,8 +23,10 @@ __all__ = [
     "Place",
     "Range",
     "Region",
+    "Registers",
     "Status",
     "Stream",
+    "SummaryModule",
     "SymbolKind",
     "System",
     "Thread",
@@ -171,6 +177,40 @@ class SymbolKind(Numbers):
     SHORT = 2
 
 
+class IdKind(Numbers):
+    """Which kind of CodeView record the ids of a module are from.
+
+    NONE   no record inside the file, or one that is too short for its kind
+    RSDS   RSDS: identity and age of a PDB file
+    PDB20  NB10: time and age of a file of PDB 2.0
+    ELF    the bytes 4c 45 70 42: the build id of an ELF file
+    OTHER  another kind
+    """
+
+    NONE = 0
+    RSDS = 1
+    PDB20 = 2
+    ELF = 3
+    OTHER = 4
+
+
+class Access(Numbers):
+    """What a thread tried to do at an address when it crashed.
+
+    NONE      the exception does not say that the thread tried to reach an address
+    READ      to read
+    WRITE     to write
+    EXECUTE   to execute
+    NOT_SAID  the exception does not say what
+    """
+
+    NONE = 0
+    READ = 1
+    WRITE = 2
+    EXECUTE = 3
+    NOT_SAID = 4
+
+
 @dataclass(frozen=True, slots=True)
 class Place:
     """The place of a part of a record: MINIDUMP_LOCATION_DESCRIPTOR, and what is there.
@@ -311,6 +351,7 @@ class Module:
     file_version        four numbers
     product_version     four numbers
     symbols             its CodeView record, or None if that is not inside the file
+    ids                 the ids by which symbol servers know it
     """
 
     index: int
@@ -330,15 +371,17 @@ class Module:
     file_version: Version
     product_version: Version
     symbols: SymbolFile | None
+    ids: ModuleIds
 
     @classmethod
     def _of(cls, raw: _structures.Module, read: Reader) -> Module:
         return cls(raw.index, raw.base_of_image, raw.entry, raw.size_of_image, raw.checksum,
             raw.time_date_stamp, raw.file_version_ms, raw.file_version_ls, raw.product_version_ms,
-            raw.product_version_ls, read._name_at(raw.name), NamePlace._of(raw.name, read),
+            raw.product_version_ls, (name := read._name_at(raw.name)), NamePlace._of(raw.name, read),
             Place._of(raw.codeview, read), Place._of(raw.misc, read),
             version(raw.file_version_ms, raw.file_version_ls),
-            version(raw.product_version_ms, raw.product_version_ls), read._symbols_at(raw.codeview))
+            version(raw.product_version_ms, raw.product_version_ls),
+            (symbols := read._symbols_at(raw.codeview)), read._ids_of(raw, name, symbols))
 
 
 @dataclass(frozen=True, slots=True)
@@ -526,3 +569,93 @@ class Range:
     def _of(cls, raw: _structures.Range, read: Reader) -> Range:
         return cls(raw.index, raw.start, raw.size, raw.offset | raw.offset_high << 64, raw.entry,
             Extent(raw.extent))
+
+
+@dataclass(frozen=True, slots=True)
+class Registers:
+    """Where a thread was, by its CPU context.
+
+    instruction  the instruction pointer: Eip, Rip, Pc
+    stack        the stack pointer: Esp, Rsp, Sp
+    frame        the frame pointer: Ebp, Rbp, Fp of ARM64; of ARM the register r11
+    """
+
+    instruction: int
+    stack: int
+    frame: int
+
+    @classmethod
+    def _of(cls, raw: _structures.Registers, read: Reader) -> Registers:
+        return cls(raw.instruction, raw.stack, raw.frame)
+
+
+@dataclass(frozen=True, slots=True)
+class SummaryModule:
+    """A module of a summary: MINIDUMP_MODULE, without its number in the list of modules.
+
+    base_of_image       BaseOfImage, an address of the dumped process
+    name                the name at ModuleNameRva; None if there is none within the limit
+    name_place          the place of the name
+    size_of_image       SizeOfImage, in bytes
+    checksum            CheckSum
+    time_date_stamp     TimeDateStamp, in seconds since 1970
+    file_version_ms     VersionInfo.dwFileVersionMS: the first two of four numbers
+    file_version_ls     VersionInfo.dwFileVersionLS: the last two
+    product_version_ms  VersionInfo.dwProductVersionMS
+    product_version_ls  VersionInfo.dwProductVersionLS
+    codeview            CvRecord: what it says about its symbol file
+    file_version        four numbers
+    product_version     four numbers
+    symbols             its CodeView record, or None if that is not inside the file
+    ids                 the ids by which symbol servers know it
+    """
+
+    base_of_image: int
+    name: str | None
+    name_place: NamePlace
+    size_of_image: int
+    checksum: int
+    time_date_stamp: int
+    file_version_ms: int
+    file_version_ls: int
+    product_version_ms: int
+    product_version_ls: int
+    codeview: Place
+    file_version: Version
+    product_version: Version
+    symbols: SymbolFile | None
+    ids: ModuleIds
+
+    @classmethod
+    def _of(cls, raw: _structures.SummaryModule, read: Reader) -> SummaryModule:
+        return cls(raw.base_of_image, (name := read._name_at(raw.name)), NamePlace._of(raw.name, read),
+            raw.size_of_image, raw.checksum, raw.time_date_stamp, raw.file_version_ms, raw.file_version_ls,
+            raw.product_version_ms, raw.product_version_ls, Place._of(raw.codeview, read),
+            version(raw.file_version_ms, raw.file_version_ls),
+            version(raw.product_version_ms, raw.product_version_ls),
+            (symbols := read._symbols_at(raw.codeview)), read._ids_of(raw, name, symbols))
+
+
+@dataclass(frozen=True, slots=True)
+class Counts:
+    """How many records the entries have, each entry up to its own error.
+
+    streams     entries of the directory
+    threads     threads
+    modules     modules
+    exceptions  exceptions
+    ranges      ranges of memory, of both kinds of memory list
+    memory      bytes of these ranges that are inside the file
+    """
+
+    streams: int
+    threads: int
+    modules: int
+    exceptions: int
+    ranges: int
+    memory: int
+
+    @classmethod
+    def _of(cls, raw: _structures.Counts, read: Reader) -> Counts:
+        return cls(raw.streams, raw.threads, raw.modules, raw.exceptions, raw.ranges,
+            raw.memory | raw.memory_high << 64)

@@ -407,6 +407,208 @@ class SymbolFile(Structure):
     ]
 
 
+class ModuleIds(Structure):
+    """mdmp_module_ids"""
+
+    kind: int
+    age: int
+    guid: Array[c_uint8]
+    signature: int
+    build_id_size: int
+    build_id_cut: int
+    time_date_stamp: int
+    size_of_image: int
+    build_id: Array[c_uint8]
+
+    _fields_ = [
+        ("kind", c_uint32),
+        ("age", c_uint32),
+        ("guid", c_uint8 * 16),
+        ("signature", c_uint32),
+        ("build_id_size", c_uint32),
+        ("build_id_cut", c_uint32),
+        ("time_date_stamp", c_uint32),
+        ("size_of_image", c_uint32),
+        ("build_id", c_uint8 * 20),
+    ]
+
+
+class Registers(Structure):
+    """mdmp_registers"""
+
+    instruction: int
+    stack: int
+    frame: int
+
+    _fields_ = [
+        ("instruction", c_uint64),
+        ("stack", c_uint64),
+        ("frame", c_uint64),
+    ]
+
+
+class SummaryModule(Structure):
+    """mdmp_summary_module"""
+
+    base_of_image: int
+    name: NamePlace
+    size_of_image: int
+    checksum: int
+    time_date_stamp: int
+    file_version_ms: int
+    file_version_ls: int
+    product_version_ms: int
+    product_version_ls: int
+    codeview: Place
+    reserved: int
+
+    _fields_ = [
+        ("base_of_image", c_uint64),
+        ("name", NamePlace),
+        ("size_of_image", c_uint32),
+        ("checksum", c_uint32),
+        ("time_date_stamp", c_uint32),
+        ("file_version_ms", c_uint32),
+        ("file_version_ls", c_uint32),
+        ("product_version_ms", c_uint32),
+        ("product_version_ls", c_uint32),
+        ("codeview", Place),
+        ("reserved", c_uint32),
+    ]
+
+
+class PlaceInModule(Structure):
+    """mdmp_place_in_module"""
+
+    module: SummaryModule
+    offset: int
+
+    _fields_ = [
+        ("module", SummaryModule),
+        ("offset", c_uint64),
+    ]
+
+
+class SummarySystem(Structure):
+    """mdmp_summary_system"""
+
+    csd_version: NamePlace
+    processor_architecture: int
+    processor_level: int
+    processor_revision: int
+    number_of_processors: int
+    product_type: int
+    major_version: int
+    minor_version: int
+    build_number: int
+    platform_id: int
+    suite_mask: int
+    cpu: Array[c_uint8]
+    reserved: Array[c_uint32]
+
+    _fields_ = [
+        ("csd_version", NamePlace),
+        ("processor_architecture", c_uint32),
+        ("processor_level", c_uint32),
+        ("processor_revision", c_uint32),
+        ("number_of_processors", c_uint32),
+        ("product_type", c_uint32),
+        ("major_version", c_uint32),
+        ("minor_version", c_uint32),
+        ("build_number", c_uint32),
+        ("platform_id", c_uint32),
+        ("suite_mask", c_uint32),
+        ("cpu", c_uint8 * 24),
+        ("reserved", c_uint32 * 2),
+    ]
+
+
+class Counts(Structure):
+    """mdmp_counts"""
+
+    streams: int
+    threads: int
+    modules: int
+    exceptions: int
+    ranges: int
+    memory: int
+    memory_high: int
+
+    _fields_ = [
+        ("streams", c_uint64),
+        ("threads", c_uint64),
+        ("modules", c_uint64),
+        ("exceptions", c_uint64),
+        ("ranges", c_uint64),
+        ("memory", c_uint64),
+        ("memory_high", c_uint64),
+    ]
+
+
+class Crash(Structure):
+    """mdmp_crash"""
+
+    exception: ExceptionRecord
+    thread_name: NamePlace
+    address: int
+    registers: Registers
+    module: PlaceInModule
+    near: PlaceInModule
+    reached: int
+    access: int
+    has_registers: int
+    has_module: int
+    has_near: int
+
+    _fields_ = [
+        ("exception", ExceptionRecord),
+        ("thread_name", NamePlace),
+        ("address", c_uint64),
+        ("registers", Registers),
+        ("module", PlaceInModule),
+        ("near", PlaceInModule),
+        ("reached", c_uint64),
+        ("access", c_uint32),
+        ("has_registers", c_uint32),
+        ("has_module", c_uint32),
+        ("has_near", c_uint32),
+    ]
+
+
+class Summary(Structure):
+    """mdmp_summary_record"""
+
+    header: Header
+    counts: Counts
+    bad_entries: int
+    first_error: Fault
+    parts_outside: int
+    first_outside: Fault
+    crash: Crash
+    program: SummaryModule
+    system: SummarySystem
+    has_crash: int
+    has_program: int
+    has_system: int
+    reserved: int
+
+    _fields_ = [
+        ("header", Header),
+        ("counts", Counts),
+        ("bad_entries", c_uint64),
+        ("first_error", Fault),
+        ("parts_outside", c_uint64),
+        ("first_outside", Fault),
+        ("crash", Crash),
+        ("program", SummaryModule),
+        ("system", SummarySystem),
+        ("has_crash", c_uint32),
+        ("has_program", c_uint32),
+        ("has_system", c_uint32),
+        ("reserved", c_uint32),
+    ]
+
+
 # For each structure its size, and the offset of each field.
 LAYOUT: dict[type[Structure], tuple[int, dict[str, int]]] = {
     Limits: (
@@ -487,6 +689,47 @@ LAYOUT: dict[type[Structure], tuple[int, dict[str, int]]] = {
         56,
         {"name_offset": 0, "kind": 8, "age": 12, "name_size": 16, "name_ended": 20, "guid": 24, "signature":
             40, "reserved": 44},
+    ),
+    ModuleIds: (
+        64,
+        {"kind": 0, "age": 4, "guid": 8, "signature": 24, "build_id_size": 28, "build_id_cut": 32,
+            "time_date_stamp": 36, "size_of_image": 40, "build_id": 44},
+    ),
+    Registers: (
+        24,
+        {"instruction": 0, "stack": 8, "frame": 16},
+    ),
+    SummaryModule: (
+        72,
+        {"base_of_image": 0, "name": 8, "size_of_image": 24, "checksum": 28, "time_date_stamp": 32,
+            "file_version_ms": 36, "file_version_ls": 40, "product_version_ms": 44,
+            "product_version_ls": 48, "codeview": 52, "reserved": 68},
+    ),
+    PlaceInModule: (
+        80,
+        {"module": 0, "offset": 72},
+    ),
+    SummarySystem: (
+        88,
+        {"csd_version": 0, "processor_architecture": 16, "processor_level": 20, "processor_revision": 24,
+            "number_of_processors": 28, "product_type": 32, "major_version": 36, "minor_version":
+            40, "build_number": 44, "platform_id": 48, "suite_mask": 52, "cpu": 56, "reserved": 80},
+    ),
+    Counts: (
+        56,
+        {"streams": 0, "threads": 8, "modules": 16, "exceptions": 24, "ranges": 32, "memory": 40,
+            "memory_high": 48},
+    ),
+    Crash: (
+        424,
+        {"exception": 0, "thread_name": 192, "address": 208, "registers": 216, "module": 240, "near": 320,
+            "reached": 400, "access": 408, "has_registers": 412, "has_module": 416, "has_near": 420},
+    ),
+    Summary: (
+        840,
+        {"header": 0, "counts": 40, "bad_entries": 96, "first_error": 104, "parts_outside": 168,
+            "first_outside": 176, "crash": 240, "program": 664, "system": 736, "has_crash": 824,
+            "has_program": 828, "has_system": 832, "reserved": 836},
     ),
 }
 
@@ -744,5 +987,9 @@ def declare(library: CDLL) -> None:
         POINTER(Fault),
     ]
     library.mdmp_symbols_.restype = c_uint32
+    library.mdmp_summary_.argtypes = [c_void_p, c_size_t, POINTER(Limits), POINTER(Summary), POINTER(Fault)]
+    library.mdmp_summary_.restype = c_uint32
+    library.mdmp_ids_.argtypes = [c_void_p, c_size_t, POINTER(Module), POINTER(ModuleIds)]
+    library.mdmp_ids_.restype = c_uint32
     library.mdmp_fault_text_.argtypes = [POINTER(Fault), POINTER(c_uint8), c_size_t, POINTER(c_uint64)]
     library.mdmp_fault_text_.restype = c_uint32

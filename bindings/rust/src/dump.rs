@@ -3,12 +3,14 @@
 use crate::error::{ended, Error};
 use crate::fault::Fault;
 use crate::ffi;
+use crate::ids::{Identified, ModuleIds};
 use crate::limits::Limits;
 use crate::memory::Memory;
 use crate::records::{
     ExceptionRecord, Extent, FaultKind, Header, Module, NamePlace, NameState, Place, Range, Region,
     Stream, SymbolKind, System, Thread, ThreadName, UnloadedModule,
 };
+use crate::summary::{Crash, Summary};
 use std::io;
 use std::mem::size_of;
 
@@ -231,6 +233,50 @@ impl<'a> Dump<'a> {
             Err(Error::Fault(_, verdicts)) if has_all => Ok(verdicts),
             other => other,
         }
+    }
+
+    /// What the dump says of a crash and of itself. It covers all entries, each up to its own error, so an error in an entry
+    /// hides nothing of the others. If a limit is reached, there is no summary.
+    ///
+    /// ```
+    /// # fn main() -> Result<(), Box<dyn std::error::Error>> {
+    /// # std::env::set_current_dir(concat!(env!("CARGO_MANIFEST_DIR"), "/../../crates/mdmp_samples/data"))?;
+    /// let bytes = std::fs::read("crashpad-one.dmp")?;
+    /// let dump = mdmp::Dump::new(&bytes);
+    /// let crash = dump.crash()?.expect("a crash");
+    /// let place = crash.module.expect("a module has the address");
+    /// let name = dump.name(&place.module.name)?.unwrap_or_default();
+    /// assert_eq!(format!("{name}+{:#x}", place.offset), "/usr/sample/cpad+0x14d8");
+    /// # Ok(())
+    /// # }
+    /// ```
+    pub fn summary(&self) -> Result<Summary, Error> {
+        let (mut out, mut fault) = (ffi::Summary::default(), ffi::Fault::default());
+        let status = ffi::mdmp_summary(self.file, &self.plain, &mut out, &mut fault);
+        ended(status, fault, ()).map(|()| out.into())
+    }
+
+    /// The crash: the first exception that is one, or `None` if no exception is one.
+    pub fn crash(&self) -> Result<Option<Crash>, Error> {
+        self.summary().map(|summary| summary.crash)
+    }
+
+    /// The ids by which symbol servers know a module: a [`Module`] or a [`SummaryModule`](crate::SummaryModule).
+    pub fn ids(&self, module: &impl Identified) -> ModuleIds {
+        let place = module.codeview();
+        let row = ffi::Module {
+            codeview: ffi::Place {
+                size: place.size,
+                rva: place.rva,
+                ..ffi::Place::default()
+            },
+            time_date_stamp: module.time_date_stamp(),
+            size_of_image: module.size_of_image(),
+            ..ffi::Module::default()
+        };
+        let mut out = ffi::ModuleIds::default();
+        ffi::mdmp_ids(self.file, &row, &mut out); // it always returns MDMP_OK
+        ModuleIds(out)
     }
 
     /// The text of `mdmp check`: a line for each entry. If an entry is bad, an [`Error::Fault`] has the whole text.

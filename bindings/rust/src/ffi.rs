@@ -237,6 +237,123 @@ pub struct SymbolFile {
     pub reserved: [u32; 3],
 }
 
+/// `mdmp_module_ids`
+#[repr(C)]
+#[derive(Clone, Copy, Debug, Default, PartialEq, Eq)]
+pub struct ModuleIds {
+    pub kind: u32,
+    pub age: u32,
+    pub guid: [u8; 16],
+    pub signature: u32,
+    pub build_id_size: u32,
+    pub build_id_cut: u32,
+    pub time_date_stamp: u32,
+    pub size_of_image: u32,
+    pub build_id: [u8; 20],
+}
+
+/// `mdmp_registers`
+#[repr(C)]
+#[derive(Clone, Copy, Debug, Default, PartialEq, Eq)]
+pub struct Registers {
+    pub instruction: u64,
+    pub stack: u64,
+    pub frame: u64,
+}
+
+/// `mdmp_summary_module`
+#[repr(C)]
+#[derive(Clone, Copy, Debug, Default, PartialEq, Eq)]
+pub struct SummaryModule {
+    pub base_of_image: u64,
+    pub name: NamePlace,
+    pub size_of_image: u32,
+    pub checksum: u32,
+    pub time_date_stamp: u32,
+    pub file_version_ms: u32,
+    pub file_version_ls: u32,
+    pub product_version_ms: u32,
+    pub product_version_ls: u32,
+    pub codeview: Place,
+    pub reserved: u32,
+}
+
+/// `mdmp_place_in_module`
+#[repr(C)]
+#[derive(Clone, Copy, Debug, Default, PartialEq, Eq)]
+pub struct PlaceInModule {
+    pub module: SummaryModule,
+    pub offset: u64,
+}
+
+/// `mdmp_summary_system`
+#[repr(C)]
+#[derive(Clone, Copy, Debug, Default, PartialEq, Eq)]
+pub struct SummarySystem {
+    pub csd_version: NamePlace,
+    pub processor_architecture: u32,
+    pub processor_level: u32,
+    pub processor_revision: u32,
+    pub number_of_processors: u32,
+    pub product_type: u32,
+    pub major_version: u32,
+    pub minor_version: u32,
+    pub build_number: u32,
+    pub platform_id: u32,
+    pub suite_mask: u32,
+    pub cpu: [u8; 24],
+    pub reserved: [u32; 2],
+}
+
+/// `mdmp_counts`
+#[repr(C)]
+#[derive(Clone, Copy, Debug, Default, PartialEq, Eq)]
+pub struct Counts {
+    pub streams: u64,
+    pub threads: u64,
+    pub modules: u64,
+    pub exceptions: u64,
+    pub ranges: u64,
+    pub memory: u64,
+    pub memory_high: u64,
+}
+
+/// `mdmp_crash`
+#[repr(C)]
+#[derive(Clone, Copy, Debug, Default, PartialEq, Eq)]
+pub struct Crash {
+    pub exception: ExceptionRecord,
+    pub thread_name: NamePlace,
+    pub address: u64,
+    pub registers: Registers,
+    pub module: PlaceInModule,
+    pub near: PlaceInModule,
+    pub reached: u64,
+    pub access: u32,
+    pub has_registers: u32,
+    pub has_module: u32,
+    pub has_near: u32,
+}
+
+/// `mdmp_summary_record`
+#[repr(C)]
+#[derive(Clone, Copy, Debug, Default, PartialEq, Eq)]
+pub struct Summary {
+    pub header: Header,
+    pub counts: Counts,
+    pub bad_entries: u64,
+    pub first_error: Fault,
+    pub parts_outside: u64,
+    pub first_outside: Fault,
+    pub crash: Crash,
+    pub program: SummaryModule,
+    pub system: SummarySystem,
+    pub has_crash: u32,
+    pub has_program: u32,
+    pub has_system: u32,
+    pub reserved: u32,
+}
+
 // The layout of the library: no padding, and each field at its offset.
 const _: () = {
     assert!(size_of::<Limits>() == 32);
@@ -383,6 +500,83 @@ const _: () = {
     assert!(offset_of!(SymbolFile, guid) == 24);
     assert!(offset_of!(SymbolFile, signature) == 40);
     assert!(offset_of!(SymbolFile, reserved) == 44);
+    assert!(size_of::<ModuleIds>() == 64);
+    assert!(offset_of!(ModuleIds, kind) == 0);
+    assert!(offset_of!(ModuleIds, age) == 4);
+    assert!(offset_of!(ModuleIds, guid) == 8);
+    assert!(offset_of!(ModuleIds, signature) == 24);
+    assert!(offset_of!(ModuleIds, build_id_size) == 28);
+    assert!(offset_of!(ModuleIds, build_id_cut) == 32);
+    assert!(offset_of!(ModuleIds, time_date_stamp) == 36);
+    assert!(offset_of!(ModuleIds, size_of_image) == 40);
+    assert!(offset_of!(ModuleIds, build_id) == 44);
+    assert!(size_of::<Registers>() == 24);
+    assert!(offset_of!(Registers, instruction) == 0);
+    assert!(offset_of!(Registers, stack) == 8);
+    assert!(offset_of!(Registers, frame) == 16);
+    assert!(size_of::<SummaryModule>() == 72);
+    assert!(offset_of!(SummaryModule, base_of_image) == 0);
+    assert!(offset_of!(SummaryModule, name) == 8);
+    assert!(offset_of!(SummaryModule, size_of_image) == 24);
+    assert!(offset_of!(SummaryModule, checksum) == 28);
+    assert!(offset_of!(SummaryModule, time_date_stamp) == 32);
+    assert!(offset_of!(SummaryModule, file_version_ms) == 36);
+    assert!(offset_of!(SummaryModule, file_version_ls) == 40);
+    assert!(offset_of!(SummaryModule, product_version_ms) == 44);
+    assert!(offset_of!(SummaryModule, product_version_ls) == 48);
+    assert!(offset_of!(SummaryModule, codeview) == 52);
+    assert!(offset_of!(SummaryModule, reserved) == 68);
+    assert!(size_of::<PlaceInModule>() == 80);
+    assert!(offset_of!(PlaceInModule, module) == 0);
+    assert!(offset_of!(PlaceInModule, offset) == 72);
+    assert!(size_of::<SummarySystem>() == 88);
+    assert!(offset_of!(SummarySystem, csd_version) == 0);
+    assert!(offset_of!(SummarySystem, processor_architecture) == 16);
+    assert!(offset_of!(SummarySystem, processor_level) == 20);
+    assert!(offset_of!(SummarySystem, processor_revision) == 24);
+    assert!(offset_of!(SummarySystem, number_of_processors) == 28);
+    assert!(offset_of!(SummarySystem, product_type) == 32);
+    assert!(offset_of!(SummarySystem, major_version) == 36);
+    assert!(offset_of!(SummarySystem, minor_version) == 40);
+    assert!(offset_of!(SummarySystem, build_number) == 44);
+    assert!(offset_of!(SummarySystem, platform_id) == 48);
+    assert!(offset_of!(SummarySystem, suite_mask) == 52);
+    assert!(offset_of!(SummarySystem, cpu) == 56);
+    assert!(offset_of!(SummarySystem, reserved) == 80);
+    assert!(size_of::<Counts>() == 56);
+    assert!(offset_of!(Counts, streams) == 0);
+    assert!(offset_of!(Counts, threads) == 8);
+    assert!(offset_of!(Counts, modules) == 16);
+    assert!(offset_of!(Counts, exceptions) == 24);
+    assert!(offset_of!(Counts, ranges) == 32);
+    assert!(offset_of!(Counts, memory) == 40);
+    assert!(offset_of!(Counts, memory_high) == 48);
+    assert!(size_of::<Crash>() == 424);
+    assert!(offset_of!(Crash, exception) == 0);
+    assert!(offset_of!(Crash, thread_name) == 192);
+    assert!(offset_of!(Crash, address) == 208);
+    assert!(offset_of!(Crash, registers) == 216);
+    assert!(offset_of!(Crash, module) == 240);
+    assert!(offset_of!(Crash, near) == 320);
+    assert!(offset_of!(Crash, reached) == 400);
+    assert!(offset_of!(Crash, access) == 408);
+    assert!(offset_of!(Crash, has_registers) == 412);
+    assert!(offset_of!(Crash, has_module) == 416);
+    assert!(offset_of!(Crash, has_near) == 420);
+    assert!(size_of::<Summary>() == 840);
+    assert!(offset_of!(Summary, header) == 0);
+    assert!(offset_of!(Summary, counts) == 40);
+    assert!(offset_of!(Summary, bad_entries) == 96);
+    assert!(offset_of!(Summary, first_error) == 104);
+    assert!(offset_of!(Summary, parts_outside) == 168);
+    assert!(offset_of!(Summary, first_outside) == 176);
+    assert!(offset_of!(Summary, crash) == 240);
+    assert!(offset_of!(Summary, program) == 664);
+    assert!(offset_of!(Summary, system) == 736);
+    assert!(offset_of!(Summary, has_crash) == 824);
+    assert!(offset_of!(Summary, has_program) == 828);
+    assert!(offset_of!(Summary, has_system) == 832);
+    assert!(offset_of!(Summary, reserved) == 836);
 };
 
 /// What the library exports. The pointers of a call must be of live values, aligned and not NULL. A
@@ -625,6 +819,19 @@ mod symbols {
             place: *const Place,
             out: *mut SymbolFile,
             fault: *mut Fault,
+        ) -> u32;
+        pub fn mdmp_summary_(
+            file: *const u8,
+            file_size: usize,
+            limits: *const Limits,
+            out: *mut Summary,
+            fault: *mut Fault,
+        ) -> u32;
+        pub fn mdmp_ids_(
+            file: *const u8,
+            file_size: usize,
+            module: *const Module,
+            out: *mut ModuleIds,
         ) -> u32;
         pub fn mdmp_fault_text_(
             fault: *const Fault,
@@ -1169,6 +1376,18 @@ pub fn mdmp_symbols(
 ) -> u32 {
     // SAFETY: as `symbols` says.
     unsafe { symbols::mdmp_symbols_(file.as_ptr(), file.len(), limits, place, out, fault) }
+}
+
+/// `mdmp_summary` of mdmp.h
+pub fn mdmp_summary(file: &[u8], limits: &Limits, out: &mut Summary, fault: &mut Fault) -> u32 {
+    // SAFETY: as `symbols` says.
+    unsafe { symbols::mdmp_summary_(file.as_ptr(), file.len(), limits, out, fault) }
+}
+
+/// `mdmp_ids` of mdmp.h
+pub fn mdmp_ids(file: &[u8], module: &Module, out: &mut ModuleIds) -> u32 {
+    // SAFETY: as `symbols` says.
+    unsafe { symbols::mdmp_ids_(file.as_ptr(), file.len(), module, out) }
 }
 
 /// `mdmp_fault_text` of mdmp.h

@@ -31,20 +31,25 @@ mod fault;
 #[allow(unsafe_code, dead_code)]
 // unsafe is only here; each call of the header is declared, used or not
 mod ffi;
+mod ids;
 mod limits;
 mod memory;
 mod records;
+mod summary;
 
 pub use dump::SymbolFile;
 pub use dump::{Dump, Verdict};
 pub use error::Error;
 pub use fault::Fault;
+pub use ids::{Identified, ModuleIds};
 pub use limits::Limits;
 pub use memory::Memory;
 pub use records::{
-    ExceptionRecord, Extent, FaultKind, Header, Module, NamePlace, NameState, Part, Place, Range,
-    Region, Stream, SymbolKind, System, Thread, ThreadName, UnloadedModule,
+    Access, Counts, ExceptionRecord, Extent, FaultKind, Header, IdKind, Module, NamePlace,
+    NameState, Part, Place, Range, Region, Registers, Stream, SummaryModule, SymbolKind, System,
+    Thread, ThreadName, UnloadedModule,
 };
+pub use summary::{Crash, PlaceInModule, Reached, Summary, SummarySystem};
 
 /// The library's version: major, minor and patch.
 pub fn version() -> (u32, u32, u32) {

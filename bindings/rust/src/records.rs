@@ -248,6 +248,68 @@ impl From<u32> for SymbolKind {
     }
 }
 
+/// Which kind of CodeView record the ids of a module are from.
+#[derive(Clone, Copy, Debug, PartialEq, Eq, Hash)]
+#[non_exhaustive]
+pub enum IdKind {
+    /// No record inside the file, or one that is too short for its kind.
+    None,
+    /// RSDS: identity and age of a PDB file.
+    Rsds,
+    /// NB10: time and age of a file of PDB 2.0.
+    Pdb20,
+    /// The bytes 4c 45 70 42: the build id of an ELF file.
+    Elf,
+    /// Another kind.
+    Other,
+    /// A number that this crate has no name for.
+    Unknown(u32),
+}
+
+impl From<u32> for IdKind {
+    fn from(number: u32) -> Self {
+        match number {
+            0 => IdKind::None,
+            1 => IdKind::Rsds,
+            2 => IdKind::Pdb20,
+            3 => IdKind::Elf,
+            4 => IdKind::Other,
+            other => IdKind::Unknown(other),
+        }
+    }
+}
+
+/// What a thread tried to do at an address when it crashed.
+#[derive(Clone, Copy, Debug, PartialEq, Eq, Hash)]
+#[non_exhaustive]
+pub enum Access {
+    /// The exception does not say that the thread tried to reach an address.
+    None,
+    /// To read.
+    Read,
+    /// To write.
+    Write,
+    /// To execute.
+    Execute,
+    /// The exception does not say what.
+    NotSaid,
+    /// A number that this crate has no name for.
+    Unknown(u32),
+}
+
+impl From<u32> for Access {
+    fn from(number: u32) -> Self {
+        match number {
+            0 => Access::None,
+            1 => Access::Read,
+            2 => Access::Write,
+            3 => Access::Execute,
+            4 => Access::NotSaid,
+            other => Access::Unknown(other),
+        }
+    }
+}
+
 /// The place of a part of a record: MINIDUMP_LOCATION_DESCRIPTOR, and what is there.
 #[derive(Clone, Copy, Debug, PartialEq, Eq)]
 #[non_exhaustive]
@@ -670,6 +732,102 @@ impl From<ffi::Range> for Range {
             offset: u128::from(raw.offset) | u128::from(raw.offset_high) << 64,
             entry: raw.entry,
             extent: raw.extent.into(),
+        }
+    }
+}
+
+/// Where a thread was, by its CPU context.
+#[derive(Clone, Copy, Debug, PartialEq, Eq)]
+#[non_exhaustive]
+pub struct Registers {
+    /// The instruction pointer: Eip, Rip, Pc.
+    pub instruction: u64,
+    /// The stack pointer: Esp, Rsp, Sp.
+    pub stack: u64,
+    /// The frame pointer: Ebp, Rbp, Fp of ARM64; of ARM the register r11.
+    pub frame: u64,
+}
+
+impl From<ffi::Registers> for Registers {
+    fn from(raw: ffi::Registers) -> Self {
+        Registers {
+            instruction: raw.instruction,
+            stack: raw.stack,
+            frame: raw.frame,
+        }
+    }
+}
+
+/// A module of a summary: MINIDUMP_MODULE, without its number in the list of modules.
+#[derive(Clone, Copy, Debug, PartialEq, Eq)]
+#[non_exhaustive]
+pub struct SummaryModule {
+    /// BaseOfImage, an address of the dumped process.
+    pub base_of_image: u64,
+    /// The name at ModuleNameRva.
+    pub name: NamePlace,
+    /// SizeOfImage, in bytes.
+    pub size_of_image: u32,
+    /// CheckSum.
+    pub checksum: u32,
+    /// TimeDateStamp, in seconds since 1970.
+    pub time_date_stamp: u32,
+    /// VersionInfo.dwFileVersionMS: the first two of four numbers.
+    pub file_version_ms: u32,
+    /// VersionInfo.dwFileVersionLS: the last two.
+    pub file_version_ls: u32,
+    /// VersionInfo.dwProductVersionMS.
+    pub product_version_ms: u32,
+    /// VersionInfo.dwProductVersionLS.
+    pub product_version_ls: u32,
+    /// CvRecord: what it says about its symbol file.
+    pub codeview: Place,
+}
+
+impl From<ffi::SummaryModule> for SummaryModule {
+    fn from(raw: ffi::SummaryModule) -> Self {
+        SummaryModule {
+            base_of_image: raw.base_of_image,
+            name: raw.name.into(),
+            size_of_image: raw.size_of_image,
+            checksum: raw.checksum,
+            time_date_stamp: raw.time_date_stamp,
+            file_version_ms: raw.file_version_ms,
+            file_version_ls: raw.file_version_ls,
+            product_version_ms: raw.product_version_ms,
+            product_version_ls: raw.product_version_ls,
+            codeview: raw.codeview.into(),
+        }
+    }
+}
+
+/// How many records the entries have, each entry up to its own error.
+#[derive(Clone, Copy, Debug, PartialEq, Eq)]
+#[non_exhaustive]
+pub struct Counts {
+    /// Entries of the directory.
+    pub streams: u64,
+    /// Threads.
+    pub threads: u64,
+    /// Modules.
+    pub modules: u64,
+    /// Exceptions.
+    pub exceptions: u64,
+    /// Ranges of memory, of both kinds of memory list.
+    pub ranges: u64,
+    /// Bytes of these ranges that are inside the file.
+    pub memory: u128,
+}
+
+impl From<ffi::Counts> for Counts {
+    fn from(raw: ffi::Counts) -> Self {
+        Counts {
+            streams: raw.streams,
+            threads: raw.threads,
+            modules: raw.modules,
+            exceptions: raw.exceptions,
+            ranges: raw.ranges,
+            memory: u128::from(raw.memory) | u128::from(raw.memory_high) << 64,
         }
     }
 }

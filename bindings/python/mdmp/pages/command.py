@@ -16,12 +16,13 @@ from __future__ import annotations
 import argparse
 import os
 import sys
-import tempfile
 from typing import Any, Callable
 
 from .. import _dump
-from . import counting, crash, making, reading
+from . import counting, crash, making, output, reading
 from . import day as day_page
+
+_OUT = "the page; - is standard output"
 
 
 class Trouble(Exception):
@@ -39,32 +40,19 @@ def number(words: str) -> int:
     return int(words)
 
 
-def write(path: str, page: str) -> None:
-    """Writes a page, all of it or none."""
-    folder = os.path.dirname(os.path.abspath(path))
+def write(out: str, page: str) -> None:
+    """Writes a page to where the command line wants it."""
     try:
-        with tempfile.NamedTemporaryFile(
-            "w", encoding="utf-8", dir=folder, prefix=".mdmp-", suffix=".html", delete=False
-        ) as made:
-            try:
-                made.write(page)
-                made.flush()
-                mask = os.umask(0)
-                os.umask(mask)
-                os.chmod(made.name, 0o666 & ~mask)
-                os.replace(made.name, path)
-            except BaseException:
-                os.unlink(made.name)
-                raise
+        output.write(out, page)
     except OSError as error:
-        raise Trouble(f"cannot write {path}: {error.strerror}", 3) from None
+        raise Trouble(f"cannot write {out}: {error.strerror}", 3) from None
 
 
 def page(arguments: argparse.Namespace) -> tuple[str, int]:
     """Makes the page of a dump. Returns what is wrong with the dump, and the exit status."""
     making.check()
     try:
-        if os.path.exists(arguments.out) and os.path.samefile(arguments.file, arguments.out):
+        if output.is_one_of(arguments.out, [arguments.file]):
             raise Trouble("the page would take the place of the dump", 2)
         size = os.stat(arguments.file).st_size
         with _dump.open(arguments.file, limits=reading.page_limits(arguments.budget)) as dump:
@@ -72,9 +60,9 @@ def page(arguments: argparse.Namespace) -> tuple[str, int]:
     except (OSError, ValueError):
         raise Trouble(f"cannot open {arguments.file}", 3) from None
     write(arguments.out, made)
-    sentence, quality = crash.verdict(read)
-    status = {"good": 0, "bad": 1, "long": 3}[quality]
-    return sentence if status else "", status
+    badge = crash.badge(read)
+    status = {"good": 0, "outside": 0, "bad": 1, "long": 3}[badge.kind]
+    return badge.words if status else "", status
 
 
 class Progress:
@@ -108,6 +96,8 @@ def day(arguments: argparse.Namespace) -> tuple[str, int]:
         os.scandir(arguments.folder).close()
     except OSError:
         raise Trouble(f"cannot open {arguments.folder}", 3) from None
+    if output.is_one_of(arguments.out, counting.dumps_in(arguments.folder)):
+        raise Trouble("the page would take the place of a dump", 2)
     progress = Progress("dumps", lambda: sum(1 for _ in counting.dumps_in(arguments.folder)))
     counted = counting.count_all(arguments.folder, arguments.workers, arguments.budget, progress.told)
     progress.end()
@@ -133,7 +123,7 @@ def parser() -> argparse.ArgumentParser:
         "page", help="makes a page of a dump", description="Makes an HTML page of a dump, in one file."
     )
     one.add_argument("file", metavar="FILE", help="the dump")
-    one.add_argument("-o", "--out", required=True, metavar="FILE.html", help="the page")
+    one.add_argument("-o", "--out", required=True, metavar="FILE.html", help=_OUT)
     one.add_argument("--rows", type=number, default=500, help="the most rows that a table shows (500)")
     one.add_argument(
         "--budget",
@@ -148,7 +138,7 @@ def parser() -> argparse.ArgumentParser:
         description="Makes an HTML page of all dumps in a folder and in the folders below it.",
     )
     many.add_argument("folder", metavar="FOLDER", help="the folder of the dumps: *.dmp and *.mdmp")
-    many.add_argument("-o", "--out", required=True, metavar="FILE.html", help="the page")
+    many.add_argument("-o", "--out", required=True, metavar="FILE.html", help=_OUT)
     many.add_argument(
         "--workers",
         type=number,

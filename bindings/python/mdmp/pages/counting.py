@@ -7,77 +7,138 @@ from collections import Counter
 from concurrent.futures import FIRST_COMPLETED, Future, ProcessPoolExecutor, wait
 from concurrent.futures.process import BrokenProcessPool
 from dataclasses import dataclass, field
-from typing import Callable, Hashable, Iterator, NamedTuple, Optional
+from typing import Callable, Iterator, NamedTuple, Optional, TypeVar
 
 from .. import _dump
-from .._fault import Fault, OutputLimit
-from .._records import Module, SymbolKind
-from . import tables
-from .reading import BUDGET, Reading, page_limits
+from .._fault import Fault, LimitReached, OutputLimit
+from .._summary import Crash, Summary
+from .._summary_lines import file_part
+from ..names import exception_name
+from . import names
+from .crash import code_id, nearest
+from .reading import BUDGET, page_limits
 
 ENDINGS = (".dmp", ".mdmp")
 # The most bad files that are listed: the first by name.
 LISTED = 500
+# The most dumps of a group that are named: the first by path.
+EXAMPLES = 5
+HOUR, DAY = 3600, 24 * 3600
+# If the crashes are of more hours, they are counted by day alone: times that are no facts would fill the memory.
+MOST_HOURS = 100
+GOOD, OUTSIDE = "good", "parts outside the file"
 _CHUNK = 50
+Key = TypeVar("Key")
 
 
-class Crash(NamedTuple):
-    """The key of a crash: the code, and the module and offset of the address, if a module has it."""
+class Place(NamedTuple):
+    """The key of a crash: the code and its name, the file name of a module, and the offset of the address that ran. If
+    `is_near`, no module has the address, and the module is the one below it. Without a module, the offset is None."""
 
     code: int
+    name: Optional[str]
     module: Optional[str]
     offset: Optional[int]
+    is_near: bool = False
 
 
 class Build(NamedTuple):
-    """The key of a build: the module that has the address of a crash, its version and its debug id."""
+    """The key of a build: the file name of the module that crashed, its version, and its debug id; its code id if it has no
+    debug id."""
 
     module: Optional[str]
     version: str
-    debug_id: str
+    id: str
+
+
+class Code(NamedTuple):
+    """The key of an exception code, with its name on the platform."""
+
+    code: int
+    name: Optional[str]
+
+
+@dataclass
+class Group:
+    """How many dumps there are, the first ones by path, and the first and the last time that is set."""
+
+    count: int = 0
+    paths: list[str] = field(default_factory=list)
+    first: Optional[int] = None
+    last: Optional[int] = None
+
+    def add(self, other: Group) -> None:
+        """Adds other dumps."""
+        self.count += other.count
+        self.paths = sorted(self.paths + other.paths)[:EXAMPLES]
+        firsts = [time for time in (self.first, other.first) if time is not None]
+        lasts = [time for time in (self.last, other.last) if time is not None]
+        self.first, self.last = min(firsts, default=None), max(lasts, default=None)
 
 
 @dataclass
 class Counted:
-    """The counts of some dumps. `first` has the dump of each group that comes first by path."""
+    """The counts of some dumps. Each dump is in one group of `verdicts`, and with a crash in one group of `places`,
+    `codes` and `builds`. `hours` and `days` count crashes by the number of the hour or of the day since 1970; `hours` is
+    empty if there are too many, and `has_hours` False."""
 
     dumps: int = 0
-    without: int = 0
-    crashes: Counter[Crash] = field(default_factory=Counter)
-    builds: Counter[Build] = field(default_factory=Counter)
-    verdicts: Counter[str] = field(default_factory=Counter)
+    places: dict[Place, Group] = field(default_factory=dict)
+    codes: dict[Code, Group] = field(default_factory=dict)
+    builds: dict[Build, Group] = field(default_factory=dict)
+    verdicts: dict[str, Group] = field(default_factory=dict)
+    hours: Counter[int] = field(default_factory=Counter)
+    has_hours: bool = True
+    days: Counter[int] = field(default_factory=Counter)
     bad: dict[str, str] = field(default_factory=dict)
-    first: dict[Hashable, str] = field(default_factory=dict)
+
+    def count_of(self, verdict: str) -> int:
+        """How many dumps have this result."""
+        return self.verdicts[verdict].count if verdict in self.verdicts else 0
+
+    @property
+    def crashes(self) -> int:
+        """How many dumps have a crash."""
+        return sum(group.count for group in self.places.values())
 
     @property
     def bad_count(self) -> int:
-        """How many dumps are not good."""
-        return self.dumps - self.verdicts["good"]
+        """How many dumps have an error."""
+        return self.dumps - self.count_of(GOOD) - self.count_of(OUTSIDE)
 
-    def example(self, group: Hashable, path: str) -> None:
-        """Adds a dump of a group."""
-        self.first[group] = min(path, self.first.get(group, path))
-
-    def judge(self, path: str, verdict: str, words: str = "") -> None:
+    def judge(self, path: str, verdict: str, words: str = "", time: Optional[int] = None) -> None:
         """Adds the result of checking a dump, and what is wrong with it."""
         self.dumps += 1
-        self.verdicts[verdict] += 1
-        self.example(verdict, path)
+        _add(self.verdicts, verdict, Group(1, [path], time, time))
         if words:
             self.bad[path] = words
 
     def add(self, other: Counted) -> None:
         """Adds the counts of other dumps."""
         self.dumps += other.dumps
-        self.without += other.without
-        self.crashes.update(other.crashes)
-        self.builds.update(other.builds)
-        self.verdicts.update(other.verdicts)
-        for group, path in other.first.items():
-            self.example(group, path)
+        _add_all(self.places, other.places)
+        _add_all(self.codes, other.codes)
+        _add_all(self.builds, other.builds)
+        _add_all(self.verdicts, other.verdicts)
+        self.days.update(other.days)
+        self.hours.update(other.hours)
+        self.has_hours = self.has_hours and other.has_hours and len(self.hours) <= MOST_HOURS
+        if not self.has_hours:
+            self.hours.clear()
         self.bad.update(other.bad)
         if len(self.bad) > 2 * LISTED:
             self.bad = dict(sorted(self.bad.items())[:LISTED])
+
+
+def _add(groups: dict[Key, Group], key: Key, group: Group) -> None:
+    if key not in groups:
+        groups[key] = Group()
+    groups[key].add(group)
+
+
+def _add_all(groups: dict[Key, Group], others: dict[Key, Group]) -> None:
+    for key, group in others.items():
+        _add(groups, key, group)
 
 
 def _words_of(fault: Fault) -> str:
@@ -86,39 +147,58 @@ def _words_of(fault: Fault) -> str:
     return fault.kind.name.lower().replace("_", " ")
 
 
-def _build_of(module: Module) -> tuple[Build, int]:
-    """The build of a module, and its first address."""
-    symbols = module.symbols
-    identity = tables.debug_id(symbols) if symbols and symbols.kind == SymbolKind.RSDS else ""
-    return Build(module.name, str(module.file_version), identity), module.base_of_image
+def _place(crash: Crash, code: Code) -> Place:
+    """Where a crash was."""
+    found = nearest(crash)
+    if found is None:
+        return Place(*code, None, None)
+    name = file_part(found.module.name or "")
+    return Place(*code, name, found.offset, crash.module is None)
+
+
+def _build(crash: Crash) -> Build:
+    """The build of the module that crashed."""
+    found = nearest(crash)
+    if found is None:
+        return Build(None, "", "")
+    module = found.module
+    name = file_part(module.name or "")
+    return Build(name, names.version(module.file_version), module.ids.debug_id or code_id(module))
+
+
+def _code(crash: Crash, summary: Summary) -> Code:
+    """The code, and its name without that of the flags."""
+    number = crash.exception.exception_code
+    if summary.system is None:
+        return Code(number, None)
+    return Code(number, exception_name(summary.system.platform_id, number))
 
 
 def _count_one(counted: Counted, path: str, budget: int) -> None:
     with _dump.open(path, limits=page_limits(budget)) as dump:
-        reading = Reading(dump, 0, 0, of_crashes=True)
-        fault = reading.fault or next(
-            (reading.verdict(at) for at in range(reading.verdict_count) if reading.is_bad(at)), None
-        )
-        if reading.is_too_long:
-            counted.judge(path, "limits", "the directory is longer than the limits allow")
-        else:
-            counted.judge(path, _words_of(fault) if fault else "good", str(fault) if fault else "")
-        counted.without += len(reading.exceptions) == 0
-        builds: dict[int, tuple[Build, int]] = {}
-        for row in reading.exceptions.raw():
-            at = reading.holder(row.exception_address)
-            if at is None:
-                crash, build = Crash(row.exception_code, None, None), Build(None, "", "")
-            else:
-                if at not in builds:
-                    builds[at] = _build_of(reading.modules.record(at))
-                build, base = builds[at]
-                crash = Crash(row.exception_code, build.module, row.exception_address - base)
-            counted.crashes[crash] += 1
-            counted.builds[build] += 1
-            counted.example(crash, path)
-            counted.example(build, path)
-            counted.example(crash.code, path)
+        try:
+            summary = dump.summary
+        except LimitReached as reached:
+            counted.judge(path, "limits", f"the file has more than the limits allow: {reached}")
+            return
+        except Fault as fault:
+            counted.judge(path, _words_of(fault), str(fault))
+            return
+    seconds = summary.header.time_date_stamp
+    time = seconds if names.is_time(seconds) else None
+    error = summary.first_error
+    if error:
+        counted.judge(path, _words_of(error), str(error), time)
+    else:
+        counted.judge(path, OUTSIDE if summary.parts_outside else GOOD, "", time)
+    if summary.crash is None:
+        return
+    group, code = Group(1, [path], time, time), _code(summary.crash, summary)
+    _add(counted.codes, code, group)
+    _add(counted.places, _place(summary.crash, code), group)
+    _add(counted.builds, _build(summary.crash), group)
+    if time is not None:
+        counted.hours, counted.days = Counter([time // HOUR]), Counter([time // DAY])
 
 
 def count(paths: list[str], budget: int = BUDGET) -> Counted:

@@ -1,18 +1,19 @@
-"""Facts about the crash, the system and the file of a dump, in words."""
+"""What a page says first: the crash, and the health of the file. And facts about the file, in words."""
 
 from __future__ import annotations
 
-import datetime
-from typing import Any, NamedTuple
+from dataclasses import dataclass, field
+from typing import NamedTuple
 
-from ..names import WindowsException
-from . import names, tables, text
+from .._records import Access, IdKind, Registers, SummaryModule
+from .._summary import Crash, PlaceInModule, Reached, Summary, SummarySystem
+from .._summary_lines import file_part
+from . import names, tables, text, texts
 from .reading import Reading
 
-_SHOWN = 20
-# How memory was accessed, by the first parameter of an access violation or of an error in reading a page.
-_REACHED = {0: "reading", 1: "writing", 8: "executing"}
-_OF_MEMORY = (WindowsException.STATUS_ACCESS_VIOLATION, WindowsException.STATUS_IN_PAGE_ERROR)
+# The most characters of a name in the card.
+_LONGEST = 100
+_ACCESS = {Access.READ: "reading ", Access.WRITE: "writing ", Access.EXECUTE: "executing "}
 
 
 class Fact(NamedTuple):
@@ -22,107 +23,204 @@ class Fact(NamedTuple):
     words: str
 
 
-def module_at(reading: Reading, address: int) -> str:
-    """The module that has an address, and the offset from its base, in words."""
-    at = reading.holder(address)
-    if at is None:
-        return "no module holds it"
-    module = reading.modules.record(at)
-    return f"{text.name(module.name)} + {address - module.base_of_image:#x}"
+class Badge(NamedTuple):
+    """The health of the file in a sentence, and its kind: good, outside (parts lie outside the file), bad or long (more
+    than the limits allow)."""
+
+    words: str
+    kind: str
 
 
-def _thread(reading: Reading, thread_id: int) -> str:
-    name = reading._thread_name(thread_id)
-    listed = thread_id in reading.thread_ids
-    named = f"{thread_id} {text.shortened(name)}" if name else str(thread_id)
-    return named if listed else f"{named}, which the list of threads does not have"
+@dataclass
+class Card:
+    """The crash, or why none is shown: a title and facts. `more` are facts that few readers need."""
+
+    title: str
+    facts: list[Fact] = field(default_factory=list)
+    more: list[Fact] = field(default_factory=list)
+    fault: str = ""
+
+    def kept(self) -> Card:
+        """The card without facts that have no words."""
+        self.facts = [fact for fact in self.facts if fact.words]
+        self.more = [fact for fact in self.more if fact.words]
+        return self
 
 
-def _reason(row: Any) -> list[Fact]:
-    """The parameters, and the access to memory that they name."""
-    given = row.information[: row.number_parameters]
-    facts = []
-    if row.exception_code in _OF_MEMORY and len(given) >= 2:
-        facts.append(Fact("Access", f"{_REACHED.get(given[0], 'reaching')} {text.address(given[1])}"))
-    shown = ", ".join(f"{number:#x}" for number in given)
-    over = f" (it says {text.grouped(row.number_parameters)})" if row.number_parameters > len(row.information) else ""
-    if given:
-        facts.append(Fact("Parameters", shown + over))
-    return facts
+def nearest(crash: Crash) -> PlaceInModule | None:
+    """The module that has the address of a crash, or the one below it, if the address is near enough."""
+    if crash.module or not crash.near or crash.near.offset > names.MOST_OF_IMAGE:
+        return crash.module
+    return crash.near
 
 
-def crashes(reading: Reading) -> list[list[Fact]]:
-    """The facts of each exception. Most dumps of a crash have one."""
-    out = []
-    platform = next((row.platform_id for row in reading.systems.raw(1)), None)
-    for row in reading.exceptions.records(_SHOWN):
-        facts = [
-            Fact("Exception", names.exception_code(row.exception_code, platform)),
-            Fact("Address", text.address(row.exception_address)),
-            Fact("Module", module_at(reading, row.exception_address)),
-            Fact("Thread", _thread(reading, row.thread_id)),
-            *_reason(row),
-            Fact("Flags", f"{row.exception_flags:#x}"),
-            Fact("Registers in the file", tables.place(row.context)),
-        ]
-        if row.exception_record:
-            facts.append(Fact("Exception before it at", text.address(row.exception_record)))
-        out.append(facts)
-    return out
+def file_name(name: str | None) -> str:
+    """The name of a module without folders."""
+    return text.shortened(file_part(name), _LONGEST) if name else "a module without a name"
 
 
-def more_crashes(reading: Reading) -> str:
-    """How many exceptions are not shown."""
-    left = len(reading.exceptions) - _SHOWN
-    return f"{text.of(left, 'more exception')} left out." if left > 0 else ""
+def place(crash: Crash) -> str:
+    """At which offset of a module a crash was, or near which module it was."""
+    found = nearest(crash)
+    if found is None:
+        return f"at {crash.address:#x}, in no module"
+    return f"{'at' if crash.module else 'near'} {file_name(found.module.name)}+{found.offset:#x}"
 
 
-def _time(seconds: int) -> str:
-    moment = datetime.datetime.fromtimestamp(seconds, datetime.timezone.utc)
-    return f"{moment:%Y-%m-%d %H:%M:%S} UTC"
+def _where(reading: Reading, crash: Crash) -> str:
+    """The module with its folders, the offset and the address."""
+    found, address = nearest(crash), text.address(crash.address)
+    ends = " before the error in their list" if reading.modules.fault else ""
+    if found is None:
+        return f"{address}, which no module{ends} has"
+    known = text.name(found.module.name, _LONGEST) if found.module.name else "a module without a name"
+    words = f"{known}+{found.offset:#x} ({address})"
+    return words if crash.module else f"near {words}: no module{ends} has the address"
 
 
-def about(reading: Reading) -> list[Fact]:
-    """The file and the system in which it was made."""
-    facts = [Fact("File", text.in_units(reading.size))]
-    header = reading.header
-    if header:
+def _thread(reading: Reading, crash: Crash) -> str:
+    """The name and the id of the thread."""
+    name, number = crash.thread_name, crash.thread_id
+    words = f"{text.shortened(name, _LONGEST)} ({number})" if name else str(number)
+    return words if number in reading.thread_ids else f"{words}, which the list of threads does not have"
+
+
+def _reached(reached: Reached | None) -> str:
+    """The address that the thread tried to reach."""
+    return f"{_ACCESS.get(reached.access, '')}{text.address(reached.address)}" if reached else ""
+
+
+def _registers(registers: Registers | None) -> str:
+    if registers is None:
+        return ""
+    numbers = [("instruction", registers.instruction), ("stack", registers.stack), ("frame", registers.frame)]
+    return ", ".join(f"{name} {number:#x}" for name, number in numbers)
+
+
+def _parameters(crash: Crash) -> str:
+    given, record = crash.parameters, crash.exception
+    over = f" (it says {text.grouped(record.number_parameters)})" if record.number_parameters > len(given) else ""
+    return ", ".join(f"{number:#x}" for number in given) + over if given else ""
+
+
+def code_id(module: SummaryModule) -> str:
+    """The code id, or nothing if it is made of a time or a size that cannot be true."""
+    if module.ids.kind != IdKind.ELF:
+        is_beyond = module.base_of_image + module.size_of_image > tables.ADDRESSES
+        if names.is_ones(module.time_date_stamp) or is_beyond:
+            return ""
+    return module.ids.code_id or ""
+
+
+def _build(module: SummaryModule, term: str) -> list[Fact]:
+    """A module and its build."""
+    return [
+        Fact(term, text.name(module.name, _LONGEST)),
+        Fact("Version", names.version(module.file_version)),
+        Fact("Debug id", module.ids.debug_id or ""),
+        Fact("Code id", code_id(module)),
+    ]
+
+
+def _builds(summary: Summary) -> list[Fact]:
+    """The build of the module that crashed, or of the program."""
+    crash, program = summary.crash, summary.program
+    found = nearest(crash) if crash else None
+    if found and program and found.module.base_of_image != program.base_of_image:
+        return [*_build(found.module, "Module"), Fact("Program", text.name(program.name, _LONGEST))]
+    return _build(program, "Program") if program else []
+
+
+def _system(system: SummarySystem | None) -> list[Fact]:
+    if system is None:
+        return []
+    version = names.system_version(system.major_version, system.minor_version, system.build_number)
+    platform = " ".join(filter(None, [names.platform(system.platform_id), version]))
+    processors = [names.architecture(system.processor_architecture), names.processors(system.number_of_processors)]
+    return [
+        Fact("System", ", ".join(filter(None, [platform, *processors]))),
+        Fact(names.csd_term(system.platform_id), text.shortened(system.csd_version, _LONGEST) if system.csd_version else ""),
+    ]
+
+
+def _no_crash(reading: Reading, summary: Summary) -> Card:
+    """The card of a dump that has no exception that is a crash, as far as it was read."""
+    if reading.exceptions.fault:
+        return Card("A crash may be missing", fault=f"The list of exceptions ends early: {reading.exceptions.fault}.")
+    count = summary.counts.exceptions
+    if count:
+        words = f"{text.grouped(count)}, of threads that stopped or of a dump that somebody asked for"
+        return Card("No crash in the file", [Fact("Exceptions", words)])
+    return Card("No exception in the file")
+
+
+def _crashed(reading: Reading, summary: Summary, crash: Crash) -> Card:
+    """The card of a crash, without its build and its system."""
+    platform = int(summary.system.platform_id) if summary.system else None
+    record, code = crash.exception, f"{crash.exception.exception_code:#010x}"
+    facts = [
+        Fact("What", f"{code} {crash.reason}" if crash.reason else code),
+        Fact("Where", _where(reading, crash)),
+        Fact("Thread", _thread(reading, crash)),
+        Fact("Reached", _reached(crash.reached)),
+        Fact("Registers", _registers(crash.registers)),
+    ]
+    more = [
+        Fact("Flags", names.exception_flags(record.exception_flags, platform)),
+        Fact("Parameters", _parameters(crash)),
+        Fact("Address of the exception", text.address(record.exception_address)),
+        Fact("Registers in the file", tables.place(record.context)),
+        Fact("Exception before it at", text.address(record.exception_record) if record.exception_record else ""),
+    ]
+    return Card(f"{crash.reason or code} {place(crash)}", facts, more)
+
+
+def card(reading: Reading) -> Card:
+    """The crash: what, where, the thread, what was reached, registers, build, system and time."""
+    summary = reading.summary
+    if summary is None:
+        return Card("A crash may be missing", fault=f"The file was not searched to its end: {reading.summary_fault}.")
+    shown = _crashed(reading, summary, summary.crash) if summary.crash else _no_crash(reading, summary)
+    shown.facts += [
+        *_builds(summary),
+        *_system(summary.system),
+        Fact("Command line", texts.command_line(reading, _LONGEST)),
+        Fact("When", names.time(summary.header.time_date_stamp)),
+    ]
+    return shown.kept()
+
+
+def about_file(reading: Reading) -> list[Fact]:
+    """The file itself."""
+    facts = [Fact("Size", text.in_units(reading.size))]
+    if reading.header:
         facts += [
-            Fact("Written", _time(header.time_date_stamp)),
-            Fact("Entries", text.grouped(header.number_of_streams)),
-            Fact("Flags", f"{header.flags:#018x}"),
+            Fact("Entries", text.grouped(reading.header.number_of_streams)),
+            Fact("Flags", names.dump_flags(reading.header.flags)),
         ]
-    for row in reading.systems.records(1):
-        version = f"{row.major_version}.{row.minor_version}.{row.build_number}"
-        architecture = names.architecture(row.processor_architecture)
-        processors = text.of(row.number_of_processors, "processor")
-        system = f"{names.platform(row.platform_id)} {version}, {architecture}, {processors}"
-        facts.append(Fact("System", system))
-        if row.csd_version:
-            facts.append(Fact("Service pack", text.shortened(row.csd_version)))
     return facts
 
 
-def verdict(reading: Reading) -> tuple[str, str]:
-    """The result of checking the file, in a sentence, and whether the file is good, bad or too long for the limits."""
+def badge(reading: Reading) -> Badge:
+    """The health of the file."""
     if reading.is_too_long and reading.header:
         listed = text.of(reading.header.number_of_streams, "entry", "entries")
-        return (
-            f"The directory has {listed}, more than the limits of a page allow: nothing of them is read.",
-            "long",
-        )
+        words = f"The directory has {listed}, more than the limits of a page allow: nothing of them is read."
+        return Badge(words, "long")
     if reading.reached:
-        return (
-            f"The file has more than the limits of a page allow, and a first part is shown: {reading.reached}.",
-            "long",
-        )
+        words = f"The file has more than the limits of a page allow, and a first part is shown: {reading.reached}."
+        return Badge(words, "long")
     if reading.fault:
-        return f"The file can't be read as a dump: {reading.fault}.", "bad"
+        return Badge(f"The file can't be read as a dump: {reading.fault}.", "bad")
     count = len(reading.streams)
-    entries = f"{text.of(count, 'entry', 'entries')} of the directory"
+    lost = reading.summary.parts_outside if reading.summary else 0
+    outside = f"{text.of(lost, 'part')} {'lies' if lost == 1 else 'lie'} outside the file" if lost else ""
     if reading.bad_count:
-        verb = "is" if reading.bad_count == 1 else "are"
-        return f"{text.grouped(reading.bad_count)} of {entries} {verb} at fault.", "bad"
+        verb = "has" if reading.bad_count == 1 else "have"
+        words = f"{text.grouped(reading.bad_count)} of {text.of(count, 'entry', 'entries')} {verb} an error"
+        return Badge(f"{words}, and {outside}." if outside else f"{words}.", "bad")
+    if outside:
+        return Badge(f"Readable, but {outside}.", "outside")
     if count == 0:
-        return "The file is good, and its directory is empty.", "good"
-    return f"The file is good: {entries}, none at fault.", "good"
+        return Badge("Readable, and its directory is empty.", "good")
+    return Badge(f"Readable: {text.of(count, 'entry', 'entries')}, none with an error.", "good")

@@ -2,25 +2,25 @@
 
 from __future__ import annotations
 
+import datetime
 import os
 import urllib.parse
-from collections import Counter
 from concurrent.futures import ProcessPoolExecutor
 from concurrent.futures.process import BrokenProcessPool
 from dataclasses import dataclass
-from typing import Any, Callable, Hashable
+from typing import Callable, NamedTuple, Optional, TypeVar
 
 from .. import _dump
-from . import bars, making, names, tables, text
-from .counting import Build, Counted, Crash
+from . import counting, making, output, tables, text, times
+from .counting import Counted, Place
 from .reading import BUDGET, page_limits
 from .tables import Column
 
 _NUMBER = "number"
+_Key = TypeVar("_Key")
 
 
-@dataclass
-class Example:
+class Example(NamedTuple):
     """A dump of a group: its path below the folder, and the link to its page, if there is one."""
 
     path: str
@@ -28,16 +28,65 @@ class Example:
 
 
 @dataclass
-class Group:
-    """A section of the page: its bars, and its rows with a dump of each."""
+class Row:
+    """A row of a section. `share` is the part of the whole in percent, and None if the section has no counts."""
+
+    cells: list[str]
+    examples: list[Example]
+    count: str = ""
+    share: Optional[float] = None
+    seen: tuple[str, str] = ("", "")
+
+
+@dataclass
+class Section:
+    """A section of the page. The columns are those of the cells; a column without a word is left out."""
 
     key: str
     title: str
     about: str
     columns: list[Column]
-    rows: list[tuple[list[str], Example]]
+    rows: list[Row]
     left_out: str = ""
-    svg: str = ""
+    is_counted: bool = True
+
+    def __post_init__(self) -> None:
+        used = tables.used_columns(len(self.columns), [row.cells for row in self.rows])
+        self.columns = [self.columns[at] for at in used]
+        for row in self.rows:
+            row.cells = [row.cells[at] for at in used]
+
+    @property
+    def titles(self) -> list[str]:
+        """The titles of all columns."""
+        counts = ["Dumps", "Share", "First seen", "Last seen"] if self.is_counted else []
+        return [*(column.title for column in self.columns), *counts, "For example"]
+
+    @property
+    def show_all(self) -> str:
+        """What the control says that shows the rows after the first ones."""
+        return f"Show all {text.grouped(len(self.rows))} rows" if len(self.rows) > tables.SHOWN else ""
+
+
+def _time(seconds: Optional[int]) -> str:
+    if seconds is None:
+        return ""
+    return f"{datetime.datetime.fromtimestamp(seconds, datetime.timezone.utc):%Y-%m-%d %H:%M}"
+
+
+def _code_words(code: int, name: Optional[str]) -> str:
+    return f"{code:#010x} {name}" if name else f"{code:#010x}"
+
+
+def _module(name: Optional[str]) -> str:
+    return "no module" if name is None else text.shortened(name) if name else "a module without a name"
+
+
+def _place_cells(place: Place) -> list[str]:
+    what = _code_words(place.code, place.name)
+    if place.offset is None:
+        return [what, "no module"]
+    return [what, f"{'near ' if place.is_near else ''}{_module(place.module)}+{place.offset:#x}"]
 
 
 class Day:
@@ -50,132 +99,116 @@ class Day:
     def examples(self) -> list[str]:
         """The dumps that the page names, in order."""
         counted = self.counted
-        counts: list[Counter[Any]] = [counted.crashes, counted.builds, counted.verdicts, self._codes()]
-        groups = [key for table in counts for key, _ in self._ordered(table)[: self.most]]
-        return sorted({counted.first[group] for group in groups} | set(sorted(counted.bad)[: self.most]))
+        named = set(sorted(counted.bad)[: self.most])
+        for paths in (
+            self._named(counted.places),
+            self._named(counted.codes),
+            self._named(counted.builds),
+            self._named(counted.verdicts),
+        ):
+            named.update(paths)
+        return sorted(named)
 
-    def _codes(self) -> Counter[int]:
-        codes: Counter[int] = Counter()
-        for crash, count in self.counted.crashes.items():
-            codes[crash.code] += count
-        return codes
+    def _named(self, groups: dict[_Key, counting.Group]) -> set[str]:
+        return {path for _, group in self._ordered(groups)[: self.most] for path in group.paths}
 
     @staticmethod
-    def _ordered(table: Counter[Any]) -> list[tuple[Any, int]]:
-        return sorted(table.items(), key=lambda item: (-item[1], str(item[0])))
+    def _ordered(groups: dict[_Key, counting.Group]) -> list[tuple[_Key, counting.Group]]:
+        return sorted(groups.items(), key=lambda item: (-item[1].count, str(item[0])))
 
     def _example(self, path: str) -> Example:
         return Example(text.shortened(os.path.relpath(path, self.folder)), self.links.get(path, ""))
 
-    def _group(
+    def _section(
         self,
         key: str,
         title: str,
         about: str,
         columns: list[Column],
-        table: Counter[Any],
-        cells: Callable[[Any], list[str]],
-        words: Callable[[Any], str],
-    ) -> Group:
-        ordered = self._ordered(table)
-        rows = []
-        for group, count in ordered[: self.most]:
-            first: Hashable = group
-            rows.append(([*cells(group), text.grouped(count)], self._example(self.counted.first[first])))
+        groups: dict[_Key, counting.Group],
+        cells: Callable[[_Key], list[str]],
+    ) -> Section:
+        ordered = self._ordered(groups)
+        whole = sum(group.count for group in groups.values())
+        rows = [
+            Row(
+                cells(name),
+                [self._example(path) for path in group.paths],
+                text.grouped(group.count),
+                100 * group.count / whole,
+                (_time(group.first), _time(group.last)),
+            )
+            for name, group in ordered[: self.most]
+        ]
         left_out = tables.left_out(len(ordered) - len(rows), len(ordered), "groups")
-        svg = bars.draw(
-            f"{key}-bars", title, [(words(group), count) for group, count in ordered[:12]], sum(table.values())
-        )
-        return Group(
-            key, title, about, [*columns, Column("Count", _NUMBER), Column("For example")], rows, left_out, svg
-        )
+        return Section(key, title, about, columns, rows, left_out)
 
-    def groups(self) -> list[Group]:
+    def sections(self) -> list[Section]:
         """The sections of the page."""
         counted = self.counted
-
-        def module(name: str | None) -> str:
-            return "no module" if name is None else text.name(name)
-
-        def crash_cells(crash: Crash) -> list[str]:
-            offset = "" if crash.offset is None else f"{crash.offset:#x}"
-            held = "no module" if crash.offset is None else text.name(crash.module)
-            return [names.exception_code(crash.code), held, offset]
-
-        def crash_words(crash: Crash) -> str:
-            held = (
-                "no module"
-                if crash.offset is None
-                else f"{text.visible(text.last_part(crash.module or 'no name'))}+{crash.offset:#x}"
-            )
-            return f"{crash.code:#010x} {held}"
-
-        def build_words(build: Build) -> str:
-            return f"{text.visible(text.last_part(build.module))} {build.version}" if build.module else "no module"
-
         return [
-            self._group(
-                "verdicts",
-                "By verdict",
-                "Each dump once, by the first fault that is found in it.",
-                [Column("Verdict")],
-                counted.verdicts,
-                lambda verdict: [verdict],
-                str,
-            ),
-            self._group(
-                "codes",
-                "By exception code",
-                "Each exception, by its code.",
-                [Column("Code")],
-                self._codes(),
-                lambda code: [names.exception_code(code)],
-                names.exception_code,
-            ),
-            self._group(
+            self._section(
                 "places",
-                "By module and offset",
-                "Each exception, by its code and the module and offset that hold its address.",
-                [Column("Code"), Column("Module"), Column("Offset", "address")],
-                counted.crashes,
-                crash_cells,
-                crash_words,
+                "By code, module and offset",
+                "Each dump with a crash, by the code and the address that ran.",
+                [Column("What", "long"), Column("Where")],
+                counted.places,
+                _place_cells,
             ),
-            self._group(
+            self._section(
                 "builds",
                 "By build",
-                "Each exception, by the version and debug id of the module that holds its address.",
-                [Column("Module"), Column("Version", "one-line"), Column("Debug id", "address")],
+                "Each dump with a crash, by the build of the module that crashed.",
+                [Column("Module"), Column("Version", "whole"), Column("Debug id or code id", "whole address")],
                 counted.builds,
-                lambda build: [module(build.module), build.version, build.debug_id],
-                build_words,
+                lambda build: [_module(build.module), build.version, build.id],
+            ),
+            self._section(
+                "codes",
+                "By code",
+                "Each dump with a crash, by the code of its exception.",
+                [Column("What")],
+                counted.codes,
+                lambda code: [_code_words(code.code, code.name)],
+            ),
+            self._section(
+                "verdicts",
+                "By health of the file",
+                "Each dump, by the first error that is found in it.",
+                [Column("Health")],
+                counted.verdicts,
+                lambda verdict: [verdict],
             ),
         ]
 
-    def bad_group(self) -> Group:
+    def bad_section(self) -> Section:
         """The bad files."""
         paths = sorted(self.counted.bad)[: self.most]
-        rows = [([self.counted.bad[path]], self._example(path)) for path in paths]
+        rows = [Row([self.counted.bad[path]], [self._example(path)]) for path in paths]
         left_out = tables.left_out(self.counted.bad_count - len(rows), self.counted.bad_count, "bad files")
-        return Group(
-            "bad", "Bad files", "What is wrong with each.", [Column("Verdict"), Column("File")], rows, left_out
-        )
+        about = "The first error of each."
+        return Section("bad", "Bad files", about, [Column("Error")], rows, left_out, is_counted=False)
+
+    def sentence(self) -> str:
+        """How many dumps there are, and how good they are."""
+        counted = self.counted
+        good, lost = counted.count_of(counting.GOOD), counted.count_of(counting.OUTSIDE)
+        outside = f", {text.grouped(lost)} with parts outside the file" if lost else ""
+        return f"{text.of(counted.dumps, 'dump')}: {text.grouped(good)} good{outside}, {text.grouped(counted.bad_count)} bad."
 
     def page(self) -> str:
         """The page."""
-        counted, groups, bad = self.counted, self.groups(), self.bad_group()
-        columns = {group.key: [column.title for column in group.columns] for group in [*groups, bad]}
-        good, bad_count = text.grouped(counted.verdicts["good"]), text.grouped(counted.bad_count)
-        sentence = f"{text.of(counted.dumps, 'dump')}: {good} good, {bad_count} bad."
-        exceptions = text.of(sum(counted.crashes.values()), "exception")
-        kinds = text.of(len(counted.crashes), "group")
-        about = f"{exceptions} in {kinds}; {text.of(counted.without, 'dump')} without one."
+        counted, sections, bad = self.counted, self.sections(), self.bad_section()
+        columns = {section.key: section.titles for section in [*sections, bad]}
+        groups = text.of(len(counted.places), "group")
+        without = text.of(counted.dumps - counted.crashes, "dump")
         values = {
             "name": text.shortened(os.path.basename(os.path.abspath(self.folder)) or self.folder),
-            "sentence": sentence,
-            "about": about,
-            "quality": "bad" if counted.bad_count else "good",
-            "groups": groups,
+            "badge": self.sentence(),
+            "kind": "bad" if counted.bad_count else "outside" if counted.count_of(counting.OUTSIDE) else "good",
+            "about": f"{text.of(counted.crashes, 'crash', 'crashes')} in {groups}; {without} without a crash.",
+            "times": times.draw(counted),
+            "sections": sections,
             "bad": bad,
         }
         return making.rendered("day.html", columns, values)
@@ -183,14 +216,12 @@ class Day:
 
 def make_page(path: str, page: str, most: int, budget: int) -> str:
     """Makes the page of a dump of the day, and returns its path, or an empty string if there is none."""
-    from .command import Trouble, write
-
     try:
         size = os.stat(path).st_size
         with _dump.open(path, limits=page_limits(budget)) as dump:
             made, _ = making.page_of(dump, os.path.basename(path), size, most)
-        write(page, made)
-    except (OSError, ValueError, MemoryError, Trouble):
+        output.replace(page, made)
+    except (OSError, ValueError, MemoryError):
         return ""
     return page
 

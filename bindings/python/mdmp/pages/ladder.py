@@ -1,7 +1,8 @@
 """Draws things at their places, from the first place at the top to the last at the bottom, as SVG.
 
 The height of a piece between two borders goes by the logarithm of its length, so 24 bytes can be seen next to 5 GB.
-Things of one sort are in one column. The names are to the right of the columns.
+Things of one sort are in one column. The names are to the right of the columns: each is whole, or left out if it does
+not fit. WIDTH is that of a narrow screen, so that letters are large enough there.
 """
 
 from __future__ import annotations
@@ -15,14 +16,12 @@ from . import text
 from .places import Run
 from .runs import Kinds
 
-WIDTH = 440
-_TOP = 22
-_LINE = 13.5
+WIDTH = 360
+DIGIT = 6.65  # width of a letter of the font of 11 points
+_TOP = 8
+_LINE = 14
 _LONGEST = 1100
-_COLUMN = 36
-_DIGIT = 6.05  # width of a letter of the font of labels
-_NARROW = 5.45  # and of the font of places
-_SHORTEST = 14  # the least letters of a name that are shown if more text follows it
+_COLUMN = 25
 _GAPS = 6  # the most gaps that are labelled
 
 
@@ -34,7 +33,7 @@ class Ladder:
     key: str
     title: str
     about: str
-    columns: list[str]
+    columns: int
     kinds: Kinds
     runs: list[Run]
     place: Callable[[int], str]
@@ -138,9 +137,9 @@ class _Drawing:
         }
         self.borders = sorted(ends)
         self.gaps = [gap for gap in sorted(ladder.gaps, key=_size)[-_GAPS:] if _size(gap) >= 64 and set(gap) <= ends]
-        self.left = max(len(ladder.place(border)) for border in self.borders) * _NARROW + 8
+        self.left = max(len(ladder.place(border)) for border in self.borders) * DIGIT + 8
         self.first = self.left + 10
-        self.right = self.first + _COLUMN * len(ladder.columns)
+        self.right = self.first + _COLUMN * ladder.columns
         self.top = _TOP + (34 if ladder.strip else 0)
         count = len(ladder.runs) + len(ladder.marks) + len(ladder.over) + len(self.gaps)
         places = heights(self.borders, self.is_held, _LINE * count + 20)
@@ -209,33 +208,28 @@ class _Drawing:
 
     def axis(self) -> list[str]:
         """The places of the borders, as many as fit."""
-        shown, last = [], -_LINE
+        shown, last = [], -float(_LINE)
         for border in self.borders:
-            if self.at[border] - last >= 10.5:
+            if self.at[border] - last >= 12.5:
                 last = self.at[border]
-                shown.append(words_at(self.left - 2, last + 3, self.ladder.place(border), "place"))
+                shown.append(words_at(self.left - 2, last + 4, self.ladder.place(border), "place"))
                 shown.append(line(self.left, last, self.first, last, "tick"))
         return shown
 
     def names(self) -> tuple[list[str], list[str]]:
-        """The lines to the names, and the names."""
-        self.labels.sort()
-        heights_of = spread([label.wanted for label in self.labels], _LINE, self.height - 6)
-        room = int((WIDTH - self.right - 20) / _DIGIT)
+        """The lines to the names, and the names that fit."""
+        room = int((WIDTH - self.right - 20) / DIGIT)
+        labels = sorted(label for label in self.labels if text.columns(label.words) <= room)
+        heights_of = spread([label.wanted for label in labels], _LINE, self.height - 6)
         lines, shown = [], []
-        for label, height in zip(self.labels, heights_of):
+        for label, height in zip(labels, heights_of):
             points = [(label.right, label.wanted), (self.right + 6, label.wanted), (self.right + 15, height)]
             joined = " ".join(f"{_number(across)},{_number(down)}" for across, down in points)
             lines.append(f'<polyline points="{joined}" class="leader"/>')
-            tail = label.tail if len(label.tail) + _SHORTEST <= room else ""
-            words = text.fitting(label.words, room - len(tail) - 1 if tail else room)
-            shown.append(words_at(self.right + 18, height + 3.5, words, label.sort, tail))
+            is_tail_shown = text.columns(label.words) + 1 + len(label.tail) <= room
+            tail = label.tail if is_tail_shown else ""
+            shown.append(words_at(self.right + 18, height + 4, label.words, label.sort, tail))
         return lines, shown
-
-    def heads(self) -> list[str]:
-        """The titles of the columns."""
-        titles = enumerate(self.ladder.columns)
-        return [words_at(self.first + _COLUMN * number, self.top - 7, title, "head") for number, title in titles]
 
 
 def draw(ladder: Ladder) -> str:
@@ -244,12 +238,12 @@ def draw(ladder: Ladder) -> str:
         return ""
     drawing = _Drawing(ladder)
     drawing.empty()
-    for number in range(len(ladder.columns)):
+    for number in range(ladder.columns):
         drawing.column(number)
     drawing.over()
     drawing.marks()
     lines, names = drawing.names()
-    parts = [*_strip(ladder), *drawing.heads(), *lines, *drawing.shapes, *drawing.axis(), *names]
+    parts = [*_strip(ladder), *lines, *drawing.shapes, *drawing.axis(), *names]
     inside = _hatch(ladder.key) + "\n".join(parts)
     return framed(ladder.key, ladder.title, ladder.about, drawing.height, ladder.key, inside)
 
@@ -259,7 +253,7 @@ def _strip(ladder: Ladder) -> list[str]:
     size = ladder.strip
     if not size:
         return []
-    shapes = [words_at(0, 10, "to scale, from 0", "head"), words_at(WIDTH, 10, text.of(size, "byte"), "head end")]
+    shapes = [words_at(0, 10, "to scale, from 0", "label"), words_at(WIDTH, 10, text.of(size, "byte"), "label end")]
     shapes.append(rectangle(0, 15, WIDTH, 14, "gap"))
     for run in sorted(ladder.runs, key=lambda run: run.start - run.end):
         start, end = min(run.start, size), min(run.end, size)

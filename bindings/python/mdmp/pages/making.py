@@ -9,7 +9,7 @@ from typing import Any
 
 from .. import __version__
 from .._dump import Dump
-from . import crash, pictures, places, tables, text
+from . import crash, memory_tables, pictures, places, tables, text, texts
 from .reading import Reading
 
 _TEMPLATES = pathlib.Path(__file__).resolve().parent / "templates"
@@ -33,6 +33,7 @@ def _environment() -> Any:
         undefined=StrictUndefined,
         trim_blocks=True,
         lstrip_blocks=True,
+        keep_trailing_newline=True,
     )
 
 
@@ -68,30 +69,37 @@ def rendered(template: str, columns: dict[str, list[str]], values: dict[str, Any
     return str(made)
 
 
+def _without_fault_of_file(reading: Reading, shown: list[tables.Table]) -> list[tables.Table]:
+    """The tables, which do not say again what the page says of the whole file."""
+    for table in shown:
+        if reading.fault and table.fault == str(reading.fault):
+            table.fault = table.empty = ""  # nothing was read: this does not say that there are no rows
+    return shown
+
+
 def page_of(dump: Dump, name: str, size: int, most: int) -> tuple[str, Reading]:
     """The page of a dump whose file has this name and size, with at most `most` rows a table, and what was read."""
     reading = Reading(dump, size, most)
     spans = sorted(places.in_file(reading))  # sorted spans are quick to sort again
-    listed = list(tables.all_tables(reading)) if reading.header and not reading.is_too_long else []
-    verdicts, over = tables.verdicts(reading), pictures.over_table(reading, spans)
-    sentence, quality = crash.verdict(reading)
-    for table in listed:
-        if reading.fault and table.fault == str(reading.fault):
-            table.fault = ""  # the page shows it for the whole file
-    columns = {table.key: [column.title for column in table.columns] for table in [verdicts, over, *listed]}
+    is_listed = reading.header is not None and not reading.is_too_long
+    processes = _without_fault_of_file(reading, tables.of_process(reading)) if is_listed else []
+    memories = _without_fault_of_file(reading, memory_tables.of_memory(reading)) if is_listed else []
+    memories = [table for table in memories if table.rows or table.fault]
+    directory, over = tables.verdicts(reading), pictures.over_table(reading, spans)
+    shown = [*processes, *memories, over, directory]
     values = {
         "name": text.shortened(name),
-        "sentence": sentence,
-        "quality": quality,
-        "is_read": reading.header is not None,
-        "verdicts": verdicts,
-        "crashes": crash.crashes(reading),
-        "more_crashes": crash.more_crashes(reading),
-        "crash_fault": "" if reading.fault else tables.told(reading.exceptions.fault),
-        "about": crash.about(reading),
+        "badge": crash.badge(reading),
+        "card": crash.card(reading) if reading.header else None,
+        "tables": processes,
+        "about_file": crash.about_file(reading),
         "file": pictures.of_file(reading, spans),
         "memory": pictures.of_memory(reading),
+        "memory_tables": memories,
         "over": over,
-        "tables": listed,
+        "texts": texts.all_texts(reading),
+        "directory": directory,
+        "bad_entries": reading.bad_count,
     }
+    columns = {table.key: [column.title for column in table.columns] for table in shown}
     return rendered("page.html", columns, values), reading

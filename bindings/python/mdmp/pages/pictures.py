@@ -51,7 +51,8 @@ def _over_words(over: list[tuple[int, int]]) -> str:
 
 def of_file(reading: Reading, spans: list[Span]) -> Picture:
     """The file from its first byte to its last, and what its numbers say about bytes after the end."""
-    over, gaps = places.over_another(spans), places.gaps(spans, reading.size)
+    over = places.over_another(places.within(spans, reading.size))  # no byte lies after the end
+    gaps = places.gaps(spans, reading.size)
     found = runs(spans, _MOST, FILE_KINDS, lambda span: places.label_in_file(reading, span))
     size = sum(end - start for start, end in gaps)
     about = [f"{text.in_units(reading.size)}: {_counted(spans, FILE_KINDS)}.", _over_words(over)]
@@ -65,7 +66,7 @@ def of_file(reading: Reading, spans: list[Span]) -> Picture:
         key="file",
         title="The file, from its first byte to its last",
         about=words,
-        columns=["streams", "parts", "names"],
+        columns=3,
         kinds=FILE_KINDS,
         runs=found,
         place=str,
@@ -80,32 +81,34 @@ def of_file(reading: Reading, spans: list[Span]) -> Picture:
 
 def of_memory(reading: Reading) -> Picture:
     """The memory of the process: modules, stacks, and the ranges whose bytes the file has."""
-    spans = list(places.in_memory(reading))
+    spans, beyond = places.in_memory(reading)
     # ranges contain stacks, and may contain bytes of modules: only modules should not overlap
     over = places.over_another([span for span in spans if span.kind == "module"])
     found = runs(spans, _MOST, ADDRESS_KINDS, lambda span: places.label_in_memory(reading, span))
-    marks = [(row.exception_address, "address of the exception", "crash") for row in reading.exceptions.raw(3)]
+    marks = [(reading.crash.address, "crash", "crash")] if reading.crash else []
     told = _over_words(over).replace("thing", "module") if over else "No module lies over another."
-    words = f"{_counted(spans, ADDRESS_KINDS)}. {told}{places.not_drawn(reading)}"
+    words = f"{_counted(spans, ADDRESS_KINDS)}. {told}{places.not_drawn(reading)}" if spans else ""
+    if beyond:
+        words += f" Left out: {text.of(beyond, 'thing')} whose size passes the last address."
     ladder = Ladder(
         key="memory",
         title="Memory of the process, from low addresses to high",
         about=words,
-        columns=["modules", "stacks", "ranges"],
+        columns=3,
         kinds=ADDRESS_KINDS,
         runs=found,
-        place=text.address,
+        place=text.short_address,
         tail=lambda run: text.about(run.end - run.start),
         over=joined(over, _MOST_OVER),
         over_columns=1,
         marks=marks,
     )
-    return Picture(draw(ladder), words, _key(found, ADDRESS_KINDS, bool(over), bool(found)))
+    return Picture(draw(ladder), words.strip(), _key(found, ADDRESS_KINDS, bool(over), bool(found)))
 
 
 def over_table(reading: Reading, spans: list[Span]) -> tables.Table:
     """The overlaps in the file."""
-    found = list(places.pairs(spans, reading.most + 1))
+    found = list(places.pairs(places.within(spans, reading.size), reading.most + 1))
     label: Callable[[Span], str] = lambda span: places.label_in_file(reading, span)
     rows = []
     for first, second in found[: reading.most]:

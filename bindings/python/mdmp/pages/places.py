@@ -130,11 +130,11 @@ def in_file(reading: Reading) -> Iterator[Span]:
 def _addresses(rows: Iterator[tuple[int, ...]], kind: str) -> Iterator[Span]:
     """The addresses of the first records: for each its first address and how many there are."""
     for which, (first, count) in enumerate(rows):
-        yield Span(first, min(first + count, _END), kind, which)
+        yield Span(first, first + count, kind, which)
 
 
-def in_memory(reading: Reading) -> Iterator[Span]:
-    """The things in memory and their addresses, which end at 2^64 - 1 and do not wrap."""
+def _things(reading: Reading) -> Iterator[Span]:
+    """The things in memory by the numbers of the file, also if they pass the last address."""
     most = most_drawn(reading)
     image = ("base_of_image", "size_of_image")
     yield from _addresses(reading.modules.members(*image, most=most), "module")
@@ -142,7 +142,15 @@ def in_memory(reading: Reading) -> Iterator[Span]:
     yield from _addresses(reading.threads.members("stack_start", "stack.size", most=most), "stack")
     for at, (start, size, extent) in enumerate(reading.ranges.members("start", "size", "extent", most=most)):
         if extent == _INSIDE:
-            yield Span(start, min(start + size, _END), "range", at)
+            yield Span(start, start + size, "range", at)
+
+
+def in_memory(reading: Reading) -> tuple[list[Span], int]:
+    """The things in memory and their addresses; and how many things pass the last address, which are left out: their
+    numbers cannot be true."""
+    spans = list(_things(reading))
+    within_memory = [span for span in spans if span.end <= _END]
+    return within_memory, len(spans) - len(within_memory)
 
 
 def not_drawn(reading: Reading) -> str:
@@ -162,11 +170,7 @@ def label_in_file(reading: Reading, span: Span) -> str:
         return f"name “{_name_text(reading, span)}”"
     if span.kind in ("stack", "context"):
         word = "stack" if span.kind == "stack" else "registers"
-        return (
-            f"{word} of thread {next_raw(reading.threads, span.which).thread_id}"
-            if span.which >= 0
-            else "registers as it crashed"
-        )
+        return f"{word} of {_thread(reading, span.which)}" if span.which >= 0 else "registers as it crashed"
     return f"{FILE_KINDS[span.kind][1]} {span.which}"
 
 
@@ -179,8 +183,15 @@ def label_in_memory(reading: Reading, span: Span) -> str:
             text.visible(text.last_part(name)[:200]) if name else f"module {span.which}"
         )
     if span.kind == "stack":
-        return f"stack of thread {next_raw(reading.threads, span.which).thread_id}"
+        return _thread(reading, span.which)
     return f"range {span.which}"
+
+
+def _thread(reading: Reading, which: int) -> str:
+    """The name of a thread, or its id."""
+    thread_id = next_raw(reading.threads, which).thread_id
+    name = reading._thread_name(thread_id)
+    return text.visible(name[:200]) if name else str(thread_id)
 
 
 def next_raw(listing: Any, at: int) -> Any:
@@ -199,23 +210,26 @@ def _name_text(reading: Reading, span: Span) -> str:
 # ---- overlaps
 
 
+def within(spans: list[Span], end: int) -> list[Span]:
+    """The parts of spans that lie before an end."""
+    return [span if span.end <= end else span._replace(end=end) for span in spans if span.start < end]
+
+
 def over_another(spans: list[Span]) -> list[tuple[int, int]]:
     """The stretches that more than one thing has, in order. Things at exactly one place count as one."""
-    events: list[tuple[int, int]] = []
-    for start, end in {(span.start, span.end) for span in spans if span.end > span.start}:
-        events += [(start, 1), (end, -1)]
-    events.sort()
     stretches: list[tuple[int, int]] = []
-    depth = begin = 0
-    for at, step in events:
-        if depth >= 2 and depth + step < 2 and at > begin:
-            if stretches and stretches[-1][1] == begin:
-                stretches[-1] = (stretches[-1][0], at)
+    place, reached = (-1, -1), 0  # `reached` is the greatest end before a span: the bytes up to it have a thing already
+    for start, end, _, _ in sorted(spans):
+        if place == (start, end):
+            continue
+        place = (start, end)
+        stop = min(end, reached)
+        if stop > start:
+            if stretches and stretches[-1][1] >= start:
+                stretches[-1] = (stretches[-1][0], max(stop, stretches[-1][1]))
             else:
-                stretches.append((begin, at))
-        if depth < 2 <= depth + step:
-            begin = at
-        depth += step
+                stretches.append((start, stop))
+        reached = max(reached, end)
     return stretches
 
 

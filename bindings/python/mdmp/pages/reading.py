@@ -10,6 +10,7 @@ from itertools import islice
 from typing import Any, Iterator
 
 from .. import _structures
+from .._buffer import bytes_at
 from .._calls import some_records
 from .._dump import Dump
 from .._fault import Fault, LimitReached, expect_good, fault_of, output_limit
@@ -29,6 +30,7 @@ from .._records import (
     ThreadName,
     UnloadedModule,
 )
+from .._summary import Crash, Summary
 
 # The most bytes of the file that are read for one list. The lists of 200,000 modules need half of them.
 BUDGET = _structures.UNTRUSTED
@@ -100,10 +102,10 @@ class Listing:
 class Reading:
     """A dump that is read for a page."""
 
-    def __init__(self, dump: Dump, size: int, most: int, of_crashes: bool = False) -> None:
-        """`size` is the size of the file, and `most` the most rows that a table shows. If `of_crashes`, only modules,
-        exceptions and the results of checking are read. All lists together keep at most as many bytes as `output` of
-        the dump's limits. If an address is looked for, an index takes at most 64 bytes more for each module."""
+    def __init__(self, dump: Dump, size: int, most: int) -> None:
+        """`size` is the size of the file, and `most` the most rows that a table shows. All lists together keep at most as
+        many bytes as `output` of the dump's limits. If an address is looked for, an index takes at most 64 bytes more for
+        each module."""
         self.dump, self.size, self.most = dump, size, most
         self._room = dump.limits.output
         self.lists: list[Listing] = []
@@ -125,8 +127,6 @@ class Reading:
         self.verdict_count = self.bad_count = 0
         if not self.is_too_long:
             self._read_verdicts(limits)
-        if of_crashes:
-            return
         self.streams = Listing(self, library.mdmp_streams_, Stream)
         self.threads = Listing(self, library.mdmp_threads_, Thread, limits)
         self.systems = Listing(self, library.mdmp_systems_, System, limits)
@@ -170,10 +170,32 @@ class Reading:
             self.fault = self.fault or fault
             self.bad_count = sum(1 for at in range(self.verdict_count) if self._verdicts[at].kind)
 
+    @cached_property
+    def _summary(self) -> Summary | Fault:
+        try:
+            return self.dump.summary
+        except Fault as fault:
+            return fault
+
+    @property
+    def summary(self) -> Summary | None:
+        """The summary; None if the file is no dump, or if a limit is reached."""
+        return self._summary if isinstance(self._summary, Summary) else None
+
+    @property
+    def summary_fault(self) -> Fault | None:
+        """The error that there is in place of the summary."""
+        return self._summary if isinstance(self._summary, Fault) else None
+
+    @property
+    def crash(self) -> Crash | None:
+        """The crash."""
+        return self.summary.crash if self.summary else None
+
     @property
     def reached(self) -> LimitReached | None:
         """The error of the first limit that was reached, or None."""
-        faults = [self.fault, *(listing.fault for listing in self.lists)]
+        faults = [self.fault, *(listing.fault for listing in self.lists), self.summary_fault]
         return next((fault for fault in faults if isinstance(fault, LimitReached)), None)
 
     def _name_threads(self) -> None:
@@ -190,6 +212,11 @@ class Reading:
     def thread_ids(self) -> set[int]:
         """The threads that the file lists."""
         return {thread_id for (thread_id,) in self.threads.members("thread_id")}
+
+    def bytes_at(self, rva: int, size: int) -> bytes:
+        """Bytes of the file, as far as they are in it."""
+        with self.dump._lent() as (file, file_size):
+            return bytes_at(file + rva, min(size, file_size - rva)) if rva < file_size else b""
 
     def verdict(self, entry: int) -> Fault | None:
         """The first error of an entry, or None."""
@@ -213,6 +240,9 @@ class Reading:
 
     def _symbols_at(self, place: Any) -> Any:
         return self.dump._symbols_at(place)
+
+    def _ids_of(self, raw: Any, name: str | None, symbols: Any) -> Any:
+        return self.dump._ids_of(raw, name, symbols)
 
     def _thread_name(self, thread_id: int) -> str | None:
         return self._names.get(thread_id)

@@ -1,13 +1,12 @@
-"""The tables of a page. Each has its first rows, and says how many it leaves out."""
+"""The tables of a page. Each has its first rows, and says how many it leaves out. A column without a word is left out."""
 
 from __future__ import annotations
 
 from dataclasses import dataclass, field
-from typing import Iterator, NamedTuple
+from typing import NamedTuple
 
 from .._fault import Fault
-from .._parts import SymbolFile
-from .._records import Extent, Place, SymbolKind
+from .._records import Extent, Module, Place, SymbolKind
 from ..names import StreamType
 from . import names, text
 from .reading import Listing, Reading
@@ -16,6 +15,11 @@ from .reading import Listing, Reading
 def left_out(left: int, count: int, what: str) -> str:
     """How many rows a table leaves out, in a sentence."""
     return f"Left out of this table: {text.grouped(left)} of {text.grouped(count)} {what}." if left > 0 else ""
+
+
+def used_columns(count: int, rows: list[list[str]]) -> list[int]:
+    """Which of so many columns have a word in a row. Without rows, all count."""
+    return [at for at in range(count) if not rows or any(cells[at] for cells in rows)]
 
 
 class Column(NamedTuple):
@@ -34,7 +38,8 @@ class Row(NamedTuple):
 
 @dataclass
 class Table:
-    """A table. `count` is how many rows there would be, `fault` the error that ends the list, `note` a remark."""
+    """A table. `count` is how many rows there would be, `fault` the error that ends the list, `note` a remark. `what` are
+    the rows. The page shows `SHOWN` rows, and the others when somebody asks for them."""
 
     key: str
     title: str
@@ -46,12 +51,29 @@ class Table:
     empty: str = ""
     what: str = field(default="rows")
 
+    def __post_init__(self) -> None:
+        used = used_columns(len(self.columns), [row.cells for row in self.rows])
+        if len(used) < len(self.columns):
+            self.columns = [self.columns[at] for at in used]
+            self.rows = [Row([row.cells[at] for at in used], row.mark) for row in self.rows]
+
     @property
     def left_out(self) -> str:
-        """How many rows are not shown, in a sentence."""
+        """How many rows are not in the page, in a sentence."""
         return left_out(self.count - len(self.rows), self.count, self.what)
 
+    @property
+    def show_all(self) -> str:
+        """What the control says that shows the rows after the first ones; nothing if there are none."""
+        if len(self.rows) <= SHOWN:
+            return ""
+        every = "all" if self.count <= len(self.rows) else "the first"
+        return f"Show {every} {text.grouped(len(self.rows))} {self.what}"
 
+
+# How many rows a table shows at first. The style of a page has this number too.
+SHOWN = 20
+ADDRESSES = 1 << 64
 NUMBER, ADDRESS, WORDS = "number", "address", "words"
 
 
@@ -69,12 +91,13 @@ def place(found: Place) -> str:
     return f"{'inside' if found.extent == Extent.INSIDE else 'outside'} {found.size}@{found.rva}"
 
 
-def debug_id(symbols: SymbolFile | None) -> str:
-    """The id that a symbol store is asked for, or the kind of the record."""
+def debug_id(module: Module) -> str:
+    """The debug id of a module; without one, the kind of its CodeView record, or nothing if there is no record."""
+    if module.ids.debug_id:
+        return module.ids.debug_id
+    symbols = module.symbols
     if symbols is None:
-        return "none"
-    if symbols.kind == SymbolKind.RSDS and symbols.guid is not None:
-        return f"{symbols.guid.hex.upper()}{symbols.age:X}"
+        return ""
     return f"of another kind: {symbols.signature.hex()}" if symbols.kind == SymbolKind.OTHER else "too short"
 
 
@@ -110,7 +133,7 @@ def verdicts(reading: Reading) -> Table:
     ]
     return Table(
         "verdicts",
-        "Verdicts",
+        "Directory",
         columns,
         rows,
         len(reading.streams),
@@ -119,27 +142,50 @@ def verdicts(reading: Reading) -> Table:
     )
 
 
+def size_of(base: int, size: int) -> str:
+    """The size of a module or a region, or nothing if it would end after the last address."""
+    return "" if base + size > ADDRESSES else text.grouped(size)
+
+
+def _with_first(first: list[int], count: int, most: int) -> list[int]:
+    """The numbers of the rows that are shown: some first, and then the others in their order."""
+    shown = first[:most]
+    is_first = set(shown)
+    for at in range(min(count, most)):
+        if len(shown) == most:
+            break
+        if at not in is_first:
+            shown.append(at)
+    return shown
+
+
 def threads(reading: Reading) -> Table:
-    crashed = {row.thread_id for row in reading.exceptions.raw(reading.most)}
+    """The threads. The one that crashed is the first."""
+    crashed = reading.crash.thread_id if reading.crash else None
+    ids = [thread_id for (thread_id,) in reading.threads.members("thread_id")]
+    first = [at for at, thread_id in enumerate(ids) if thread_id == crashed]
     rows = []
-    for row in reading.threads.records(reading.most):
-        stack = text.address(row.stack_start)
+    for row in map(reading.threads.record, _with_first(first, len(ids), reading.most)):
+        is_crashed = row.thread_id == crashed
+        classes = [names.told(row.priority_class), names.told(row.priority)]
         cells = [
             str(row.index),
             str(row.thread_id),
             text.name(row.name) if row.name is not None else "",
-            str(row.suspend_count),
-            f"{row.priority_class} / {row.priority}",
-            text.address(row.teb),
-            stack,
+            "crashed" if is_crashed else "",
+            names.told(row.suspend_count),
+            " / ".join(word or "0" for word in classes) if any(classes) else "",
+            text.address(row.teb) if names.told(row.teb, 64) else "",
+            text.address(row.stack_start) if names.told(row.stack_start, 64) else "",
             place(row.stack),
             place(row.context),
         ]
-        rows.append(Row(cells, "crash" if row.thread_id in crashed else ""))
+        rows.append(Row(cells, "crash" if is_crashed else ""))
     columns = [
         Column("Number", NUMBER),
         Column("Thread id", NUMBER),
         Column("Name"),
+        Column("What"),
         Column("Suspended", NUMBER),
         Column("Class / priority", NUMBER),
         Column("Teb", ADDRESS),
@@ -147,30 +193,47 @@ def threads(reading: Reading) -> Table:
         Column("Stack in the file", "one-line"),
         Column("Registers in the file", "one-line"),
     ]
-    return _table("threads", "Threads", columns, rows, reading.threads, "The file lists no threads.", "threads")
+    return list_table("threads", "Threads", columns, rows, reading.threads, "The file lists no threads.", "threads")
+
+
+def _crashed_module(reading: Reading) -> tuple[int | None, str]:
+    """The number of the module that has the address of the crash, or that is below it, and the word for it."""
+    crash = reading.crash
+    if crash is None:
+        return None, ""
+    at = reading.holder(crash.address)
+    if at is None and crash.near and crash.near.offset <= names.MOST_OF_IMAGE:
+        base = crash.near.module.base_of_image
+        bases = (number for number, (other,) in enumerate(reading.modules.members("base_of_image")) if other == base)
+        return next(bases, None), "near the crash"
+    return at, "crashed"
 
 
 def modules(reading: Reading) -> Table:
+    """The modules. The one that crashed, or the one near the crash, is the first."""
     rows = []
-    held = [row.exception_address for row in reading.exceptions.raw(reading.most)]
-    for row in reading.modules.records(reading.most):
-        is_held = any(0 <= address - row.base_of_image < row.size_of_image for address in held)
+    crashed, mark = _crashed_module(reading)
+    for at in _with_first([] if crashed is None else [crashed], len(reading.modules), reading.most):
+        row = reading.modules.record(at)
         symbols = row.symbols
         file = text.name(symbols.name.decode("utf-8", "replace")) if symbols and symbols.kind == SymbolKind.RSDS else ""
+        marks = [mark] * (at == crashed) + ["program"] * (at == 0)
         cells = [
             str(row.index),
             text.name(row.name),
+            ", ".join(marks),
             text.address(row.base_of_image),
-            text.grouped(row.size_of_image),
-            str(row.file_version),
-            str(row.product_version),
-            debug_id(symbols),
+            size_of(row.base_of_image, row.size_of_image),
+            names.version(row.file_version),
+            names.version(row.product_version) if row.product_version != row.file_version else "",
+            debug_id(row),
             file,
         ]
-        rows.append(Row(cells, "crash" if is_held else ""))
+        rows.append(Row(cells, "crash" if at == crashed else ""))
     columns = [
         Column("Number", NUMBER),
         Column("Name"),
+        Column("What"),
         Column("Base", ADDRESS),
         Column("Bytes", NUMBER),
         Column("Version", "one-line"),
@@ -178,125 +241,52 @@ def modules(reading: Reading) -> Table:
         Column("Debug id", ADDRESS),
         Column("Symbol file"),
     ]
-    return _table("modules", "Modules", columns, rows, reading.modules, "The file lists no modules.", "modules")
+    return list_table("modules", "Modules", columns, rows, reading.modules, "The file lists no modules.", "modules")
+
+
+def exceptions(reading: Reading) -> Table:
+    """All exceptions."""
+    system = reading.summary.system if reading.summary else None
+    platform, architecture = (system.platform_id, system.processor_architecture) if system else (None, None)
+    rows = []
+    for row in reading.exceptions.records(reading.most):
+        at = reading.holder(row.exception_address)
+        cells = [
+            str(row.entry),
+            names.exception(row.exception_code, row.exception_flags, platform, architecture),
+            str(row.thread_id),
+            text.address(row.exception_address),
+            "" if at is None else text.name(reading.modules.record(at).name),
+        ]
+        rows.append(Row(cells))
+    columns = [
+        Column("Entry", NUMBER),
+        Column("Exception"),
+        Column("Thread id", NUMBER),
+        Column("Address", ADDRESS),
+        Column("Module"),
+    ]
+    return list_table("exceptions", "Exceptions", columns, rows, reading.exceptions, "", "exceptions")
 
 
 def unloaded(reading: Reading) -> Table:
     rows = [
-        Row([str(row.index), text.name(row.name), text.address(row.base_of_image), text.grouped(row.size_of_image)])
+        Row([str(row.index), text.name(row.name), text.address(row.base_of_image), size_of(row.base_of_image, row.size_of_image)])
         for row in reading.unloaded.records(reading.most)
     ]
     columns = [Column("Number", NUMBER), Column("Name"), Column("Base", ADDRESS), Column("Bytes", NUMBER)]
-    return _table("unloaded", "Unloaded modules", columns, rows, reading.unloaded, "The file lists none.", "modules")
+    return list_table("unloaded", "Unloaded modules", columns, rows, reading.unloaded, "The file lists none.", "modules")
 
 
-def protections(reading: Reading) -> Table:
-    """Memory by state, protection and type."""
-    found: dict[tuple[int, int, int], list[int]] = {}  # for each kind its bytes, and how many regions
-    for size, state, protect, kind in reading.regions.members("region_size", "state", "protect", "memory_type"):
-        key = (state, protect, kind)
-        counted = found.get(key)
-        if counted is None:
-            found[key] = [size, 1]
-        else:
-            counted[0] += size
-            counted[1] += 1
-    rows = []
-    for key, (size, count) in sorted(found.items(), key=lambda item: (-item[1][0], item[0]))[: reading.most]:
-        state, protect, kind = key
-        words = [names.state(state), names.protection(protect), names.memory_type(kind)]
-        rows.append(Row([*words, text.grouped(count), text.grouped(size)]))
-    columns = [
-        Column("State"),
-        Column("Protection"),
-        Column("Type"),
-        Column("Regions", NUMBER),
-        Column("Bytes", NUMBER),
-    ]
-    table = _table(
-        "protections",
-        "Memory by protection",
-        columns,
-        rows,
-        reading.regions,
-        "The file lists no regions of memory.",
-        "kinds",
-    )
-    table.count = len(found)
-    return table
-
-
-def regions(reading: Reading) -> Table:
-    rows = []
-    for row in reading.regions.records(reading.most):
-        words = [names.state(row.state), names.protection(row.protect), names.memory_type(row.memory_type)]
-        rows.append(Row([str(row.index), text.address(row.base_address), text.grouped(row.region_size), *words]))
-    columns = [
-        Column("Number", NUMBER),
-        Column("Base", ADDRESS),
-        Column("Bytes", NUMBER),
-        Column("State"),
-        Column("Protection"),
-        Column("Type"),
-    ]
-    return _table(
-        "regions",
-        "Regions of memory",
-        columns,
-        rows,
-        reading.regions,
-        "The file lists no regions of memory.",
-        "regions",
-    )
-
-
-def ranges(reading: Reading) -> Table:
-    """The ranges of memory whose bytes the file may have."""
-    rows = []
-    for row in reading.ranges.records(reading.most):
-        words = row.extent.name.lower()
-        cells = [
-            str(row.index),
-            str(row.entry),
-            text.address(row.start),
-            text.grouped(row.size),
-            text.grouped(row.offset),
-            words,
-        ]
-        rows.append(Row(cells, "bad" if row.extent == Extent.OUTSIDE else ""))
-    inside = int(Extent.INSIDE)
-    held = sum(size for size, extent in reading.ranges.members("size", "extent") if extent == inside)
-    columns = [
-        Column("Number", NUMBER),
-        Column("Entry", NUMBER),
-        Column("From", ADDRESS),
-        Column("Bytes", NUMBER),
-        Column("Offset", NUMBER),
-        Column("In the file"),
-    ]
-    table = _table(
-        "ranges",
-        "Ranges of memory",
-        columns,
-        rows,
-        reading.ranges,
-        "The file holds no memory of the process.",
-        "ranges",
-    )
-    if len(reading.ranges):
-        table.note = f"The file has {text.in_units(held)} of {text.of(len(reading.ranges), 'range')}."
-    return table
-
-
-def _table(
+def list_table(
     key: str, title: str, columns: list[Column], rows: list[Row], listing: Listing, empty: str, what: str
 ) -> Table:
     return Table(key, title, columns, rows, listing.count, told(listing.fault), "", empty, what)
 
 
-def all_tables(reading: Reading) -> Iterator[Table]:
-    """The tables after the crash, in their order."""
-    for make in (threads, modules, unloaded, protections, regions, ranges):
-        table = make(reading)
-        if table.rows or table.fault or make is not unloaded:
-            yield table
+def of_process(reading: Reading) -> list[Table]:
+    """The tables of what ran: threads and modules, and exceptions if there are others than the crash."""
+    made = [exceptions(reading)] if len(reading.exceptions) > (1 if reading.crash else 0) else []
+    made += [threads(reading), modules(reading)]
+    gone = unloaded(reading)
+    return made + ([gone] if gone.rows or gone.fault else [])

@@ -64,6 +64,11 @@ def address(number: int) -> str:
     return f"0x{number:016x}"
 
 
+def short_address(number: int) -> str:
+    """An address without zeros in front."""
+    return f"{number:#x}"
+
+
 def last_part(path: str) -> str:
     """What follows the last slash or backslash of a path."""
     return path.replace("\\", "/").rstrip("/").rsplit("/", 1)[-1] or path
@@ -71,6 +76,11 @@ def last_part(path: str) -> str:
 
 def _wide(character: str) -> int:
     return 2 if unicodedata.east_asian_width(character) in "WF" else 1
+
+
+def columns(text: str) -> int:
+    """How many columns a text takes in a font of one width."""
+    return sum(map(_wide, text))
 
 
 def fitting(text: str, room: int) -> str:

@@ -8,7 +8,6 @@ import io
 import os
 import pathlib
 import pickle
-import struct
 import subprocess
 import sys
 import tempfile
@@ -16,12 +15,12 @@ import unittest
 from typing import Any, Callable
 
 import mdmp
+from lib import strange_dumps
+from lib.minidumps import File, counted, memory_range, thread_name
+from lib.small_dumps import SYSTEM
 from mdmp import _output, _structures
 from mdmp.pages import crash, tables
 from mdmp.pages.reading import Reading, page_limits
-
-from . import made
-from .test_ways import SYSTEM
 
 MIB = 1 << 20
 NAMES = 4096
@@ -29,17 +28,17 @@ NAMES = 4096
 
 def named(count: int, size: int) -> bytes:
     """A dump of so many modules, which all have one CodeView record of so many bytes, whose name no zero byte ends."""
-    file = made.File(1)
+    file = File(1)
     name = file.name("module.dll")
-    codeview = (size, file.part(b"RSDS" + made.GUID + struct.pack("<I", 1) + b"p" * (size - 24)))
-    file.stream(4, made.listed([made.module(name, at << 24, 0x8000, codeview) for at in range(count)]))
+    symbols = file.placed(strange_dumps.codeview(b"p" * (size - 24)))
+    file.stream(4, counted([strange_dumps.module(name, at << 24, 0x8000, symbols) for at in range(count)]))
     return file.bytes()
 
 
 def memory(count: int) -> bytes:
     """A dump with so many ranges of one byte, which all have the second byte of the file."""
-    file = made.File(1)
-    file.stream(5, made.listed([struct.pack("<QII", 0x1000 + at, 1, 1) for at in range(count)]))
+    file = File(1)
+    file.stream(5, counted([memory_range(0x1000 + at, (1, 1)) for at in range(count)]))
     return file.bytes()
 
 
@@ -183,7 +182,8 @@ class Output(unittest.TestCase):
         data = named(2000, 1 << 16)
         most = MIB
         partial = self.limited(lambda: mdmp.Dump(data, limits=mdmp.Limits(output=most)).modules, most)
-        each = _output.row_size(mdmp.Module) + NAMES
+        # the name of the record, and the file name of its ids
+        each = _output.row_size(mdmp.Module) + 2 * NAMES
         self.assertLessEqual(len(partial), most // each)
         self.assertGreater(len(partial), most // (each + 200) - 1)
         self.assertEqual({(len(row.symbols.name), row.symbols.name_ended) for row in partial}, {(NAMES, False)})
@@ -207,8 +207,8 @@ class Output(unittest.TestCase):
                 self.assertEqual(partial, "".join(wanted))
 
     def test_letters_are_not_cut(self) -> None:
-        file = made.File(1)
-        file.stream(24, made.listed([struct.pack("<IQ", 7, file.name("é😀" * 20))]))
+        file = File(1)
+        file.stream(24, counted([thread_name(7, file.name("é😀" * 20))]))
         data = file.bytes()
         whole = mdmp.Dump(data).list_json().encode()
         for most in range(len(whole)):
@@ -216,7 +216,7 @@ class Output(unittest.TestCase):
             self.assertTrue(whole.startswith(partial.encode()) and partial[-1:] in ("", "\n"))
 
     def test_verdicts(self) -> None:
-        file = made.File(100)
+        file = File(100)
         for at in range(100):
             file.entry(3, 100, (1 << 31) if at % 2 else 0)
         data = file.bytes()
@@ -238,10 +238,10 @@ class Output(unittest.TestCase):
         self.assertEqual(written.getvalue(), mdmp.Dump(data).list())
 
     def test_names_of_threads(self) -> None:
-        file = made.File(2)
-        file.stream(3, made.listed([made.thread(at, 0, (0, 0)) for at in (1, 2)]))
+        file = File(2)
+        file.stream(3, counted([strange_dumps.thread(at, 0, (0, 0)) for at in (1, 2)]))
         name = file.name("n" * 2000)
-        file.stream(24, made.listed([struct.pack("<IQ", at, name) for at in (1, 2)]))
+        file.stream(24, counted([thread_name(at, name) for at in (1, 2)]))
         dump = mdmp.Dump(file.bytes(), limits=mdmp.Limits(output=4000))
         self.assertEqual(len(self.limited(lambda: dump.thread_names, 4000)), 1)
         self.assertEqual([thread.name for thread in dump.threads], ["n" * 2000, None])
@@ -254,26 +254,26 @@ class Pages(unittest.TestCase):
         self.assertEqual(page_limits(5), dataclasses.replace(mdmp.Limits.untrusted(), budget=5))
 
     def test_all_lists_share_the_output(self) -> None:
-        file = made.File(2)
-        listed = made.listed([made.thread(at, 0, (0, 0)) for at in range(20)])
+        file = File(2)
+        listed = counted([strange_dumps.thread(at, 0, (0, 0)) for at in range(20)])
         file.stream(3, listed)
-        file.stream(24, made.listed([struct.pack("<IQ", at, 0) for at in range(20)]))
+        file.stream(24, counted([thread_name(at, 0) for at in range(20)]))
         verdicts, streams, threads, names = 2 * 64, 2 * 24, 20 * 88, 20 * 40
         data, all_of_it = file.bytes(), verdicts + streams + threads + names
         for most, fault in ((all_of_it, ""), (all_of_it - 1, "output limit")):
             reading = Reading(mdmp.Dump(data, limits=mdmp.Limits(output=most)), len(data), 10)
             self.assertEqual((len(reading.threads), len(reading.thread_names)), (20, 20 - bool(fault)))
             self.assertIn(fault, tables.told(reading.thread_names.fault))
-            self.assertEqual(crash.verdict(reading)[1], "long" if fault else "good")
+            self.assertEqual(crash.badge(reading).kind, "long" if fault else "good")
 
     def test_memory_limit(self) -> None:
         held = 65536 + NAMES + 12
         reading = Reading(mdmp.Dump(SYSTEM, limits=mdmp.Limits(memory=held - 1)), len(SYSTEM), 10)
-        self.assertEqual((reading.is_too_long, crash.verdict(reading)[1]), (True, "long"))
+        self.assertEqual((reading.is_too_long, crash.badge(reading).kind), (True, "long"))
         data = memory(100)
         reading = Reading(mdmp.Dump(data, limits=mdmp.Limits(memory=held)), len(data), 10)
-        self.assertEqual((reading.is_too_long, crash.verdict(reading)[1]), (False, "long"))
-        self.assertIn("memory limit reached", crash.verdict(reading)[0])
+        self.assertEqual((reading.is_too_long, crash.badge(reading).kind), (False, "long"))
+        self.assertIn("memory limit reached", crash.badge(reading).words)
 
 
 class Command(unittest.TestCase):

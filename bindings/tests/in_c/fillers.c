@@ -28,6 +28,14 @@ FILLER(thread_names, mdmp_thread_name, WITH_LIMITS)
 FILLER(ranges, mdmp_range, WITH_LIMITS)
 FILLER(name, uint8_t, name_rva, LIMITS.name, )
 
+/* A summary is one structure: it fills a buffer of one. */
+static uint32_t fill_summary(blob file, void *out, size_t room, uint64_t *count, mdmp_fault *fault) {
+    mdmp_summary_record one;
+    uint32_t status = mdmp_summary(file.bytes, file.size, &LIMITS, room == 0 ? &one : (mdmp_summary_record *)out, fault);
+    *count = status == MDMP_OK;
+    return status == MDMP_OK && room == 0 ? (uint32_t)MDMP_BUFFER_TOO_SHORT : status;
+}
+
 #define ROW(name, type, takes_memory) \
     { "mdmp_" #name, sizeof(type), fill_##name, takes_memory }
 
@@ -49,5 +57,6 @@ const filler FILLERS[] = {
     ROW(thread_names, mdmp_thread_name, true),
     ROW(ranges, mdmp_range, true),
     ROW(name, uint8_t, true),
+    ROW(summary, mdmp_summary_record, true),
 };
 const size_t FILLERS_COUNT = sizeof FILLERS / sizeof *FILLERS;

@@ -5,6 +5,7 @@
  * tries one share of so many. Nothing is touched but the buffers, and what a call says of one room it says of each.
  */
 #include "fillers.h"
+#include "small.h"
 
 enum { MUTANTS = 300, MOST = 64 << 20 };
 
@@ -75,6 +76,56 @@ static void test_filler(const filler *tried, blob file) {
     ASSERT(memcmp(first, out, less) == 0);
 }
 
+/* How many of these rows there are, and how many of their parts are outside the file. */
+#define COUNT_ROWS(call, type, parts)                                                                \
+    {                                                                                                \
+        ASSERT(call(file.bytes, file.size, &LIMITS, NULL, 0, &count, &fault) != MDMP_FAULT);         \
+        type *rows = calloc((size_t)count + 1, sizeof *rows);                                        \
+        ASSERT(call(file.bytes, file.size, &LIMITS, rows, (size_t)count, &count, &fault) == MDMP_OK); \
+        for (uint64_t i = 0; i < count; i++) {                                                       \
+            outside += parts;                                                                        \
+        }                                                                                            \
+        free(rows);                                                                                  \
+    }
+#define IS_OUTSIDE(part) (uint64_t)(rows[i].part == MDMP_EXTENT_OUTSIDE)
+
+/* A summary of a file without an error counts the rows that the other calls give. */
+static void test_counted(blob file, const mdmp_summary_record *summary) {
+    uint64_t count, outside = 0;
+    mdmp_fault fault;
+    COUNT_ROWS(mdmp_threads, mdmp_thread, IS_OUTSIDE(stack.extent) + IS_OUTSIDE(context.extent))
+    ASSERT(summary->counts.threads == count);
+    COUNT_ROWS(mdmp_modules, mdmp_module, IS_OUTSIDE(codeview.extent) + IS_OUTSIDE(misc.extent))
+    ASSERT(summary->counts.modules == count && summary->has_program == (count != 0));
+    COUNT_ROWS(mdmp_exceptions, mdmp_exception, IS_OUTSIDE(context.extent))
+    ASSERT(summary->counts.exceptions == count && (count != 0 || summary->has_crash == 0));
+    COUNT_ROWS(mdmp_ranges, mdmp_range, IS_OUTSIDE(extent))
+    ASSERT(summary->counts.ranges == count && summary->parts_outside == outside);
+}
+
+/* The summary says how many entries are bad, and its first error is that of the verdicts. */
+static void test_summary(blob file, const mdmp_fault *verdicts, uint64_t count, uint64_t bad, uint32_t status) {
+    mdmp_summary_record summary;
+    mdmp_fault fault;
+    uint32_t summed = mdmp_summary(file.bytes, file.size, &LIMITS, &summary, &fault);
+    if (status != MDMP_OK && bad == 0) {
+        ASSERT(summed == status); /* the file can't be opened */
+        return;
+    }
+    ASSERT(summed == MDMP_OK && fault.kind == MDMP_FAULT_NONE && summary.bad_entries == bad);
+    test_fault(&summary.first_error);
+    test_fault(&summary.first_outside);
+    ASSERT((summary.first_outside.kind == MDMP_FAULT_PART_OUTSIDE) == (summary.parts_outside != 0));
+    for (uint64_t i = 0; i < count; i++) {
+        if (verdicts[i].kind != MDMP_FAULT_NONE) {
+            ASSERT(memcmp(&verdicts[i], &summary.first_error, sizeof *verdicts) == 0);
+            return;
+        }
+    }
+    ASSERT(summary.first_error.kind == MDMP_FAULT_NONE);
+    test_counted(file, &summary);
+}
+
 /* The verdicts say what the text of the check does. */
 static void test_verdicts(blob file) {
     uint64_t size, count, text_size;
@@ -104,6 +155,7 @@ static void test_verdicts(blob file) {
     }
     ASSERT(at == size && (fault.kind == MDMP_FAULT_BAD_ENTRIES) == (bad != 0));
     ASSERT(bad == 0 || fault.size == bad);
+    test_summary(file, faults, count, bad, status);
     free(faults);
     free(text);
 }
@@ -231,6 +283,12 @@ static void test_places(blob file) {
         ASSERT(status == (size != 0 && (uint64_t)rva + size <= file.size ? MDMP_OK : MDMP_FAULT));
         ASSERT(symbols.name_offset + symbols.name_size <= file.size && symbols.name_size <= limits.name);
         test_fault(&fault);
+        const mdmp_module module = {.codeview = place, .time_date_stamp = (uint32_t)below(2), .size_of_image = size};
+        mdmp_module_ids ids;
+        ASSERT(mdmp_ids(file.bytes, file.size, &module, &ids) == MDMP_OK);
+        ASSERT(status == MDMP_OK ? ids.kind <= MDMP_IDS_OTHER : ids.kind == MDMP_IDS_NONE);
+        ASSERT((ids.kind == MDMP_IDS_RSDS) == (status == MDMP_OK && symbols.kind == MDMP_SYMBOLS_RSDS));
+        ASSERT(ids.build_id_size <= sizeof ids.build_id && ids.size_of_image == (module.time_date_stamp ? size : 0));
     }
 }
 
@@ -287,13 +345,6 @@ static void change(blob file) {
         }
     }
 }
-
-static const uint8_t SYSTEM[136] =
-    "MDMP\x93\xa7\0\0\x01\0\0\0\x20\0\0\0\0\0\0\0\0\0\0\0\0\0\0\0\0\0\0\0"
-    "\x07\0\0\0\x38\0\0\0\x2c\0\0\0"
-    "\x09\0\x06\0\x03\0\x04\x01\x06\0\0\0\x01\0\0\0\xb1\x1d\0\0\x02\0\0\0\x64\0\0\0\0\x01\0\0"
-    "\0\0\0\0\0\0\0\0\0\0\0\0\0\0\0\0\0\0\0\0\0\0\0\0"
-    "\x1c\0\0\0S\0e\0r\0v\0i\0c\0e\0 \0P\0a\0c\0k\0 \0001\0\0\0\0";
 
 static void test_first_parts(void) {
     for (size_t size = 0; size <= sizeof SYSTEM; size++) {

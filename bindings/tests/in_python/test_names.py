@@ -13,6 +13,7 @@ from mdmp import _names, names
 from mdmp.names import (
     Architecture,
     DumpFlags,
+    ExceptionFlags,
     LinuxSignal,
     MachException,
     MemoryState,
@@ -39,7 +40,7 @@ NUMBERS: list[type[IntEnum]] = [
     StreamType,
     WindowsException,
 ]
-FLAGS: list[type[IntFlag]] = [DumpFlags, MemoryState, MemoryType, Protection]
+FLAGS: list[type[IntFlag]] = [DumpFlags, ExceptionFlags, MemoryState, MemoryType, Protection]
 
 
 class Sorted(unittest.TestCase):
@@ -208,6 +209,7 @@ class Others(unittest.TestCase):
         self.assertEqual(names.flag_names(DumpFlags, 0), "MiniDumpNormal")
         self.assertEqual(names.flag_names(DumpFlags, 0x1002), "MiniDumpWithFullMemory | MiniDumpWithThreadInfo")
         self.assertEqual(names.flag_names(DumpFlags, 1 << 63 | 1), "MiniDumpWithDataSegs | 0x8000000000000000")
+        self.assertEqual(names.flag_names(ExceptionFlags, 0x81), "EXCEPTION_NONCONTINUABLE | EXCEPTION_SOFTWARE_ORIGINATE")
         self.assertEqual(names.flag_names(Protection, 0x140), "PAGE_EXECUTE_READWRITE | PAGE_GUARD")
         self.assertEqual(names.flag_names(MemoryState, 0x10000), "MEM_FREE")
         self.assertEqual(names.flag_names(MemoryType, 0x1000000), "MEM_IMAGE")

@@ -137,6 +137,8 @@ static void test_none(blob file) {
     asked = 0;
     ASSERT(mdmp_header(file.bytes, file.size, &header, &fault) == MDMP_OK);
     ASSERT(mdmp_symbols(file.bytes, file.size, &LIMITS, &place, &symbols, &fault) == MDMP_OK);
+    mdmp_module_ids ids;
+    ASSERT(mdmp_ids(file.bytes, file.size, &module, &ids) == MDMP_OK);
     ASSERT(mdmp_read(file.bytes, file.size, &range, 1, 4, out, 16, known, 16, &fault) == MDMP_OK);
     ASSERT(known[3] && !known[4]);
     uint64_t start = count == 0 ? 0 : ranges[count / 2].start;

@@ -1,5 +1,5 @@
 /* A small command over the calls: command (check | list | pdb | check-json | list-json | pdb-json | parts | fields |
- * copy TYPE..) DUMP */
+ * records | copy TYPE..) DUMP */
 #include "texts.h"
 
 /* What a call that gives bytes was asked for, so that each is called again in one place. */
@@ -62,6 +62,8 @@ int main(int argc, char **argv) {
     const request asked = {argv[1], types, (size_t)(argc - 3)};
     if (strcmp(asked.word, "fields") == 0) {
         print_fields(file);
+    } else if (strcmp(asked.word, "records") == 0) {
+        print_records(file);
     } else if (strcmp(asked.word, "parts") == 0) {
         print_parts(file);
     } else {

@@ -1,27 +1,6 @@
 #include "texts.h"
+#include "tables.h"
 #include <inttypes.h>
-
-/* All records of one kind: call again with the room that is asked for. */
-#define ALL(call, type, name)                                                                  \
-    static type *name(blob file, uint64_t *count) {                                            \
-        mdmp_fault fault;                                                                      \
-        uint32_t status = call(file.bytes, file.size, &LIMITS, NULL, 0, count, &fault);        \
-        ASSERT(status == (*count == 0 ? MDMP_OK : MDMP_BUFFER_TOO_SHORT) && fault.kind == MDMP_FAULT_NONE); \
-        type *rows = calloc((size_t)*count + 1, sizeof *rows);                                 \
-        ASSERT(rows != NULL);                                                                  \
-        status = call(file.bytes, file.size, &LIMITS, rows, (size_t)*count, count, &fault);    \
-        ASSERT(status == MDMP_OK && fault.kind == MDMP_FAULT_NONE);                                  \
-        return rows;                                                                           \
-    }
-
-ALL(mdmp_threads, mdmp_thread, all_threads)
-ALL(mdmp_modules, mdmp_module, all_modules)
-ALL(mdmp_exceptions, mdmp_exception, all_exceptions)
-ALL(mdmp_systems, mdmp_system, all_systems)
-ALL(mdmp_unloaded, mdmp_unloaded_module, all_unloaded)
-ALL(mdmp_regions, mdmp_region, all_regions)
-ALL(mdmp_thread_names, mdmp_thread_name, all_thread_names)
-ALL(mdmp_ranges, mdmp_range, all_ranges)
 
 /* Reserved fields are 0. */
 #define ASSERT_RESERVED(row)                                                       \
@@ -68,19 +47,14 @@ static size_t print_character(const uint8_t *text) {
 }
 
 static void print_name(blob file, const mdmp_name_place *place) {
-    if (place->state == MDMP_NAME_NONE) {
+    given_name name;
+    if (!is_named(file, place, &name)) {
         printf("none");
         return;
     }
-    ASSERT(place->state == MDMP_NAME_GIVEN);
-    uint8_t text[8192];
-    uint64_t size;
-    mdmp_fault fault;
-    uint32_t status = mdmp_name(file.bytes, file.size, place->rva, LIMITS.name, text, sizeof text, &size, &fault);
-    ASSERT(status == MDMP_OK);
     printf("\"");
-    for (size_t at = 0; at < size;) {
-        at += print_character(text + at);
+    for (size_t at = 0; at < name.size;) {
+        at += print_character(name.text + at);
     }
     printf("\"");
 }
@@ -158,8 +132,7 @@ static void print_thread_name(blob file, const mdmp_thread_name *row) {
     printf("\n");
 }
 
-/* A number of 128 bits, in decimal. */
-static void print_wide(uint64_t upper, uint64_t lower) {
+void print_wide(uint64_t upper, uint64_t lower) {
     char digits[40], *at = digits + sizeof digits;
     *--at = '\0';
     do {
@@ -198,9 +171,7 @@ static void print_range(const mdmp_range *row) {
     }
 
 void print_fields(blob file) {
-    mdmp_fault fault;
-    mdmp_header_record header;
-    ASSERT(mdmp_header(file.bytes, file.size, &header, &fault) == MDMP_OK);
+    mdmp_header_record header = header_of(file);
     ASSERT_RESERVED(&header)
     printf("dump version 0x%04" PRIx32 " streams %" PRIu32 " directory %" PRIu32 " checksum %" PRIu32
            " time %" PRIu32,
@@ -208,8 +179,7 @@ void print_fields(blob file) {
         header.time_date_stamp);
     printf(" flags 0x%016" PRIx64 "\n", header.flags);
     uint64_t count;
-    mdmp_stream *streams = calloc((size_t)header.number_of_streams + 1, sizeof *streams);
-    ASSERT(mdmp_streams(file.bytes, file.size, streams, header.number_of_streams, &count, &fault) == MDMP_OK);
+    mdmp_stream *streams = all_streams(file, &count);
     uint64_t counts[8], at[8] = {0};
     mdmp_thread *threads = all_threads(file, &counts[0]);
     mdmp_module *modules = all_modules(file, &counts[1]);

@@ -5,12 +5,13 @@ from __future__ import annotations
 import array
 import ctypes
 import dataclasses
+import hashlib
 import io
+import json
 import mmap
 import os
 import pathlib
 import pickle
-import struct
 import subprocess
 import sys
 import tempfile
@@ -20,20 +21,14 @@ from typing import Any, Callable
 from unittest import mock
 
 import mdmp
+from lib import strange_dumps
+from lib.small_dumps import SYSTEM
 from mdmp import _buffer, _dump, _fault, _structures
 from mdmp._library import library
-
-from . import made
 
 FOLDER = pathlib.Path(os.environ["MDMP_STORED"])
 KINDS = FOLDER / "llvm-all-kinds.dmp"
 CRASHPAD = FOLDER / "crashpad-one.dmp"
-# A system, whose name is that of its service pack: 136 bytes, of which a listing fetches 132.
-SYSTEM = (
-    b"MDMP\x93\xa7\0\0" + struct.pack("<6I", 1, 32, 0, 0, 0, 0) + struct.pack("<3I", 7, 56, 44)
-    + struct.pack("<3H2B5I2H24x", 9, 6, 3, 4, 1, 6, 1, 7601, 2, 100, 256, 0)
-    + struct.pack("<I", 28) + "Service Pack 1".encode("utf-16le") + bytes(4)
-)
 
 
 class Layout(unittest.TestCase):
@@ -161,9 +156,8 @@ class Faults(unittest.TestCase):
             self.assertIsNone(first.name)
             self.assertEqual(first.name_place.state, mdmp.NameState.LONG)
 
-
     def test_long_name_of_a_symbol_file(self) -> None:
-        data = made.named("module.dll")
+        data = strange_dumps.named("module.dll")
         for most, name, has_end in [
             (4096, b"module.dll", True),
             (11, b"module.dll", True),  # the zero byte is the last that is read
@@ -195,7 +189,7 @@ class Writing(unittest.TestCase):
         return out.getvalue(), calls
 
     def test_a_file_is_listed_once(self) -> None:
-        for data in (KINDS.read_bytes(), made.many_modules(150_000)):
+        for data in (KINDS.read_bytes(), strange_dumps.many_modules(150_000)):
             text, calls = self.written(mdmp.Dump(data))
             self.assertTrue(text == mdmp.Dump(data).list())
             self.assertEqual(calls, 1)
@@ -300,9 +294,91 @@ class Command(unittest.TestCase):
         return done.returncode, done.stdout, done.stderr
 
     def test_output(self) -> None:
-        for option, suffix in [("--window=200", ".list"), ("--check", ".check"), ("--pdb", ".pdb")]:
+        given = [["--window=200"], ["list"], ["list", "--untrusted"], ["check"], ["--pdb"], ["list", "--pdb"]]
+        for words, suffix in zip(given, [".list"] * 3 + [".check"] + [".pdb"] * 2):
             wanted = CRASHPAD.with_suffix(suffix).read_text("ascii")
-            self.assertEqual(self.run_command(str(CRASHPAD), option), (0, wanted, ""))
+            self.assertEqual(self.run_command(*words, str(CRASHPAD)), (0, wanted, ""))
+
+    def test_objects(self) -> None:
+        for words, suffix in [(["list", "--json", "--pdb"], ".pdb.sum"), (["check", "--json"], ".check.sum")]:
+            status, out, err = self.run_command(*words, str(CRASHPAD))
+            data = out.encode("utf-8")
+            told = f"{len(data)}\n{hashlib.sha256(data).hexdigest()}\n"
+            self.assertEqual((status, told, err), (0, CRASHPAD.with_suffix(suffix).read_text("ascii"), ""))
+
+    def test_memory(self) -> None:
+        told = "0x0000000000000fff: ?? 00 01 02 03 ??\n"
+        self.assertEqual(self.run_command("hex", str(KINDS), "0xfff", "6"), (0, told, ""))
+        status, out, _ = self.run_command("hex", str(KINDS), "4096", "33")
+        self.assertEqual((status, [len(line) for line in out.splitlines()]), (0, [67, 67, 22]))
+        self.assertEqual(self.run_command("hex", str(KINDS), "0xffffffffffffffff", "1")[0], 0)
+        for words in [("0xfff",), ("fff", "1"), ("0x", "1"), ("0xfff", "1048577"), ("0xfff", "-1"), ("1_0", "1")]:
+            self.assertEqual(self.run_command("hex", str(KINDS), *words)[0], 2, words)
+        self.assertEqual(self.run_command("hex", str(KINDS), "0xffffffffffffffff", "2")[0], 2)
+
+    def test_copy(self) -> None:
+        with tempfile.TemporaryDirectory() as folder:
+            out = f"{folder}/out.dmp"
+            types = ["modules", "ThreadListStream", "7"]
+            self.assertEqual(self.run_command("copy", str(CRASHPAD), out, *types), (0, "", ""))
+            with mdmp.open(CRASHPAD) as dump:
+                self.assertEqual(pathlib.Path(out).read_bytes(), dump.copy(4, 3, 7))
+            self.assertEqual(self.run_command("copy", str(CRASHPAD), out, "4"), (3, "", f"mdmp: cannot create {out}\n"))
+            self.assertEqual(self.run_command("copy", str(CRASHPAD), f"{folder}/b", "12")[0], 2)
+            self.assertEqual(self.run_command("copy", str(CRASHPAD), f"{folder}/b", "4", "--budget", "99")[0], 3)
+            self.assertEqual(os.listdir(folder), ["out.dmp"])
+
+    def test_summary(self) -> None:
+        lines = [
+            f'{CRASHPAD}: SIGSEGV at cpad+0x14d8, thread 22570 "cpad"',
+            "code 0x0000000b flags 0x00000001 SEGV_MAPERR",
+            "reached 0x0000000000000010",
+            "address 0x0000000000000010 instruction 0x000055c6e269e4d8 stack 0x00007ffec51f8420 frame 0x00007ffec51f8430",
+            "program cpad",
+            "system Linux 6.18.44, x64, processors 4",
+            "written 1795329936 seconds after 1970 in UTC",
+            "streams 9 threads 1 modules 4 exceptions 1 ranges 1 memory 7264",
+            "file good",
+        ]
+        self.assertEqual(self.run_command("summary", str(CRASHPAD)), (0, "\n  ".join(lines) + "\n", ""))
+        wine = FOLDER / "wine8-child-normal.dmp"
+        status, out, err = self.run_command("summary", str(wine), "/dev/null", "none.dmp", str(wine))
+        self.assertEqual((status, out.count("no crash\n")), (3, 2))
+        self.assertEqual(err, "mdmp: /dev/null: file of 0 bytes is too short\nmdmp: cannot open none.dmp\n")
+        with tempfile.NamedTemporaryFile() as cut:
+            cut.write(KINDS.read_bytes()[:1334])
+            cut.flush()
+            status, out, err = self.run_command("summary", cut.name)
+            first = "entry 7: stream outside the file: offset 1321 size 14"
+            self.assertEqual((status, out.splitlines()[-1], err), (1, f"  file damaged, 4 bad entries: {first}", ""))
+
+    def test_summary_of_a_file_whose_name_is_no_text(self) -> None:
+        with tempfile.TemporaryDirectory() as folder:
+            name = os.fsdecode(os.fsencode(folder) + b"/\xff.dmp")
+            os.symlink(CRASHPAD, name)
+            status, out, err = self.run_command("summary", name)
+            self.assertEqual((status, out.partition(": ")[0], err), (0, f"{folder}/\ufffd.dmp", ""))
+
+    def test_summary_as_an_object(self) -> None:
+        status, out, err = self.run_command("summary", "--json", str(CRASHPAD), str(FOLDER / "wine8-child-normal.dmp"))
+        self.assertEqual((status, err), (0, ""))
+        one, other = map(json.loads, out.split("\n")[:-1])
+        self.assertEqual((one["file"], one["time"], one["bad_entries"]), (str(CRASHPAD), 1795329936, 0))
+        crash, module = one["crash"], one["crash"]["module"]
+        told = [crash[name] for name in ("code", "code_name", "flags_name", "thread", "thread_name", "near")]
+        self.assertEqual(told, ["0x0000000b", "SIGSEGV", "SEGV_MAPERR", 22570, "cpad", None])
+        self.assertEqual((module["file"], module["offset"], module["name"]), ("cpad", "5336", "/usr/sample/cpad"))
+        self.assertEqual(crash["registers"]["instruction"], crash["address"])
+        self.assertEqual((other["crash"], other["program"]["file"], other["counts"]["modules"]), (None, "mkdump.exe", "8"))
+
+    def test_help(self) -> None:
+        status, out, err = self.run_command("--help")
+        self.assertEqual((status, err), (0, ""))
+        for command in ("summary", "list", "check", "hex", "copy", "page", "day"):
+            self.assertIn(f"\n    {command} ", out)
+            self.assertTrue(self.run_command(command, "--help")[1].startswith(f"usage: python -m mdmp {command} "))
+        self.assertEqual(self.run_command()[:2], (2, ""))
+        self.assertEqual(self.run_command("--version"), (0, f"mdmp {mdmp.__version__}\n", ""))
 
     def test_statuses(self) -> None:
         self.assertEqual(self.run_command("/dev/null"), (1, "", "mdmp: file of 0 bytes is too short\n"))
@@ -314,7 +390,7 @@ class Command(unittest.TestCase):
         with tempfile.NamedTemporaryFile() as cut:
             cut.write(KINDS.read_bytes()[:1334])
             cut.flush()
-            status, out, err = self.run_command("--check", cut.name)
+            status, out, err = self.run_command("check", cut.name)
             self.assertEqual((status, len(out.splitlines()), err), (1, 12, "mdmp: 4 bad entries\n"))
         with open("/dev/full", "w", encoding="ascii") as full:
             words = [sys.executable, "-m", "mdmp", str(CRASHPAD)]

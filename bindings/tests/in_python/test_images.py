@@ -7,10 +7,9 @@ import time
 import unittest
 
 import mdmp
+from lib import strange_dumps
 from mdmp import _structures
 from mdmp._images import Images
-
-from . import made
 
 END = 1 << 64
 
@@ -67,7 +66,7 @@ class Overlapping(unittest.TestCase):
     def test_modules_of_a_dump(self) -> None:
         numbers = random.Random(9)
         modules = [(numbers.randrange(1 << 16), numbers.randrange(1 << 14)) for _ in range(50)]
-        dump = mdmp.Dump(made.crowded(modules, []))
+        dump = mdmp.Dump(strange_dumps.crowded(modules, []))
         for _ in range(500):
             address = numbers.randrange(1 << 17)
             at, found = looked_for(modules, address), dump.where(address)

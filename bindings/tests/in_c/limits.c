@@ -34,7 +34,11 @@ static void test_refusals(const mdmp_limits *limits, uint32_t status, mdmp_fault
     TABLE(mdmp_regions, mdmp_region)
     TABLE(mdmp_thread_names, mdmp_thread_name)
     TABLE(mdmp_ranges, mdmp_range)
+    static mdmp_summary_record summary;
+    memset(&summary, 0xaa, sizeof summary);
     count = 0;
+    REFUSED(mdmp_summary(FILE_OF(SYSTEM), limits, &summary, &fault));
+    ASSERT(summary.has_system == 0xaaaaaaaa);
     REFUSED(mdmp_memory(FILE_OF(SYSTEM), limits, 0, out, 8, known, 8, &fault));
 }
 

@@ -9,12 +9,13 @@ import json
 import os
 import pathlib
 import unittest
+from itertools import zip_longest
 from typing import Any, Iterator
 
 import mdmp
 from mdmp import Extent
 
-from . import lines
+from . import records
 
 FOLDER = pathlib.Path(os.environ["MDMP_STORED"])
 
@@ -23,6 +24,10 @@ def dumps() -> Iterator[pathlib.Path]:
     found = sorted(FOLDER.glob("*.dmp"))
     assert len(found) == 7, "six samples and one that was made"
     return iter(found)
+
+
+def version(upper: int, lower: int) -> tuple[int, int, int, int]:
+    return upper >> 16, upper & 0xFFFF, lower >> 16, lower & 0xFFFF
 
 
 def stored(path: pathlib.Path, suffix: str) -> str:
@@ -57,8 +62,11 @@ class Stored(unittest.TestCase):
     def test_fields(self) -> None:
         for path in dumps():
             with self.subTest(path.name), mdmp.open(path) as dump:
-                self.assertTrue(lines.listed(dump) == stored(path, ".list"))
-                self.assertTrue(lines.listed(dump, pdb=True) == stored(path, ".pdb"))
+                for line, wanted in zip_longest(records.lines(dump), stored(path, ".records").splitlines()):
+                    self.assertEqual(line, wanted)
+                for module in dump.modules:
+                    self.assertEqual(module.file_version, version(module.file_version_ms, module.file_version_ls))
+                    self.assertEqual(module.product_version, version(module.product_version_ms, module.product_version_ls))
 
     def test_copies(self) -> None:
         for path in dumps():

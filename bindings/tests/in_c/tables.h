@@ -1,0 +1,63 @@
+/* The records of a whole file, and their names, for what prints them. */
+#ifndef TABLES_H
+#define TABLES_H
+
+#include "support.h"
+
+/* All records of one kind: call again with the room that is asked for. */
+#define ALL(call, type, name)                                                                               \
+    static type *name(blob file, uint64_t *count) {                                                         \
+        mdmp_fault fault;                                                                                   \
+        uint32_t status = call(file.bytes, file.size, &LIMITS, NULL, 0, count, &fault);                     \
+        ASSERT(status == (*count == 0 ? MDMP_OK : MDMP_BUFFER_TOO_SHORT) && fault.kind == MDMP_FAULT_NONE); \
+        type *rows = calloc((size_t)*count + 1, sizeof *rows);                                              \
+        ASSERT(rows != NULL);                                                                               \
+        status = call(file.bytes, file.size, &LIMITS, rows, (size_t)*count, count, &fault);                 \
+        ASSERT(status == MDMP_OK && fault.kind == MDMP_FAULT_NONE);                                         \
+        return rows;                                                                                        \
+    }
+
+ALL(mdmp_threads, mdmp_thread, all_threads)
+ALL(mdmp_modules, mdmp_module, all_modules)
+ALL(mdmp_exceptions, mdmp_exception, all_exceptions)
+ALL(mdmp_systems, mdmp_system, all_systems)
+ALL(mdmp_unloaded, mdmp_unloaded_module, all_unloaded)
+ALL(mdmp_regions, mdmp_region, all_regions)
+ALL(mdmp_thread_names, mdmp_thread_name, all_thread_names)
+ALL(mdmp_ranges, mdmp_range, all_ranges)
+
+static mdmp_header_record header_of(blob file) {
+    mdmp_fault fault;
+    mdmp_header_record header;
+    ASSERT(mdmp_header(file.bytes, file.size, &header, &fault) == MDMP_OK);
+    return header;
+}
+
+static mdmp_stream *all_streams(blob file, uint64_t *count) {
+    mdmp_fault fault;
+    uint32_t room = header_of(file).number_of_streams;
+    mdmp_stream *streams = calloc((size_t)room + 1, sizeof *streams);
+    ASSERT(mdmp_streams(file.bytes, file.size, streams, room, count, &fault) == MDMP_OK);
+    return streams;
+}
+
+/* A name in UTF-8. */
+typedef struct {
+    uint8_t text[8192];
+    uint64_t size;
+} given_name;
+
+/* Whether there is a name, and the name. No name here is over the limit. */
+static bool is_named(blob file, const mdmp_name_place *place, given_name *name) {
+    if (place->state == MDMP_NAME_NONE) {
+        return false;
+    }
+    ASSERT(place->state == MDMP_NAME_GIVEN);
+    mdmp_fault fault;
+    uint32_t status = mdmp_name(
+        file.bytes, file.size, place->rva, LIMITS.name, name->text, sizeof name->text, &name->size, &fault);
+    ASSERT(status == MDMP_OK);
+    return true;
+}
+
+#endif
