@@ -132,6 +132,18 @@ class Calls:
             status = library.mdmp_symbols_(self.file, self.size, self.limits, place, byref(found), byref(self.fault))
         return status, count * sizeof(found)
 
+    def ids(self) -> tuple[int, int]:
+        """The ids of each module."""
+        count, rows = self.rows("modules")
+        found, status = _structures.ModuleIds(), 0
+        for at in range(count):
+            status = library.mdmp_ids_(self.file, self.size, byref(rows[at]), byref(found))
+        return status, count * sizeof(found)
+
+    def summary(self) -> tuple[int, int]:
+        out = _structures.Summary()
+        return library.mdmp_summary_(self.file, self.size, self.limits, byref(out), byref(self.fault)), sizeof(out)
+
     def header(self) -> tuple[int, int]:
         out = _structures.Header()
         return library.mdmp_header_(self.file, self.size, byref(out), byref(self.fault)), sizeof(out)
@@ -157,6 +169,8 @@ class Calls:
             "mdmp_where, 1,000 times": self.where,
             "mdmp_name of each module": self.names,
             "mdmp_symbols of each module": self.symbols,
+            "mdmp_ids of each module": self.ids,
+            "mdmp_summary": self.summary,
         }
         for table in TABLES:
             call, item = getattr(library, f"mdmp_{table}_"), structure_of(table)
@@ -177,7 +191,7 @@ def opened(path: str, is_strangers: bool, name: int) -> mdmp.Dump:
 
 def properties(dump: mdmp.Dump, address: int) -> dict[str, Callable[[], Any]]:
     """Each property and method of a dump."""
-    names = ["header", "streams", "verdicts", *TABLES, "memory"]
+    names = ["header", "streams", "verdicts", *TABLES, "memory", "summary"]
     asked: dict[str, Callable[[], Any]] = {name: lambda name=name: getattr(dump, name) for name in names}  # type: ignore[misc]
     asked["memory.read"] = lambda: dump.memory.read(address, LENGTH).data
     asked["where, 1,000 times"] = lambda: [dump.where((1 << 64) - number) for number in range(1, 1001)]

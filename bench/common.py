@@ -1,14 +1,17 @@
 """What the benchmarks share: the program, the dumps that they make, times, and what a process holds and asks of the system."""
 
 import os
-import struct
 import subprocess
 import sys
 import time
 
 ROOT = os.path.dirname(os.path.dirname(os.path.abspath(__file__)))
-sys.path.append(os.path.join(ROOT, "tests"))
-from need import need  # noqa: E402, F401
+sys.path.insert(1, os.path.join(ROOT, "tests"))
+from lib import needs  # noqa: E402
+from lib.minidumps import FRONT_SIZE, MEMORY, MEMORY64, RANGE_SIZE, REGIONS  # noqa: E402
+from lib.minidumps import counted, file_of_modules, front, memory64, memory_range, region, regions, utf16  # noqa: E402
+from lib.needs import first_word, need as need, stop as stop  # noqa: E402
+
 RUNS = 9
 MIB = 1 << 20
 STRACE = "/usr/bin/strace"
@@ -19,10 +22,7 @@ MOST_MIB = 2.0  # that a process of the program has resident
 
 def program():
     """The program to be timed: the first word, or where its crate is built."""
-    path = sys.argv[1] if len(sys.argv) > 1 else os.path.join(ROOT, "crates/mdmp/out/mdmp")
-    if not os.access(path, os.X_OK):
-        sys.exit(f"bench: no program {path}: build it by (cd crates/mdmp && rt run -- --version)")
-    return path
+    return str(needs.program(first_word()))
 
 
 def built_reference(folder):
@@ -32,17 +32,15 @@ def built_reference(folder):
     return path
 
 
-def header(stream_type, size):
-    """The header of a dump with one stream of so many bytes, which stands behind it, and its directory."""
-    return struct.pack("<4sIIIIIQ", b"MDMP", 0xA793, 1, 32, 0, 0, 0) + struct.pack("<III", stream_type, size, 44)
+def write_stream(path, stream_type, stream):
+    """A dump of one stream."""
+    with open(path, "wb") as file:
+        file.write(front(stream_type, len(stream)) + stream)
 
 
 def write_regions(path, count):
     """So many regions of memory (MINIDUMP_MEMORY_INFO_LIST), of 48 bytes each."""
-    with open(path, "wb") as file:
-        file.write(header(16, 16 + 48 * count) + struct.pack("<IIQ", 16, 48, count))
-        for k in range(count):
-            file.write(struct.pack("<QQIIQIIII", k << 12, k << 12, 4, 0, 4096, 0x1000, 2, 0x20000, 0))
+    write_stream(path, REGIONS, regions([region(k << 12, k << 12, 4, 0, 4096, 0x1000, 2, 0x20000) for k in range(count)]))
 
 
 def module_name(number):
@@ -53,31 +51,34 @@ def module_name(number):
 
 def write_modules(path, count):
     """So many modules (MINIDUMP_MODULE_LIST), each with a name and a CodeView record of its own."""
-    names = [module_name(k).encode("utf-16le") for k in range(count)]
-    files = [b"RSDS" + struct.pack("<QQI", k, k, 1) + f"module_{k:06}.pdb\0".encode() for k in range(count)]
-    at = 44 + 4 + 108 * count
-    records, parts = [], []
-    for k in range(count):
-        size = 4 + len(names[k])
-        record = struct.pack("<QIIII", k << 16, 4096, 0, 0, at) + bytes(52)
-        records.append(record + struct.pack("<IIII", len(files[k]), at + size, 0, 0) + bytes(16))
-        parts.append(struct.pack("<I", len(names[k])) + names[k] + files[k])
-        at += size + len(files[k])
+    names = [utf16(module_name(k)) for k in range(count)]
     with open(path, "wb") as file:
-        file.write(header(4, 4 + 108 * count) + struct.pack("<I", count) + b"".join(records) + b"".join(parts))
+        file.write(file_of_modules(names, [f"module_{k:06}.pdb".encode() for k in range(count)]))
+
+
+def ranges_from(place, ranges):
+    """The records of ranges whose bytes follow one another from a place on."""
+    records = []
+    for start, length in ranges:
+        records.append(memory_range(start, (length, place)))
+        place += length
+    return records
 
 
 def write_ranges(path, ranges):
-    """Ranges of memory (MINIDUMP_MEMORY_LIST), each a first address and a length, and their bytes behind the list."""
-    list_size = 4 + 16 * len(ranges)
-    records = [struct.pack("<I", len(ranges))]
-    rva = 44 + list_size
-    for start, length in ranges:
-        records.append(struct.pack("<QII", start, length, rva))
-        rva += length
+    """Ranges of memory (MINIDUMP_MEMORY_LIST), each a first address and a length, and their bytes after the list."""
+    size = 4 + RANGE_SIZE * len(ranges)
     with open(path, "wb") as file:
-        file.write(header(5, list_size) + b"".join(records))
-        file.write(bytes(i % 251 for i in range(rva - 44 - list_size)))
+        file.write(front(MEMORY, size) + counted(ranges_from(FRONT_SIZE + size, ranges)))
+        file.write(bytes(i % 251 for i in range(sum(length for _, length in ranges))))
+
+
+def write_hole(path, ranges):
+    """Ranges of memory (MINIDUMP_MEMORY64_LIST), each a first address and a length, whose bytes are a hole."""
+    size = 16 + RANGE_SIZE * len(ranges)
+    with open(path, "wb") as file:
+        file.write(front(MEMORY64, size) + memory64(FRONT_SIZE + size, ranges))
+        file.truncate(FRONT_SIZE + size + sum(length for _, length in ranges))
 
 
 def made(line, out, is_synced):

@@ -1,8 +1,19 @@
-"""What a worker does with dumps: counts crashes by their code, and the module and offset of their address."""
+"""What a worker does with dumps: counts crashes by their code, and the module and offset of the address that ran."""
 
 from collections import Counter
 
 import mdmp
+
+IMAGE = 1 << 32  # no image of a module is as large
+
+
+def place_of(crash):
+    """The file name of the module of a crash and the offset, or None twice. If no module has the address, it is the module
+    below it."""
+    found = crash.module or crash.near
+    if found is None or found.offset >= IMAGE:
+        return None, None
+    return (found.module.name or "").replace("\\", "/").rpartition("/")[2], found.offset
 
 
 def crashes_in(paths):
@@ -11,12 +22,13 @@ def crashes_in(paths):
     for path in paths:
         with mdmp.open(path) as dump:
             try:
-                for exception in dump.exceptions:
-                    where = dump.where(exception.exception_address)
-                    place = (where.module.name, where.offset) if where else (None, None)
-                    crashes[(exception.exception_code, *place)] += 1
+                summary = dump.summary
             except mdmp.Fault:
                 bad += 1
+                continue
+        bad += summary.bad_entries > 0
+        if summary.crash:
+            crashes[(summary.crash.exception.exception_code, *place_of(summary.crash))] += 1
     return crashes, bad
 
 

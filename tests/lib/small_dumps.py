@@ -2,12 +2,12 @@
 
 from __future__ import annotations
 
-from struct import pack
+from .minidumps import codeview, header, numbers, string, system, units
 
 
-def dump(streams: int, *numbers: int, directory: int = 32) -> bytes:
+def dump(streams: int, *after: int, directory: int = 32) -> bytes:
     """A header that counts so many streams, and numbers of four bytes after it: first those of the directory."""
-    return pack("<4s5IQ", b"MDMP", 0xA793, streams, directory, 0, 0, 0) + pack(f"<{len(numbers)}I", *numbers)
+    return header(streams, directory) + numbers(*after)
 
 
 def module(size: int, record: bytes) -> bytes:
@@ -17,16 +17,16 @@ def module(size: int, record: bytes) -> bytes:
 
 def rsds(age: int, name: bytes) -> bytes:
     """A CodeView record of the kind RSDS."""
-    return b"RSDS" + bytes.fromhex("33221100554477668899aabbccddeeff") + pack("<I", age) + name + b"\0"
+    return codeview(bytes.fromhex("33221100554477668899aabbccddeeff"), age, name + b"\0")
 
 
-def name(*units: int) -> bytes:
+def name(*given: int) -> bytes:
     """A name of these units after its length."""
-    return pack(f"<I{len(units)}H", 2 * len(units), *units)
+    return string(units(*given))
 
 
 # A system, with the name of its service pack at 100.
-SYSTEM = dump(1, 7, 56, 44) + pack("<3H2B6I24x", 9, 6, 3, 4, 1, 6, 1, 7601, 2, 100, 256)
+SYSTEM = dump(1, 7, 56, 44) + system(9, 6, 3, 4, 1, 6, 1, 7601, 2, 100, 256)
 SYSTEM += name(*b"Service Pack 1") + bytes(4)
 
 # The parts of a crash: the thread up to the size of its stack, its stack and its context, the exception up to the
@@ -75,11 +75,11 @@ SMALL_DUMPS = {
     "names.dmp": dump(1, 24, 88, 44, 7, *THREADS) + b"".join(NAMES),
     # A system with its name, a crash, no modules, no ranges of memory, and a stream of four bytes.
     "six.dmp": dump(6, 7, 56, 104, 3, 52, 196, 4, 4, 260, 6, 168, 264, 5, 4, 436, 12, 4, 440)
-    + pack("<14I", 0x00060009, 0x01040003, 6, 1, 7601, 2, 160, 0x0100, *[0] * 6)
+    + system(9, 6, 3, 4, 1, 6, 1, 7601, 2, 160, 256)
     + name(*b"Service Pack 1")
     + bytes(4)
-    + pack("<17I", *THREAD, 248, 6, 252, *PARTS, 0)
-    + pack("<45I", *EXCEPTION, 432, REGISTERS, 0, 0x04030201),
+    + numbers(*THREAD, 248, 6, 252, *PARTS, 0)
+    + numbers(*EXCEPTION, 432, REGISTERS, 0, 0x04030201),
     # The crash alone, as it is copied.
     "crash.dmp": dump(2, 3, 52, 56, 6, 168, 120, *THREAD, 108, 6, 112, *PARTS, *EXCEPTION, 288, REGISTERS),
     "there.dmp": b"there",

@@ -1,5 +1,5 @@
 #!/usr/bin/env python3
-"""A second reader of minidumps. It does what the command `mdmp` does: reference.py COMMAND WORD..
+"""A second reader of minidumps. It does what the command `mdmp` does: second_reader.py COMMAND WORD..
 
 It is written from docs/format.md, docs/cli.md and docs/reference alone, by somebody who had seen neither code nor definitions of
 the library. So a rule that a page and a definition state differently shows. It is slow and plain. `tests/reference` compares it

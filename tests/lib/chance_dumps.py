@@ -9,7 +9,9 @@ from __future__ import annotations
 
 from collections.abc import Callable, Iterator
 from random import Random
-from struct import pack, pack_into
+
+from . import minidumps
+from .minidumps import ENTRY_SIZE, HEADER_SIZE, VERSION, File, Part, Parts, numbers, units, wide_numbers
 
 LISTS = (3, 4, 5, 9, 14, 16, 24)
 UNPARSED = (1, 10, 11, 12, 13, 15, 17, 0x43500001, 65536, 65537, 0xFFFFFFFF)
@@ -33,17 +35,20 @@ class Maker:
         self.errors = (0.0, 0.04, 0.15)[number % 3]
         self.end = end
         count = self.chance.choice((0, 1, 2, 3, 5, 8, 13))
-        self.data = bytearray(32 + 12 * count)
+        self.data = bytearray(HEADER_SIZE + ENTRY_SIZE * count)
         entries = [self.entry() for _ in range(count)]
         for index, entry in enumerate(entries):
             if index and self.chance.random() < 0.1:
                 entry = self.chance.choice(entries)
             if self.is_bad():
                 entry = self.bad_entry(*entry)
-            pack_into("<3I", self.data, 32 + 12 * index, *entry)
+            self.write(HEADER_SIZE + ENTRY_SIZE * index, minidumps.entry(*entry))
         self.header(count)
         if number % 3 == 2:
             self.spoil()
+
+    def write(self, at: int, data: bytes) -> None:
+        self.data[at : at + len(data)] = data
 
     def is_bad(self) -> bool:
         return self.chance.random() < self.errors
@@ -70,19 +75,19 @@ class Maker:
         near = [self.end - size + step for step in (-2, -1, 0, 1)]
         return max(0, self.chance.choice((*near, self.chance.choice(EDGES)))) & 0xFFFFFFFF
 
-    def part(self, data: bytes, is_range: bool = False) -> bytes:
+    def part(self, data: bytes) -> Part:
         """The size and the place of a part."""
         chosen = self.chance.random()
         if chosen < 0.1:
-            return pack("<II", 0, self.number())
+            return 0, self.number()
         if chosen < 0.2:
-            return pack("<II", self.chance.choice((len(data), self.number())), 0)
+            return self.chance.choice((len(data), self.number())), 0
         if self.is_bad():
             size = self.chance.choice((len(data), self.number()))
-            return pack("<II", size, self.bad_place(size))
+            return size, self.bad_place(size)
         if chosen < 0.3:
-            return pack("<II", len(data), self.chance.randrange(32))
-        return pack("<II", len(data), self.put(data))
+            return len(data), self.chance.randrange(32)
+        return len(data), self.put(data)
 
     def some(self, most: int) -> bytes:
         return self.chance.randbytes(self.chance.randrange(most))
@@ -92,22 +97,22 @@ class Maker:
         if self.chance.random() < 0.1:
             return 0
         letters = [*range(0x20, 0x7F)] * 2
-        units = [self.chance.choice((*letters, *UNITS * 4)) for _ in range(self.chance.choice((0, 1, 2, 7, 8, 9, 20)))]
-        length = 2 * len(units)
+        name = units(*[self.chance.choice((*letters, *UNITS * 4)) for _ in range(self.chance.choice((0, 1, 2, 7, 8, 9, 20)))])
+        length = len(name)
         if self.is_bad():
             length = self.chance.choice((length + 1, self.number(), 0x7FFFFFFE, 4096, 4098))
         if self.is_bad():
             return self.bad_place(self.chance.choice((0, 4)))
-        place = self.put(pack(f"<I{len(units)}H", length, *units))
+        place = self.put(numbers(length) + name)
         if self.is_bad():
             # The units end where the file ends, or a little before or after that.
-            pack_into("<I", self.data, place, max(0, self.end - place - 4 + self.chance.choice((-2, -1, 0, 1, 2, 4, 8))))
+            self.write(place, numbers(max(0, self.end - place - 4 + self.chance.choice((-2, -1, 0, 1, 2, 4, 8)))))
         return place
 
     def codeview(self) -> bytes:
         name = b"".join(self.chance.choice((*BYTES, b"a", b"bc", b"d.pdb")) for _ in range(self.chance.choice((0, 1, 3, 8))))
         end = self.chance.choice((b"\0", b"\0xyz", b""))
-        record = b"RSDS" + self.chance.randbytes(16) + pack("<I", self.number()) + name + end
+        record = minidumps.codeview(self.chance.randbytes(16), self.number(), name + end)
         chosen = self.chance.random()
         if chosen < 0.6:
             return record
@@ -115,39 +120,45 @@ class Maker:
         return record[:cut] if chosen < 0.8 else b"NB10" + self.some(40)
 
     def version(self) -> bytes:
-        return pack("<13I", *[self.number() for _ in range(13)])
+        return numbers(*[self.number() for _ in range(13)])
 
     def record(self, kind: int) -> bytes:
         """A record of a list."""
         number, wide = self.number, self.wide
         if kind == 3:
-            head = pack("<4IQQ", number(), number(), number(), number(), wide(), wide())
-            return head + self.part(self.some(24)) + self.part(self.some(40))
+            return minidumps.thread(
+                number(), number(), number(), number(), wide(), wide(), self.part(self.some(24)), self.part(self.some(40))
+            )
         if kind == 4:
-            head = pack("<Q4I", wide(), number(), number(), number(), self.name()) + self.version()
-            return head + self.part(self.codeview()) + self.part(self.some(16)) + self.chance.randbytes(16)
+            return minidumps.module(
+                wide(), number(), number(), number(), self.name(), self.version(),
+                self.part(self.codeview()), self.part(self.some(16)), self.chance.randbytes(16),
+            )
         if kind == 5:
-            return pack("<Q", self.start()) + self.part(self.some(40))
+            return minidumps.memory_range(self.start(), self.part(self.some(40)))
         if kind == 9:
             size = self.chance.choice((0, 1, 4, 16, 33))
-            return pack("<QQ", self.start(), wide() if self.is_bad() else size)
+            return wide_numbers(self.start(), wide() if self.is_bad() else size)
         if kind == 14:
-            return pack("<Q4I", wide(), number(), number(), number(), self.name())
+            return minidumps.unloaded_module(wide(), number(), number(), number(), self.name())
         if kind == 16:
-            return pack("<QQIIQ4I", wide(), wide(), number(), number(), wide(), number(), number(), number(), number())
-        return pack("<IQ", number(), self.name() + (1 << 32 if self.is_bad() else 0))
+            return minidumps.region(wide(), wide(), number(), number(), wide(), number(), number(), number(), number())
+        return minidumps.thread_name(number(), self.name() + (1 << 32 if self.is_bad() else 0))
 
     def start(self) -> int:
         return self.chance.choice((*STARTS, self.wide()))
 
     def exception(self) -> bytes:
         count = self.chance.choice((*range(16), 16, self.number()))
-        head = pack("<4IQQII", *[self.number() for _ in range(4)], self.wide(), self.wide(), count, self.number())
-        return head + pack("<15Q", *[self.wide() for _ in range(15)]) + self.part(self.some(40))
+        number, wide = self.number, self.wide
+        return minidumps.exception(
+            number(), number(), number(), number(), wide(), wide(), count, number(),
+            [wide() for _ in range(15)], self.part(self.some(40)),
+        )
 
     def system(self) -> bytes:
         name = self.name()
-        return self.chance.randbytes(8) + pack("<5I", *[self.number() for _ in range(4)], name) + self.chance.randbytes(28)
+        return self.chance.randbytes(8) + numbers(*[self.number() for _ in range(4)], name) + self.chance.randbytes(28)
 
     def list_of(self, kind: int) -> bytes:
         """A list with its head."""
@@ -166,15 +177,16 @@ class Maker:
                 begin = self.chance.choice((head - 1, 0, head + len(gap) + len(rows) + self.chance.choice((0, 1)), self.number()))
             if self.is_bad() or not count:
                 apart = self.chance.choice((size - 1, 0, size + 1, self.number()))
-            return pack("<III" if kind == 14 else "<IIQ", begin, apart, counted) + gap + rows
+            made = numbers(begin, apart, counted) if kind == 14 else minidumps.regions_head(begin, apart, counted)
+            return made + gap + rows
         if kind == 9:
             total = self.chance.randbytes(sum(int.from_bytes(row[8:], "little") % 64 for row in records))
             base = self.put(total)
             if self.is_bad():
                 base = self.chance.choice((self.bad_place(len(total)), self.wide()))
-            return pack("<QQ", counted, base) + b"".join(records) + slack
+            return wide_numbers(counted, base) + b"".join(records) + slack
         padding = self.chance.choice((b"", b"", bytes(4), b"pads"))
-        return pack("<I", counted) + padding + b"".join(records) + (b"" if padding else slack)
+        return numbers(counted) + padding + b"".join(records) + (b"" if padding else slack)
 
     def entry(self) -> tuple[int, int, int]:
         """The type, the size and the place of a stream."""
@@ -203,7 +215,7 @@ class Maker:
         )
 
     def header(self, count: int) -> None:
-        signature, version, directory = b"MDMP", 0xA793 | self.chance.choice((0, self.number() << 16 & 0xFFFFFFFF)), 32
+        signature, version, directory = b"MDMP", VERSION | self.chance.choice((0, self.number() << 16 & 0xFFFFFFFF)), HEADER_SIZE
         if count == 0:
             directory = self.number()
         if self.is_bad() and self.chance.random() < 0.6:
@@ -217,7 +229,8 @@ class Maker:
             else:
                 directory = self.bad_place(12 * count)
         rest = self.number(), self.number(), self.wide()
-        pack_into("<4s5IQ", self.data, 0, signature, version, count, directory, *rest)
+        made = minidumps.header(count, directory, *rest, version=version, signature=int.from_bytes(signature, "little"))
+        self.write(0, made)
 
     def spoil(self) -> None:
         """Changes bytes after the directory, or cuts some off at the end."""
@@ -237,35 +250,34 @@ def made(number: int) -> bytes:
 
 def file_of(*streams: tuple[int, bytes], again: int = 1, rest: bytes = b"") -> bytes:
     """A file of these streams, each named by so many entries, and bytes after them."""
-    at = 32 + 12 * again * len(streams)
-    directory = b""
+    file = File(again * len(streams), alignment=1)
     for kind, stream in streams:
-        directory += pack("<3I", kind, len(stream), at) * again
-        at += len(stream)
-    header = pack("<4s5IQ", b"MDMP", 0xA793, again * len(streams), 32, 0, 0, 0)
-    return b"".join([header, directory, *(stream for _, stream in streams), rest])
+        at = file.part(stream)
+        for _ in range(again):
+            file.entry(kind, len(stream), at)
+    file.part(rest)
+    return file.bytes(time_date_stamp=0)
 
 
 def large(path: str, out: str) -> Iterator[tuple[str, bytes, list[str]]]:
     """Files that reach a limit: what is large, the file, and the command lines for a file at a path, and for its copy."""
     lists = [f"list {path}", f"list --json --pdb {path}", f"check {path}"]
     # As many ranges as may be, which are too many for `--memory`, and more of them.
-    ranges = pack("<I", 1 << 16) + pack("<QII", 0x1000, 0, 0) * (1 << 16)
+    ranges = minidumps.counted([minidumps.memory_range(0x1000, (0, 0))] * (1 << 16))
     yield "most ranges", file_of((5, ranges), again=1 << 12), [f"{line} --memory 1000000" for line in (*lists, f"hex {path} 0 1")]
     yield "more ranges", file_of((5, ranges), again=(1 << 12) + 1), [*lists, f"hex {path} 0 1"]
     # A copy has the bytes of a range as often as ranges name them: here 4 GiB.
-    shared = pack("<I", 1 << 12) + pack("<QII", 0x1000, 1 << 20, 48 + (16 << 12)) * (1 << 12)
+    shared = minidumps.counted([minidumps.memory_range(0x1000, (1 << 20, 48 + (16 << 12)))] * (1 << 12))
     yield "copy", file_of((5, shared), rest=bytes(1 << 20)), [f"check {path}", f"copy {path} {out} 5"]
     # Heads and records that are larger than the window.
-    rows = b"".join(pack("<Q4I", k, 1, 2, 3, 0) + bytes(69976) for k in range(3))
-    far = pack("<3I", 80000, 70000, 3) + bytes(79988) + rows
+    rows = [minidumps.unloaded_module(k, 1, 2, 3) + bytes(69976) for k in range(3)]
+    far = minidumps.unloaded_modules(rows, 80000, 70000, bytes(79988))
     windows = [f"list {path} --window {window}" for window in (168, 4096, 70000, 1 << 20)]
     yield "records", file_of((14, far), again=2), [*lists, *windows, f"copy {path} {out} 14"]
     # Names around the limit, and around what a block of output has.
     lengths = (4094, 4096, 4098, 65534, 65536, 80000)
-    place, names, records = 44 + 4 + 12 * len(lengths), b"", pack("<I", len(lengths))
+    names, records = Parts(44 + 4 + 12 * len(lengths), alignment=1), list[bytes]()
     for k, length in enumerate(lengths):
-        records += pack("<IQ", k, place + len(names))
-        names += pack("<I", length) + bytes([0x61 + k, 0x20 * (k % 2)]) * (length // 2)
+        records.append(minidumps.thread_name(k, names.string(bytes([0x61 + k, 0x20 * (k % 2)]) * (length // 2))))
     more = [f"{line} --name {limit}" for line in (*lists, f"copy {path} {out} 24") for limit in (4094, 65536, 80000, 1 << 20)]
-    yield "names", file_of((24, records), rest=names), [*lists, *more, f"copy {path} {out} 24"]
+    yield "names", file_of((24, minidumps.counted(records)), rest=b"".join(names.parts)), [*lists, *more, f"copy {path} {out} 24"]

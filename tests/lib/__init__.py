@@ -1,0 +1,1 @@
+"""What the scripts of tests/, bench/ and bindings/tests share. Nothing that is installed needs it."""
