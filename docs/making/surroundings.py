@@ -19,7 +19,7 @@ SHOWN = [
     ("no allocation", r"for_no_memory|takes_no_memory"),
     ("an allocation", r"growth|name_was_refused|want_of_memory|memory::memory_is"),
     ("a truncated file", r"prefixes::"),
-    ("a sink that stops", r"sinks::"),
+    ("a sink that stops", r"sinks::|sink_stops"),
     ("success", r"succeed|are_read$|is_read_back|copy_stands|by_no_fetch"),
     ("a call of the system", r"system_calls::"),
     ("a write", r"output|an_escape|line_outs::"),
@@ -128,7 +128,7 @@ What calls return when something fails is [proved](../promises.md). These tests 
 | a read | The source gives one byte per call, and call number k fails. |
 | a write | The output takes one byte per call, and call number k fails. |
 | a call of the system | For files on disk, call number k fails. |
-| a sink that stops | The sink stops at item number k. |
+| a sink that stops | The sink stops at item or row number k. |
 | the read limit, the memory limit | The limit is one byte too small, or is reached later. |
 | a truncated file | Every first part of a small dump is read. |
 | success | The call succeeds with ample memory. |
