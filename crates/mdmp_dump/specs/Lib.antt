@@ -1,3 +1,4 @@
+pub mod Dropped
 pub mod EntryWalk
 pub mod Exception
 pub mod FileRefusal

@@ -5,6 +5,7 @@ ghost use Rattle.mdmp_dump.specs.Reading.{IsWanting};
 
 use crate::entry_walk::{EntryWalk, ViewRefused};
 use crate::fault::ReadFault;
+use crate::let_go::LetGo;
 use crate::pass::{Pass, begin_pass, changed, cost_of, kind_of, records_size, take_record};
 use crate::stream_walk::{Kept, walk_all};
 use crate::view::{DumpView, Fields, HeaderFields, Kind, ViewFault};
@@ -36,6 +37,7 @@ pub struct FileView<S: Store + Drop, A: Allocator + Copy> {
 impl<S: Store + Drop, A: Allocator + Copy> FileView<S, A> {
     ghost use Rattle.mdmp_dump.specs.FileRefusal.{view_refusal};
     ghost use Rattle.mdmp_source.specs.Count.{raised};
+    ghost use Rattle.mdmp_dump.specs.Dropped.{DropsSource};
     ghost use Rattle.mdmp_dump.specs.Opened.{CostsOpening, HandsSourceBack, RefusesView, ShowsFile};
     ghost use Rattle.mdmp_dump.specs.Opening.{IsNewView, fetched_by, held_by, needed_by, opened_by, source_in, spent_by, started_by};
     ghost use Rattle.mdmp_dump.specs.Reading.{Settles};
@@ -53,16 +55,23 @@ impl<S: Store + Drop, A: Allocator + Copy> FileView<S, A> {
         limits: Limits,
         choice: Choice,
     ) -> Result<Self, ReadFault>
+    where
+        Source<S>: LetGo,
         ensures views { IfOk result (λ view. ShowsFile A source choice (⟦<FileView<S, A> as DumpView>⟧.shape view)) }
         ensures refuses { (file : List ℕ) → source.store.content ≡ Some file → Settles (view_refusal file choice limits.name) result (λ _. None) }
         ensures short { source.size < 32 → MatchResult result (λ _. ⊥) (λ fault. fault ≡ ReadFault.Opening (OpenFault.TooShort source.size)) }
         ensures new { IfOk result (IsNewView source limits.window limits.memory choice) }
         ensures costs { IfOk result (CostsOpening source limits choice) }
         ensures refused { IfErr result (RefusesView limits choice source) }
+        // The source is dropped as `open_source` hands it back.
+        ensures dropped { IfErr result (DropsSource ⟦<Source<S> as LetGo>⟧.may_go limits choice source) }
     {
         match FileView::open_source(alloc, source, limits, choice) {
             Ok(view) => Ok(view),
-            Err(refused) => Err(refused.fault),
+            Err(ViewRefused { fault, source }) => {
+                source.let_go();
+                Err(fault)
+            }
         }
     }
 

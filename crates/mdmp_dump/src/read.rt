@@ -3,15 +3,17 @@ ghost use Rattle.std.specs.Prelude.{◌≡◌, ◌<◌, ℕ, List, MatchResult, 
 ghost use Rattle.mdmp_source.specs.Store.{IsGood};
 ghost use Rattle.mdmp_lister.specs.Format.Listing.{Numbered};
 ghost use Rattle.mdmp_lister.specs.Meter.{IsBooked, KeepsTo};
+ghost use Rattle.mdmp_dump.specs.Dropped.{IsReadAndDropped};
 ghost use Rattle.mdmp_dump.specs.Keeping.{KeepsStep, KeepsReading};
 ghost use Rattle.mdmp_dump.specs.LaysOut.{AreStreams, LaysOut};
 ghost use Rattle.mdmp_dump.specs.Left.{is_item_of, left_from, run_of};
-ghost use Rattle.mdmp_dump.specs.Reading.{Fetches, IsEntryRead, IsGoing, IsOneStream, IsRaw, IsReadRefusal, IsReadWithin, IsWithoutBudget, OpensWithin, Settles, TellsLimit, TellsOf, owed, read_within, refusal_of, store_fault};
+ghost use Rattle.mdmp_dump.specs.Reading.{Fetches, IsEntryRead, IsGoing, IsOneStream, IsRaw, IsReadRefusal, IsWithoutBudget, OpensWithin, Settles, TellsLimit, TellsOf, owed, read_within, refusal_of, store_fault};
 ghost use Rattle.mdmp_dump.specs.Refusal.{read_refusal};
 
 use crate::dump::{Dump, Stream};
 use crate::exception::Exception;
 use crate::fault::ReadFault;
+use crate::let_go::LetGo;
 use crate::memory::MemoryRange;
 use crate::memory64::Memory64Range;
 use crate::module::Module;
@@ -51,6 +53,8 @@ pub fn read_dump<S: Store + Drop, A: Allocator + Copy>(
     choice: Choice,
     parts: u64,
 ) -> Result<Dump<A>, ReadFault>
+where
+    Source<S>: LetGo,
     ensures lays_out { (file : List ℕ) → source.store.content ≡ Some file → IfOk result (LaysOut file choice) }
     ensures refuses { (file : List ℕ) → source.store.content ≡ Some file → Settles (read_refusal file choice limits.name parts) result (λ _. None) }
     ensures good { (file : List ℕ) → IsGood source.store file → IfErr result (λ fault. store_fault fault ≡ None) }
@@ -58,9 +62,11 @@ pub fn read_dump<S: Store + Drop, A: Allocator + Copy>(
     ensures short { source.size < 32 → result ≡ Err (ReadFault.Opening (OpenFault.TooShort source.size)) }
     ensures tells { IfErr result (TellsOf source.store.content) }
     ensures limited { MatchResult result (λ _. OpensWithin limits choice source.store.content) (TellsLimit limits choice source.store.content) }
-    ensures within { IsReadWithin limits parts result source }
+    ensures within { IsReadAndDropped ⟦<Source<S> as LetGo>⟧.may_go limits parts result source }
 {
-    read_source(alloc, source, limits, choice, parts).answer
+    let ReadAnswered { answer, source: left } = read_source(alloc, source, limits, choice, parts);
+    left.let_go();
+    answer
 }
 
 /// Does what `read_dump` does, and hands the source back, whose counts tell the cause of its faults.

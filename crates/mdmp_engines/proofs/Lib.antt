@@ -3,6 +3,7 @@ pub mod BlockLemmas
 pub mod Checking
 pub mod CopyRows
 pub mod Copying
+pub mod Dropping
 pub mod Engining
 pub mod Hexing
 pub mod JsonClean

@@ -2,6 +2,7 @@ pub mod Causes
 pub mod CheckRuns
 pub mod CheckText
 pub mod Copying
+pub mod Dropping
 pub mod Engines
 pub mod Faults
 pub mod HexRuns

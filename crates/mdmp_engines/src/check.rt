@@ -5,12 +5,14 @@ ghost use Rattle.mdmp_lister.specs.Format.Listing.{verdicts};
 ghost use Rattle.mdmp_engines.specs.CheckRuns.{CheckEnds, Checks};
 ghost use Rattle.mdmp_engines.specs.CheckText.{verdict_lines};
 ghost use Rattle.mdmp_engines.specs.Causes.{HasBudgetCause, KeepsAside, MayReachAside, MayReachBudget, MayReachMemory};
-ghost use Rattle.mdmp_engines.specs.Engines.{IsOpened, IsSameRun, IsReadThrough, KeepsReads, Leaves, ReadsSource, ReadsStore, Tells, WritesText, at_most, directly, past_faults, check_access};
+ghost use Rattle.mdmp_engines.specs.Dropping.{DropsStore};
+ghost use Rattle.mdmp_engines.specs.Engines.{IsOpened, IsSameRun, IsReadThrough, KeepsReads, Leaves, ReadsSource, Tells, WritesText, at_most, directly, past_faults, check_access};
 
 use crate::engine::{Engine, run, run_source};
 use crate::fault::{ToolFault, told_list};
 use crate::outcome::Outcome;
 use crate::reporting::report_check;
+use mdmp_dump::LetGo;
 use mdmp_lister::{Choice, Limits, Lister, RunFault, Stopped, Verdict, VerdictSink};
 use mdmp_print::{LineForm, Printer, print_verdict};
 use mdmp_source::{Out, OutFailed, Source, Store};
@@ -29,12 +31,14 @@ pub fn run_check<S: Store + Drop, A: Allocator + Copy, O: Out>(
     form: LineForm,
     out: &mut O,
 ) -> Result<u64, ToolFault>
+where
+    Source<S>: LetGo,
     ensures checks { (file : List ℕ) → (S.state store).content ≡ Some file → Checks form file limits.name (O.state out.old) result (O.state out.new) }
     ensures tells { Tells directly past_faults (S.state store) (S.state store).size (O.state out.old) result (O.state out.new) }
     ensures budget { MayReachBudget limits (S.state store).size result }
     ensures memory { MayReachMemory limits result }
     ensures aside { MayReachAside None limits (S.state store).size result }
-    ensures read { ReadsStore (check_access limits) (S.state store) result }
+    ensures read { DropsStore ⟦<Source<S> as LetGo>⟧.may_go (check_access limits) (S.state store) result }
 {
     run(CheckEngine { form }, alloc, store, limits, out)
 }

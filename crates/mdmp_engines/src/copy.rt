@@ -16,11 +16,12 @@ ghost use Rattle.mdmp_writer.specs.Passes.{all_asks, all_costs};
 ghost use Rattle.mdmp_writer.specs.Writing.{GoesOut};
 ghost use Rattle.mdmp_engines.specs.Causes.{IsNoSourceFault};
 ghost use Rattle.mdmp_engines.specs.Copying.{Copies, IsDumpCopied, IsShapeCopied, IsToldByView, SpendsCopy, SpendsWithin, TellsCopyBudget, TellsCopyMemory, first_not_copied, is_copied};
+ghost use Rattle.mdmp_engines.specs.Dropping.{DropsCopied};
 ghost use Rattle.mdmp_engines.specs.Engines.{ReadsSource};
 
 use crate::fault::{ToolFault, told_reading};
 use crate::outcome::Outcome;
-use mdmp_dump::{DumpView, FileView, ReadFault, ViewFault, ViewRefused};
+use mdmp_dump::{DumpView, FileView, LetGo, ReadFault, ViewFault, ViewRefused};
 use mdmp_lister::{Choice, Limits, StreamKind, TypeSet};
 use mdmp_source::{Out, Source, Store};
 use mdmp_writer::{WriteFault, write_dump};
@@ -69,15 +70,18 @@ pub fn run_copy<S: Store + Drop, A: Allocator + Copy, O: Out>(
     types: TypeSet,
     out: &mut O,
 ) -> Result<u64, ToolFault>
+where
+    Source<S>: LetGo,
     ensures copies { Copies A (S.state store).content (S.state store).size types limits.name (O.state out.old) result (O.state out.new) }
     ensures good { (file : List ℕ) → IsGood (S.state store) file → IsNoSourceFault result }
     ensures budget { TellsCopyBudget A types limits.budget limits.window (S.state store).content result }
     ensures memory { TellsCopyMemory limits (S.state store).content result }
+    // The source over the store is dropped as `copy_source` hands it back.
+    ensures dropped { DropsCopied ⟦<Source<S> as LetGo>⟧.may_go A types limits (S.state store) result }
 {
-    if let Some(stream_type) = first_not_copied(types.types()) {
-        return Err(ToolFault::NotCopied(stream_type));
-    }
-    copy_source(alloc, Source::new(store), limits, types, out).answer
+    let Outcome { answer, source } = copy_source(alloc, Source::new(store), limits, types, out);
+    source.let_go();
+    answer
 }
 
 /// Does what `run_copy` does, and hands the source back, whose counts tell the cause of its faults. It

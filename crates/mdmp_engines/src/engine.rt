@@ -4,10 +4,12 @@ ghost use Rattle.mdmp_print.specs.Blocks.{MovesFront};
 ghost use Rattle.mdmp_lister.specs.Format.Refusal.{opening_fault};
 ghost use Rattle.mdmp_engines.specs.Causes.{MayReachAside, MayReachBudget, MayReachMemory};
 ghost use Rattle.mdmp_engines.specs.Telling.{opening_beside};
-ghost use Rattle.mdmp_engines.specs.Engines.{EndsFlushed, IsFlushed, IsReadThrough, ReadsSource, ReadsStore, Runs, RunsThrough, Tells, directly, in_blocks, unless_refused};
+ghost use Rattle.mdmp_engines.specs.Dropping.{DropsStore};
+ghost use Rattle.mdmp_engines.specs.Engines.{EndsFlushed, IsFlushed, IsReadThrough, ReadsSource, Runs, RunsThrough, Tells, directly, in_blocks, unless_refused};
 
 use crate::fault::{ToolFault, told_opening};
 use crate::outcome::Outcome;
+use mdmp_dump::LetGo;
 use mdmp_lister::{Choice, Limits, Lister, OpenFault};
 use mdmp_print::{LineOut, Printer};
 use mdmp_source::{Out, OutFailed, Source, Store};
@@ -91,6 +93,8 @@ pub(crate) fn run<E: Engine, S: Store + Drop, A: Allocator + Copy, O: Printer>(
     limits: Limits,
     out: &mut O,
 ) -> Result<E::Answer, ToolFault>
+where
+    Source<S>: LetGo,
     requires { E.can_print engine }
     ensures runs { (file : List ℕ) → (S.state store).content ≡ Some file
         → Runs file E.choice (E.Ends engine file limits.name) E.pace (unless_refused (opening_fault file E.choice) (E.text engine file limits.name))
@@ -99,9 +103,10 @@ pub(crate) fn run<E: Engine, S: Store + Drop, A: Allocator + Copy, O: Printer>(
     ensures budget { MayReachBudget limits (S.state store).size result }
     ensures memory { MayReachMemory limits result }
     ensures aside { MayReachAside (E.aside engine) limits (S.state store).size result }
-    ensures read { ReadsStore (record { limits = limits; choice = E.choice; pace = E.pace; held = E.held engine; aside = E.aside engine; beside = E.reads engine }) (S.state store) result }
+    ensures read { DropsStore ⟦<Source<S> as LetGo>⟧.may_go (record { limits = limits; choice = E.choice; pace = E.pace; held = E.held engine; aside = E.aside engine; beside = E.reads engine }) (S.state store) result }
 {
-    let Outcome { answer, source: _ } = run_source(engine, alloc, Source::new(store), limits, out);
+    let Outcome { answer, source } = run_source(engine, alloc, Source::new(store), limits, out);
+    source.let_go();
     answer
 }
 

@@ -3,7 +3,8 @@ ghost use Rattle.std.specs.Prelude.{◌≡◌, ◌≤◌, ◌<◌, ◌+◌, ℕ,
 ghost use Rattle.mdmp_map.specs.Ranges.{address_end};
 ghost use Rattle.mdmp_lister.specs.Format.Listing.{Run};
 ghost use Rattle.mdmp_engines.specs.Causes.{HasBudgetCause, KeepsAside, MayReachAside, MayReachBudget, MayReachMemory};
-ghost use Rattle.mdmp_engines.specs.Engines.{IsSameRun, IsReadThrough, Leaves, ReadsSource, ReadsStore, Tells, at_the_end, directly, hex_access};
+ghost use Rattle.mdmp_engines.specs.Dropping.{DropsStore};
+ghost use Rattle.mdmp_engines.specs.Engines.{IsSameRun, IsReadThrough, Leaves, ReadsSource, Tells, at_the_end, directly, hex_access};
 ghost use Rattle.mdmp_engines.specs.HexRuns.{Hexes, HexesMemory, HexesRun};
 ghost use Rattle.mdmp_print.specs.HexText.{length_limit};
 
@@ -11,6 +12,7 @@ use crate::engine::{Engine, run, run_source};
 use crate::fault::{ToolFault, told_list};
 use crate::outcome::Outcome;
 use crate::reporting::report;
+use mdmp_dump::LetGo;
 use mdmp_lister::{Choice, Limits, Lister};
 use mdmp_print::{Printer, print_hex_lines};
 use mdmp_source::{Out, OutFailed, Source, Store};
@@ -30,6 +32,8 @@ pub fn run_hex<S: Store + Drop, A: Allocator + Copy, O: Out>(
     length: u32,
     out: &mut O,
 ) -> Result<(), ToolFault>
+where
+    Source<S>: LetGo,
     requires within { address + length ≤ address_end }
     requires limited { length ≤ length_limit }
     ensures hexes { (file : List ℕ) → (S.state store).content ≡ Some file → Hexes file limits.name address length (O.state out.old) result (O.state out.new) }
@@ -37,7 +41,7 @@ pub fn run_hex<S: Store + Drop, A: Allocator + Copy, O: Out>(
     ensures budget { MayReachBudget limits (S.state store).size result }
     ensures memory { MayReachMemory limits result }
     ensures aside { MayReachAside None limits (S.state store).size result }
-    ensures read { ReadsStore (hex_access length limits) (S.state store) result }
+    ensures read { DropsStore ⟦<Source<S> as LetGo>⟧.may_go (hex_access length limits) (S.state store) result }
 {
     let engine = HexEngine {
         alloc,

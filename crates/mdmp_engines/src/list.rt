@@ -5,7 +5,8 @@ ghost use Rattle.mdmp_lister.specs.Format.Listing.{Run};
 ghost use Rattle.mdmp_lister.specs.Memory.{is_within};
 ghost use Rattle.mdmp_lister.specs.Sink.{names_of_all};
 ghost use Rattle.mdmp_engines.specs.Causes.{HasBudgetCause, KeepsAside, MayReachAside, MayReachBudget, MayReachMemory, symbols_cost};
-ghost use Rattle.mdmp_engines.specs.Engines.{IsSameRun, IsReadThrough, Leaves, ReadsSource, ReadsStore, Tells, directly, up_to_a_fault, list_access};
+ghost use Rattle.mdmp_engines.specs.Dropping.{DropsStore};
+ghost use Rattle.mdmp_engines.specs.Engines.{IsSameRun, IsReadThrough, Leaves, ReadsSource, Tells, directly, up_to_a_fault, list_access};
 ghost use Rattle.mdmp_engines.specs.Runs.{IsBehindNext, Lists, ListsFile, ListsNext, ListsRun, NamesNext, PutsSymbols, ReadsLeft, ReadsNext};
 ghost use Rattle.mdmp_engines.specs.Symbols.{symbols_of, symbols_read};
 ghost use Rattle.mdmp_engines.specs.Text.{symbols_text};
@@ -14,6 +15,7 @@ use crate::engine::{Engine, run, run_source};
 use crate::fault::{ToolFault, told_list};
 use crate::outcome::Outcome;
 use crate::reporting::report;
+use mdmp_dump::LetGo;
 use mdmp_lister::{Choice, Item, Limits, Lister};
 use mdmp_print::{LineForm, ModulePlace, Printer, print_dump, print_item, print_symbols};
 use mdmp_source::{Extent, Location, Out, OutFailed, Source, Store};
@@ -35,12 +37,14 @@ pub fn run_list<S: Store + Drop, A: Allocator + Copy, O: Out>(
     pdb: bool,
     out: &mut O,
 ) -> Result<(), ToolFault>
+where
+    Source<S>: LetGo,
     ensures lists { (file : List ℕ) → (S.state store).content ≡ Some file → Lists form pdb file limits.name (O.state out.old) result (O.state out.new) }
     ensures tells { Tells directly up_to_a_fault (S.state store) (S.state store).size (O.state out.old) result (O.state out.new) }
     ensures budget { MayReachBudget limits (S.state store).size result }
     ensures memory { MayReachMemory limits result }
     ensures aside { MayReachAside limits.aside limits (S.state store).size result }
-    ensures read { ReadsStore (list_access pdb limits) (S.state store) result }
+    ensures read { DropsStore ⟦<Source<S> as LetGo>⟧.may_go (list_access pdb limits) (S.state store) result }
 {
     let aside = limits.aside;
     run(ListEngine { form, pdb, aside }, alloc, store, limits, out)

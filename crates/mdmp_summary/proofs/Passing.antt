@@ -10,6 +10,7 @@ use Rattle.mdmp_lister.specs.Listed.{cost_of, entry_cost}
 use Rattle.mdmp_lister.specs.Lister.{IsSameLister, ListerState}
 use Rattle.mdmp_lister.specs.Walker.{WalkerState, is_sought, seeks}
 use Rattle.mdmp_summary.specs.Spending.{CountsNames, KeepsSettled, LookPaid, PassPaid, PaysLook, ReadsContext, RisesByNames, SpendsPasses, ahead, ahead_after, all_listed, room_for_name, next_number, settled}
+use Rattle.mdmp_summary.specs.SpendingLaws.{spends_more}
 use Rattle.mdmp_summary.specs.Walking.{IsSameListing}
 use Rattle.mdmp_summary.proofs.Paying.{few_names, rises_then}
 
@@ -172,21 +173,6 @@ module _ (old new : WalkerState) (reads : ReadsContext old new) where
   }
 
 -- ---- one after the other
-
-more_by : (count : MeterCounts → ℕ) (m n : ℕ) (old new : WalkerState) → m ≤ n → PassPaid count m old new → PassPaid count n old new
-more_by count m n old new few paid =
-    let cost : m * all_listed old ≤ n * all_listed old = mul-le-mul_right (all_listed old) few in
-    let rises = paid.rises in
-    record { rises = omega (arith, cost, rises); kept = paid.kept }
-
-pub spends_more : (m n a b : ℕ) (old new : WalkerState) → m ≤ n → a ≤ b → SpendsPasses m a old new → SpendsPasses n b old new
-spends_more m n a b old new few contexts spends = record {
-  more_names = spends.more_names;
-  asked = λ names. more_by (λ c. c.asked) m n old new few (spends.asked names);
-  fetched = λ names. more_by (λ c. c.fetched) m n old new few (spends.fetched names);
-  aside = let one = spends.aside in omega (arith, one, contexts);
-  aside_calls = let one = spends.aside_calls in omega (arith, one, contexts);
-}
 
 module _ (m n k a b : ℕ) (both : (cost : ℕ) → m * cost + n * cost ≡ k * cost) (old mid new : WalkerState) (same : IsSameListing old.list mid.list) where
   then_by : (count : MeterCounts → ℕ) → PassPaid count m old mid → PassPaid count n mid new → PassPaid count k old new

@@ -1,5 +1,6 @@
 -- What a summary of a file that was just opened fetches.
-use Rattle.std.proofs.Common.{◌≡◌, ◌≤◌, ◌+◌, ◌*◌, ◌∙◌, ℕ, ap, arith, subst, sym}
+use Rattle.std.proofs.Common.{◌≡◌, ◌≤◌, ◌+◌, ◌*◌, ◌∙◌, ℕ, Option, None, Some, Result, Ok, Err, ap, arith, subst, sym}
+use Rattle.std.proofs.Math.Nat.{mul-le-mul_right}
 use Rattle.mdmp_source.specs.Source.{SourceState}
 use Rattle.mdmp_lister.specs.declared.choice.Choice.{Choice}
 use Rattle.mdmp_lister.specs.declared.limits.Limits.{Limits}
@@ -8,7 +9,36 @@ use Rattle.mdmp_lister.specs.Format.Bounds.{fetch_bound}
 use Rattle.mdmp_lister.specs.Listed.{entry_cost}
 use Rattle.mdmp_lister.specs.Walker.{IsNewWalker, WalkerState}
 use Rattle.mdmp_summary.specs.Spending.{CountsNames, KeepsSettled, PassPaid, RisesByNames, SpendsPasses, all_listed, room_for_name, settled}
+use Rattle.mdmp_summary.specs.Summing.{SpendsSummary, contexts_for, passes_for}
 use Rattle.mdmp_summary.specs.Walking.{IsSameListing}
+use Rattle.mdmp_summary.specs.declared.summary.Crash.{Crash}
+use Rattle.mdmp_summary.specs.declared.summary.FileSummary.{FileSummary}
+use Rattle.mdmp_summary.specs.declared.summary.SummaryFault.{SummaryFault}
+
+-- what keeps to fewer passes keeps to more
+more_by : (count : MeterCounts → ℕ) (m n : ℕ) (old new : WalkerState) → m ≤ n → PassPaid count m old new → PassPaid count n old new
+more_by count m n old new few paid =
+    let cost : m * all_listed old ≤ n * all_listed old = mul-le-mul_right (all_listed old) few in
+    let rises = paid.rises in
+    record { rises = omega (arith, cost, rises); kept = paid.kept }
+
+pub spends_more : (m n a b : ℕ) (old new : WalkerState) → m ≤ n → a ≤ b → SpendsPasses m a old new → SpendsPasses n b old new
+spends_more m n a b old new few contexts spends = record {
+  more_names = spends.more_names;
+  asked = λ names. more_by (λ c. c.asked) m n old new few (spends.asked names);
+  fetched = λ names. more_by (λ c. c.fetched) m n old new few (spends.fetched names);
+  aside = let one = spends.aside in omega (arith, one, contexts);
+  aside_calls = let one = spends.aside_calls in omega (arith, one, contexts);
+}
+
+-- so a summary reads at most what two passes and a context cost
+spends_crash : (crash : Option Crash) (old new : WalkerState) → SpendsPasses (passes_for crash) (contexts_for crash) old new → SpendsPasses 2 1 old new
+spends_crash None old new spends = spends_more 1 2 0 1 old new (omega arith) (omega arith) spends
+spends_crash (Some crash) old new spends = spends
+
+pub spends_both : (result : Result FileSummary SummaryFault) (old new : WalkerState) → SpendsSummary result old new → SpendsPasses 2 1 old new
+spends_both (Ok summary) old new spends = spends_crash summary.crash old new spends
+spends_both (Err fault) old new spends = spends
 
 -- the bytes that a summary fetches for the listing at most: of a file with so many entries, whose listed streams have so many
 -- bytes, where so many names were reached. A name counts as often as it is reached

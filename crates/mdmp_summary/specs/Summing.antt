@@ -1,5 +1,5 @@
 -- Why there may be no summary.
-use Rattle.std.specs.Prelude.{◌≡◌, ℕ, List, Result, Err, IfErr}
+use Rattle.std.specs.Prelude.{◌≡◌, ℕ, List, Option, None, Some, Result, Ok, Err, IfErr}
 use Rattle.mdmp_source.specs.Source.{IsTold, SourceState}
 use Rattle.mdmp_lister.specs.declared.choice.Choice.TheVariants.{All}
 use Rattle.mdmp_lister.specs.declared.fault.OpenFault.{OpenFault}
@@ -44,9 +44,24 @@ IsUnreadIn (faults.Opening fault) = IsUnread fault
 IsUnreadIn (faults.List fault) = IsOfStore fault.kind
 IsUnreadIn (faults.Source fault) = Unit {0}
 
--- how a source was read that is dropped: its opening was refused, and says why; or a walker that was just opened made both
+-- a summary without a crash takes one pass and no context, another one takes two passes and a context
+abbrev pub passes_for : {C : Type 0} → Option C → ℕ
+passes_for None = 1
+passes_for (Some crash) = 2
+
+abbrev pub contexts_for : {C : Type 0} → Option C → ℕ
+contexts_for None = 0
+contexts_for (Some crash) = 1
+
+-- so many were made, or at most two and a context before an error
+abbrev pub SpendsSummary : Result FileSummary SummaryFault → WalkerState → WalkerState → Type 0
+SpendsSummary (Ok summary) old new = SpendsPasses (passes_for summary.crash) (contexts_for summary.crash) old new
+SpendsSummary (Err fault) old new = SpendsPasses 2 1 old new
+
+-- how a source was read before it was dropped: its opening was refused, and says why; or a walker that was just opened made the
 -- passes, and read no more than these, with an error that has its cause and its place in them
-pub data IsSummarizedThrough (limits : Limits) (source : SourceState) (result : Result FileSummary SummaryFault) : Type 0 where
-  refused : (fault : OpenFault) (new : SourceState) → result ≡ Err (faults.Opening fault) → IsRefusedWalker limits source fault new → IsSummarizedThrough limits source result
-  passed : (old new : WalkerState) → IsNewWalker source All limits old → SpendsPasses 2 1 old new → IsSameListing old.list new.list
-      → IfErr result (IsCallFault old.list new.list) → IsSummarizedThrough limits source result
+pub data IsSummarizedThrough (may_discard : SourceState → Type 0) (limits : Limits) (source : SourceState) (result : Result FileSummary SummaryFault) : Type 0 where
+  refused : (fault : OpenFault) (new : SourceState) → result ≡ Err (faults.Opening fault) → IsRefusedWalker limits source fault new → may_discard new
+      → IsSummarizedThrough may_discard limits source result
+  passed : (old new : WalkerState) → IsNewWalker source All limits old → SpendsSummary result old new → IsSameListing old.list new.list
+      → IfErr result (IsCallFault old.list new.list) → may_discard new.list.source → IsSummarizedThrough may_discard limits source result

@@ -8,16 +8,17 @@ ghost use Rattle.mdmp_lister.specs.declared.choice.Choice.TheVariants.{All};
 ghost use Rattle.mdmp_summary.specs.Spending.{SpendsPasses};
 ghost use Rattle.mdmp_summary.specs.BadEntries.{all_items};
 ghost use Rattle.mdmp_summary.specs.Summary.{address_ran, crash_told, near_of, place_in_module, platform_in, file_summary};
-ghost use Rattle.mdmp_summary.specs.Summing.{IsCallFault, IsFileFault, IsSummarizedThrough, IsSummaryFault, IsUnreadIn};
+ghost use Rattle.mdmp_summary.specs.Summing.{IsCallFault, IsFileFault, IsSummarizedThrough, IsSummaryFault, IsUnreadIn, SpendsSummary};
 ghost use Rattle.mdmp_summary.specs.Walking.{IsSameListing};
 
 use crate::context::Registers;
 use crate::context_reading::read_registers;
 use crate::crash::Platform;
+use crate::discard::Discard;
 use crate::passes::{gather_all, search_all};
 use crate::reach::reached_on;
 use crate::summary::{Crash, FileSummary, PlaceInModule, SummaryFault};
-use mdmp_lister::{Choice, ExceptionItem, Limits, Walker};
+use mdmp_lister::{Choice, ExceptionItem, Limits, OpenRefused, Walker};
 use mdmp_source::{Source, Store};
 use mdmp_wire::{ModuleRecord, SystemRecord};
 use std::alloc::Allocator;
@@ -118,7 +119,7 @@ pub fn summarize_listing<S: Store + Drop, A: Allocator + Copy>(
         → IfOk result (λ summary. summary ≡ file_summary file walker.old.list.limit) }
     ensures fault { IfErr result (IsCallFault walker.old.list walker.new.list) }
     ensures good { (file : List ℕ) → IsGood walker.old.list.source.store file → IfErr result (λ fault. IsUnreadIn fault → ⊥) }
-    ensures spends { SpendsPasses 2 1 walker.old walker.new }
+    ensures spends { SpendsSummary result walker.old walker.new }
     ensures same { IsSameListing walker.old.list walker.new.list }
 {
     let header = walker.header();
@@ -145,14 +146,24 @@ pub fn summarize<S: Store + Drop, A: Allocator + Copy>(
     source: Source<S>,
     limits: Limits,
 ) -> Result<FileSummary, SummaryFault>
+where
+    Source<S>: Discard,
     ensures sums { (file : List ℕ) → source.store.content ≡ Some file
         → MatchResult result (λ summary. (walk_fault limits file ≡ None) × (summary ≡ file_summary file limits.name)) (IsSummaryFault limits file) }
     // If each read succeeds and there is no read limit, only the file itself or too little memory is an error.
     ensures succeeds { (file : List ℕ) → IsGood source.store file → limits.budget ≡ None → IfErr result (IsFileFault limits file) }
-    ensures through { IsSummarizedThrough limits source result }
+    // The source is dropped as the last of these reads left it.
+    ensures through { IsSummarizedThrough ⟦<Source<S> as Discard>⟧.may_discard limits source result }
 {
     match Walker::open(alloc, source, limits, Choice::All) {
-        Ok(mut walker) => summarize_listing(&mut walker),
-        Err(refused) => Err(SummaryFault::Opening(refused.fault)),
+        Ok(mut walker) => {
+            let answer = summarize_listing(&mut walker);
+            walker.into_source().discard();
+            answer
+        }
+        Err(OpenRefused { fault, source: left }) => {
+            left.discard();
+            Err(SummaryFault::Opening(fault))
+        }
     }
 }

@@ -1,9 +1,9 @@
-use Rattle.std.proofs.Common.{◌∙◌, ap, sym}
-use Rattle.mdmp_engines.specs.Copying.{first_not_copied}
-use Rattle.mdmp_engines.proofs.Copying.{Copies-not}
+use Rattle.mdmp_engines.proofs.Besides.{source_is}
+use Rattle.mdmp_engines.proofs.Dropping.{drops_copied}
 use Rattle.mdmp_engines.proofs.copy.run_copy.Goals as goal
 
-pub returns-in-Some-clause-copies : goal.returns-in-Some-clause-copies
-returns-in-Some-clause-copies g c =
-    Copies-not g.row.A.Denot _ _ c.args.types c.args.limits.name (g.O.Out.state c.args.out.now) c.in-Some.stream_type
-    (ap first_not_copied (sym c.types.ensures) ∙ sym c.first_not_copied.ensures ∙ c.in-Some.is)
+pub returns-clause-dropped : goal.returns-clause-dropped
+returns-clause-dropped g c =
+    let of = c.copy_source.ensures in
+    let new = c.new.ensures in
+    drops_copied _ _ _ _ _ _ _ _ (source_is c.new.result _ new.store new.size new.counts.0 new.counts.1 new.fault) c.let_go.ensures of.reads of.unread of.spends of.within

@@ -22,4 +22,7 @@ pub returns-clause-read : goal.returns-clause-read
 returns-clause-read g c =
     let of = c.run_source-answer.ensures in
     let new = c.new.ensures in
-    reads_store _ _ c.new.result _ _ (source_is c.new.result _ new.store new.size new.counts.0 new.counts.1 new.fault) of.reads of.through
+    record {
+      read = reads_store _ _ c.new.result _ _ (source_is c.new.result _ new.store new.size new.counts.0 new.counts.1 new.fault) of.reads of.through;
+      dropped = c.let_go.ensures;
+    }

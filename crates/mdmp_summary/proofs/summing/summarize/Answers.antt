@@ -22,12 +22,13 @@ returns-in-Ok-clause-succeeds g c = λ file good none.
 pub returns-in-Err-clause-succeeds : goal.returns-in-Err-clause-succeeds
 returns-in-Err-clause-succeeds g c = λ file good none.
     let fetches = c.in-Err.ensures.refused.fetches in
-    opened_good c.args.limits file c.args.source fetches.kept.fetched c.in-Err.refused.fault none (c.in-Err.ensures.within file good.known) (fetches.good file good) fetches.kept.over
+    opened_good c.args.limits file c.args.source fetches.kept.fetched c.in-Err.fault none (c.in-Err.ensures.within file good.known) (fetches.good file good) fetches.kept.over
 
 pub returns-in-Ok-clause-through : goal.returns-in-Ok-clause-through
 returns-in-Ok-clause-through g c =
     let sums = c.summarize_listing.ensures in
     IsSummarizedThrough.passed c.in-Ok.walker c.summarize_listing.new.walker c.in-Ok.ensures.new sums.spends sums.same sums.fault
+    (subst g.may_discard c.into_source.ensures.value c.discard.ensures)
 
 pub returns-in-Err-clause-through : goal.returns-in-Err-clause-through
-returns-in-Err-clause-through g c = IsSummarizedThrough.refused c.in-Err.refused.fault c.in-Err.refused.source refl c.in-Err.ensures.refused
+returns-in-Err-clause-through g c = IsSummarizedThrough.refused c.in-Err.fault c.in-Err.left refl c.in-Err.ensures.refused c.discard.ensures
