@@ -1,5 +1,5 @@
 -- What a pass over all entries fetches, a look at a time.
-use Rattle.std.proofs.Common.{◌≡◌, ◌≤◌, ◌+◌, ◌*◌, ◌∙◌, ℕ, Result, Err, ap, arith, drop, refl, subst, sym, false}
+use Rattle.std.proofs.Common.{◌≡◌, ◌≤◌, ◌+◌, ◌*◌, ◌∙◌, ℕ, Option, Result, Ok, Err, ap, arith, drop, refl, subst, sym, false}
 use Rattle.std.proofs.Math.Nat.{mul-le-mul_right}
 use Rattle.mdmp_lister.specs.declared.fault.ListFault.{ListFault}
 use Rattle.mdmp_lister.specs.declared.meter.Amount.{Amount}
@@ -11,7 +11,10 @@ use Rattle.mdmp_lister.specs.Lister.{IsSameLister, ListerState}
 use Rattle.mdmp_lister.specs.Walker.{WalkerState, is_sought, seeks}
 use Rattle.mdmp_summary.specs.Spending.{CountsNames, KeepsSettled, LookPaid, PassPaid, PaysLook, ReadsContext, RisesByNames, SpendsPasses, ahead, ahead_after, all_listed, room_for_name, next_number, settled}
 use Rattle.mdmp_summary.specs.SpendingLaws.{spends_more}
+use Rattle.mdmp_summary.specs.Summing.{SpendsSummary, contexts_for, passes_for}
 use Rattle.mdmp_summary.specs.Walking.{IsSameListing}
+use Rattle.mdmp_summary.specs.declared.summary.Crash.{Crash}
+use Rattle.mdmp_summary.specs.declared.summary.FileSummary.{FileSummary}
 use Rattle.mdmp_summary.proofs.Paying.{few_names, rises_then}
 
 -- ---- a pass so far
@@ -202,3 +205,7 @@ crash_spends old mid new same first then = spends_then 0 1 1 1 0 (λ cost. omega
 
 pub summary_spends : (old mid new : WalkerState) → IsSameListing old.list mid.list → SpendsPasses 1 0 old mid → SpendsPasses 1 1 mid new → SpendsPasses 2 1 old new
 summary_spends old mid new same first then = spends_then 1 1 2 0 1 (λ cost. omega arith) old mid new same first then
+
+-- what was made for a crash, or for none, was made for a summary that has it
+pub crash_paid : (summary : FileSummary) (crash : Option Crash) (old new : WalkerState) → summary.crash ≡ crash → SpendsPasses (passes_for crash) (contexts_for crash) old new → SpendsSummary (Ok summary) old new
+crash_paid summary crash old new is spends = subst (λ (c : Option Crash). SpendsPasses (passes_for c) (contexts_for c) old new) (sym is) spends

@@ -1,6 +1,8 @@
-use Rattle.std.proofs.Common.{arith}
-use Rattle.mdmp_summary.proofs.Passing.{spends_more, summary_spends}
+use Rattle.std.proofs.Common.{Some, ap, arith}
+use Rattle.mdmp_summary.proofs.Passing.{crash_paid, summary_spends}
+use Rattle.mdmp_summary.specs.SpendingLaws.{spends_more}
 use Rattle.mdmp_summary.proofs.Told.{call_later, good_still, same_listing_then}
+use Rattle.mdmp_summary.specs.declared.summary.FileSummary.{FileSummary}
 use Rattle.mdmp_summary.proofs.summing.summarize_listing.Goals as goal
 
 pub returns-in-Err-clause-spends : goal.returns-in-Err-clause-spends
@@ -9,7 +11,8 @@ returns-in-Err-clause-spends g c = spends_more 1 2 0 1 c.args.walker.now c.gathe
 pub returns-in-Ok-tell_crash-clause-spends : goal.returns-in-Ok-tell_crash-clause-spends
 returns-in-Ok-tell_crash-clause-spends g c =
     let first = c.in-Ok.ensures in
-    summary_spends c.args.walker.now c.gather_all.new.walker c.tell_crash.new.walker first.same first.spends c.in-Ok-tell_crash.ensures.spends
+    crash_paid c.summary-in-Ok-tell_crash.result (Some _) c.args.walker.now c.tell_crash.new.walker (ap (λ (s : FileSummary). s.crash) c.summary-in-Ok-tell_crash.ensures)
+    (summary_spends c.args.walker.now c.gather_all.new.walker c.tell_crash.new.walker first.same first.spends c.in-Ok-tell_crash.ensures.spends)
 
 pub returns-in-Ok-tell_crash-clause-same : goal.returns-in-Ok-tell_crash-clause-same
 returns-in-Ok-tell_crash-clause-same g c =

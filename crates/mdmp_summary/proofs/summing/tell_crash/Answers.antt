@@ -1,5 +1,6 @@
 use Rattle.std.proofs.Common.{arith}
-use Rattle.mdmp_summary.proofs.Passing.{crash_spends, spends_more, spends_read}
+use Rattle.mdmp_summary.proofs.Passing.{crash_spends, spends_read}
+use Rattle.mdmp_summary.specs.SpendingLaws.{spends_more}
 use Rattle.mdmp_summary.proofs.Told.{context_listing, good_still, pass_later, same_listing_then}
 use Rattle.mdmp_summary.proofs.summing.tell_crash.Goals as goal
 

@@ -9,7 +9,8 @@ use Rattle.mdmp_summary.specs.BadEntries.{told_bad}
 use Rattle.mdmp_summary.specs.declared.bad_entries.BadEntries.{BadEntries}
 use Rattle.mdmp_summary.proofs.Entries.{no_faults, no_items}
 use Rattle.mdmp_summary.proofs.Counting.{bad_on, counts_begin, counts_more, faults_end, folds_on, items_end, skipped_left}
-use Rattle.mdmp_summary.proofs.Passing.{passed_done, passed_end, passed_skip, passed_sought, spends_more, spends_none}
+use Rattle.mdmp_summary.proofs.Passing.{passed_done, passed_end, passed_skip, passed_sought, spends_none}
+use Rattle.mdmp_summary.specs.SpendingLaws.{spends_more}
 use Rattle.mdmp_summary.proofs.Sought.{sought_left}
 use Rattle.mdmp_summary.proofs.Told.{good_still, look_later, looked_listing, obtained, same_listing_none, same_listing_then, skipped_listing, sought_listing, unobtained}
 use Rattle.mdmp_summary.proofs.walking.fold_all.Goals as goal
