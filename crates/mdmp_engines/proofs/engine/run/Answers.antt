@@ -1,4 +1,5 @@
-use Rattle.mdmp_engines.proofs.Besides.{reads_store, source_is}
+use Rattle.mdmp_engines.proofs.Besides.{source_is}
+use Rattle.mdmp_engines.proofs.Dropping.{drops_store}
 use Rattle.mdmp_engines.proofs.SameRuns.{may_reach, may_reach_aside, may_reach_memory}
 use Rattle.mdmp_engines.proofs.engine.run.Goals as goal
 
@@ -22,7 +23,4 @@ pub returns-clause-read : goal.returns-clause-read
 returns-clause-read g c =
     let of = c.run_source-answer.ensures in
     let new = c.new.ensures in
-    record {
-      read = reads_store _ _ c.new.result _ _ (source_is c.new.result _ new.store new.size new.counts.0 new.counts.1 new.fault) of.reads of.through;
-      dropped = c.let_go.ensures;
-    }
+    drops_store _ _ _ c.new.result _ _ (source_is c.new.result _ new.store new.size new.counts.0 new.counts.1 new.fault) c.let_go.ensures of.reads of.through
