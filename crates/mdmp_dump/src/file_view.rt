@@ -5,12 +5,11 @@ ghost use Rattle.mdmp_dump.specs.Reading.{IsWanting};
 
 use crate::entry_walk::{EntryWalk, ViewRefused};
 use crate::fault::ReadFault;
-use crate::let_go::LetGo;
 use crate::pass::{Pass, begin_pass, changed, cost_of, kind_of, records_size, take_record};
 use crate::stream_walk::{Kept, walk_all};
 use crate::view::{DumpView, Fields, HeaderFields, Kind, ViewFault};
 use mdmp_lister::{Choice, Limits, OpenFault};
-use mdmp_source::{Source, Store};
+use mdmp_source::{LetGo, Source, Store};
 use std::alloc::Allocator;
 
 /// The dump that a file lays out, given a record at a time: its names and parts are fetched when they are

@@ -47,7 +47,6 @@ mod fits;
 mod found_record;
 mod given;
 mod laws;
-mod let_go;
 mod memory;
 mod memory64;
 mod memory_info;
@@ -78,7 +77,6 @@ pub use crate::laws::{
     a_file_that_is_read_is_viewed, a_file_that_is_viewed_lays_out_a_dump,
     the_numbers_of_a_dump_fit,
 };
-pub use crate::let_go::LetGo;
 pub use crate::memory::MemoryRange;
 pub use crate::memory64::Memory64Range;
 pub use crate::module::Module;

@@ -13,7 +13,6 @@ ghost use Rattle.mdmp_dump.specs.Refusal.{read_refusal};
 use crate::dump::{Dump, Stream};
 use crate::exception::Exception;
 use crate::fault::ReadFault;
-use crate::let_go::LetGo;
 use crate::memory::MemoryRange;
 use crate::memory64::Memory64Range;
 use crate::module::Module;
@@ -25,7 +24,7 @@ use crate::thread::Thread;
 use crate::thread_name::ThreadName;
 use crate::unloaded::Unloaded;
 use mdmp_lister::{Choice, FaultKind, Limits, Lister, OpenFault, StreamItem};
-use mdmp_source::{Source, Store, inside};
+use mdmp_source::{LetGo, Source, Store, inside};
 use mdmp_wire::MemoryInfoRecord;
 use std::alloc::Allocator;
 
@@ -64,7 +63,10 @@ where
     ensures limited { MatchResult result (λ _. OpensWithin limits choice source.store.content) (TellsLimit limits choice source.store.content) }
     ensures within { IsReadAndDropped ⟦<Source<S> as LetGo>⟧.may_go limits parts result source }
 {
-    let ReadAnswered { answer, source: left } = read_source(alloc, source, limits, choice, parts);
+    let ReadAnswered {
+        answer,
+        source: left,
+    } = read_source(alloc, source, limits, choice, parts);
     left.let_go();
     answer
 }

@@ -12,10 +12,9 @@ use crate::engine::{Engine, run, run_source};
 use crate::fault::{ToolFault, told_list};
 use crate::outcome::Outcome;
 use crate::reporting::report_check;
-use mdmp_dump::LetGo;
 use mdmp_lister::{Choice, Limits, Lister, RunFault, Stopped, Verdict, VerdictSink};
 use mdmp_print::{LineForm, Printer, print_verdict};
-use mdmp_source::{Out, OutFailed, Source, Store};
+use mdmp_source::{LetGo, Out, OutFailed, Source, Store};
 use std::alloc::Allocator;
 
 /// Reads all entries of a file, and prints a line in this form for each: that it is good, or its first

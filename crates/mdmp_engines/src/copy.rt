@@ -21,9 +21,9 @@ ghost use Rattle.mdmp_engines.specs.Engines.{ReadsSource};
 
 use crate::fault::{ToolFault, told_reading};
 use crate::outcome::Outcome;
-use mdmp_dump::{DumpView, FileView, LetGo, ReadFault, ViewFault, ViewRefused};
+use mdmp_dump::{DumpView, FileView, ReadFault, ViewFault, ViewRefused};
 use mdmp_lister::{Choice, Limits, StreamKind, TypeSet};
-use mdmp_source::{Out, Source, Store};
+use mdmp_source::{LetGo, Out, Source, Store};
 use mdmp_writer::{WriteFault, write_dump};
 use std::alloc::Allocator;
 

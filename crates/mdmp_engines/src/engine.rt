@@ -9,10 +9,9 @@ ghost use Rattle.mdmp_engines.specs.Engines.{EndsFlushed, IsFlushed, IsReadThrou
 
 use crate::fault::{ToolFault, told_opening};
 use crate::outcome::Outcome;
-use mdmp_dump::LetGo;
 use mdmp_lister::{Choice, Limits, Lister, OpenFault};
 use mdmp_print::{LineOut, Printer};
-use mdmp_source::{Out, OutFailed, Source, Store};
+use mdmp_source::{LetGo, Out, OutFailed, Source, Store};
 use std::alloc::Allocator;
 
 /// A command over the listing of a file: which streams it lists, and what it prints of them.

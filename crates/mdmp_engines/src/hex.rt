@@ -12,10 +12,9 @@ use crate::engine::{Engine, run, run_source};
 use crate::fault::{ToolFault, told_list};
 use crate::outcome::Outcome;
 use crate::reporting::report;
-use mdmp_dump::LetGo;
 use mdmp_lister::{Choice, Limits, Lister};
 use mdmp_print::{Printer, print_hex_lines};
-use mdmp_source::{Out, OutFailed, Source, Store};
+use mdmp_source::{LetGo, Out, OutFailed, Source, Store};
 use std::alloc::Allocator;
 
 /// Prints memory of the dumped process: `length` bytes from the address `address` on, sixteen on a

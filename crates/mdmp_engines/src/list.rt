@@ -15,10 +15,9 @@ use crate::engine::{Engine, run, run_source};
 use crate::fault::{ToolFault, told_list};
 use crate::outcome::Outcome;
 use crate::reporting::report;
-use mdmp_dump::LetGo;
 use mdmp_lister::{Choice, Item, Limits, Lister};
 use mdmp_print::{LineForm, ModulePlace, Printer, print_dump, print_item, print_symbols};
-use mdmp_source::{Extent, Location, Out, OutFailed, Source, Store};
+use mdmp_source::{Extent, LetGo, Location, Out, OutFailed, Source, Store};
 use std::alloc::Allocator;
 
 /// Prints what a file holds: a line for its header, and one for each item of its listing, up to the

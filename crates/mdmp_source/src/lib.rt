@@ -23,6 +23,7 @@ mod calls;
 mod fault;
 mod file_block;
 mod file_store;
+mod let_go;
 mod location;
 mod memory_store;
 mod output;
@@ -38,6 +39,7 @@ mod write_out;
 
 pub use crate::fault::SourceFault;
 pub use crate::file_store::FileStore;
+pub use crate::let_go::LetGo;
 pub use crate::location::{Extent, Location};
 pub use crate::memory_store::MemoryStore;
 pub use crate::output::{Out, OutFailed, send, write_all};

@@ -60,8 +60,8 @@ SpendsSummary (Err fault) old new = SpendsPasses 2 1 old new
 
 -- how a source was read before it was dropped: its opening was refused, and says why; or a walker that was just opened made the
 -- passes, and read no more than these, with an error that has its cause and its place in them
-pub data IsSummarizedThrough (may_discard : SourceState → Type 0) (limits : Limits) (source : SourceState) (result : Result FileSummary SummaryFault) : Type 0 where
-  refused : (fault : OpenFault) (new : SourceState) → result ≡ Err (faults.Opening fault) → IsRefusedWalker limits source fault new → may_discard new
-      → IsSummarizedThrough may_discard limits source result
+pub data IsSummarizedThrough (may_go : SourceState → Type 0) (limits : Limits) (source : SourceState) (result : Result FileSummary SummaryFault) : Type 0 where
+  refused : (fault : OpenFault) (new : SourceState) → result ≡ Err (faults.Opening fault) → IsRefusedWalker limits source fault new → may_go new
+      → IsSummarizedThrough may_go limits source result
   passed : (old new : WalkerState) → IsNewWalker source All limits old → SpendsSummary result old new → IsSameListing old.list new.list
-      → IfErr result (IsCallFault old.list new.list) → may_discard new.list.source → IsSummarizedThrough may_discard limits source result
+      → IfErr result (IsCallFault old.list new.list) → may_go new.list.source → IsSummarizedThrough may_go limits source result

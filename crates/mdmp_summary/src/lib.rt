@@ -24,7 +24,6 @@ mod checking;
 mod context;
 mod context_reading;
 mod crash;
-mod discard;
 mod fold;
 mod gathering;
 mod identity;

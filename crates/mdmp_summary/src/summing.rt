@@ -14,12 +14,11 @@ ghost use Rattle.mdmp_summary.specs.Walking.{IsSameListing};
 use crate::context::Registers;
 use crate::context_reading::read_registers;
 use crate::crash::Platform;
-use crate::discard::Discard;
 use crate::passes::{gather_all, search_all};
 use crate::reach::reached_on;
 use crate::summary::{Crash, FileSummary, PlaceInModule, SummaryFault};
 use mdmp_lister::{Choice, ExceptionItem, Limits, OpenRefused, Walker};
-use mdmp_source::{Source, Store};
+use mdmp_source::{LetGo, Source, Store};
 use mdmp_wire::{ModuleRecord, SystemRecord};
 use std::alloc::Allocator;
 
@@ -147,22 +146,27 @@ pub fn summarize<S: Store + Drop, A: Allocator + Copy>(
     limits: Limits,
 ) -> Result<FileSummary, SummaryFault>
 where
-    Source<S>: Discard,
+    Source<S>: LetGo,
     ensures sums { (file : List ℕ) → source.store.content ≡ Some file
         → MatchResult result (λ summary. (walk_fault limits file ≡ None) × (summary ≡ file_summary file limits.name)) (IsSummaryFault limits file) }
     // If each read succeeds and there is no read limit, only the file itself or too little memory is an error.
     ensures succeeds { (file : List ℕ) → IsGood source.store file → limits.budget ≡ None → IfErr result (IsFileFault limits file) }
     // The source is dropped as the last of these reads left it.
-    ensures through { IsSummarizedThrough ⟦<Source<S> as Discard>⟧.may_discard limits source result }
+    ensures through { IsSummarizedThrough ⟦<Source<S> as LetGo>⟧.may_go limits source result }
 {
     match Walker::open(alloc, source, limits, Choice::All) {
         Ok(mut walker) => {
             let answer = summarize_listing(&mut walker);
-            walker.into_source().discard();
+            walker.into_source().let_go();
             answer
         }
-        Err(OpenRefused { fault, source: left }) => {
-            left.discard();
+        Err(
+            OpenRefused {
+                fault,
+                source: left,
+            },
+        ) => {
+            left.let_go();
             Err(SummaryFault::Opening(fault))
         }
     }

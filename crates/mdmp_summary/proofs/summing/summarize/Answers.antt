@@ -28,7 +28,7 @@ pub returns-in-Ok-clause-through : goal.returns-in-Ok-clause-through
 returns-in-Ok-clause-through g c =
     let sums = c.summarize_listing-answer.ensures in
     IsSummarizedThrough.passed c.in-Ok.walker c.summarize_listing-answer.new.walker c.in-Ok.ensures.new sums.spends sums.same sums.fault
-    (subst g.bound-4.may_discard c.into_source.ensures.value c.discard.ensures)
+    (subst g.bound-4.may_go c.into_source.ensures.value c.let_go.ensures)
 
 pub returns-in-Err-clause-through : goal.returns-in-Err-clause-through
-returns-in-Err-clause-through g c = IsSummarizedThrough.refused c.in-Err.field-0.fault c.in-Err.field-0.source refl c.in-Err.ensures.refused c.discard-in-Err.ensures
+returns-in-Err-clause-through g c = IsSummarizedThrough.refused c.in-Err.field-0.fault c.in-Err.field-0.source refl c.in-Err.ensures.refused c.let_go-in-Err.ensures
