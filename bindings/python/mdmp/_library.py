@@ -2,14 +2,17 @@
 
 from __future__ import annotations
 
+import mmap
 import os
-from ctypes import CDLL, Array, byref, c_uint8, c_uint64
+from ctypes import CDLL, Array, byref, c_uint8, c_uint64, sizeof
 from functools import lru_cache
 from typing import Any, Callable, NamedTuple
 
 from . import _structures
 from ._buffer import bytes_at
 from ._records import Status
+
+_LONG = 1 << 18  # bytes from which a buffer is mapped
 
 
 def _load() -> CDLL:
@@ -39,6 +42,17 @@ def array_of(item: Any, room: int) -> type[Array[Any]]:
     return made
 
 
+def buffer_of(item: Any, room: int) -> Array[Any]:
+    """A buffer for items. Of a long one, only what is written to takes memory."""
+    kind = array_of(item, room)
+    if sizeof(kind) < _LONG:
+        return kind()
+    try:
+        return kind.from_buffer(mmap.mmap(-1, sizeof(kind)))
+    except OSError:
+        raise MemoryError from None
+
+
 class Filled(NamedTuple):
     """What a call returned, and the buffer that it filled. `is_cut`: there are more items than the most."""
 
@@ -66,7 +80,7 @@ def fill(call: Callable[..., int], item: Any, room: int, most: int | None = None
     for, up to the most items."""
     while True:
         room = room if most is None else min(room, most)
-        items, count, fault = array_of(item, room)(), c_uint64(), _structures.Fault()
+        items, count, fault = buffer_of(item, room), c_uint64(), _structures.Fault()
         status = call(items, room, byref(count), byref(fault))
         if status != Status.BUFFER_TOO_SHORT:
             return Filled(Status(status), items, count.value, fault)
