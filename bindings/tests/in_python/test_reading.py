@@ -109,3 +109,20 @@ class Buffers(unittest.TestCase):
     def test_no_memory(self) -> None:
         with self.assertRaises(MemoryError):
             buffer_of(c_uint8, 1 << 60)
+
+    def test_guess_that_there_is_no_memory_for(self) -> None:
+        data = (FOLDER / "crashpad-one.dmp").read_bytes()
+        text, rows = mdmp.Dump(data).list(), mdmp.Dump(data).modules
+
+        def small(item: Any, room: int) -> Any:
+            if room not in (1, len(text), len(rows)):
+                raise MemoryError
+            return buffer_of(item, room)
+
+        dump = mdmp.Dump(data, limits=None)
+        with mock.patch("mdmp._library.buffer_of", small):
+            self.assertEqual(dump.list(), text)
+        with mock.patch("mdmp._library.buffer_of", small), mock.patch.object(dump, "_name_at", return_value="name"):
+            self.assertEqual([row.name for row in dump.modules], ["name"] * len(rows))
+        with mock.patch("mdmp._library.buffer_of", side_effect=MemoryError), self.assertRaises(MemoryError):
+            dump.threads
