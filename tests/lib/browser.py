@@ -9,7 +9,8 @@ from typing import Any
 
 HEIGHT = 900
 
-# Words of a picture that meet, or lie beyond its frame, or are small; and what is wider than its place.
+# Words of a picture that meet, or lie beyond its frame, or are small; tables without headings, or with headings and labels; and
+# what is wider than its place.
 _LOOK = """
 const faults = [];
 for (const picture of document.querySelectorAll("svg")) {
@@ -28,6 +29,13 @@ for (const picture of document.querySelectorAll("svg")) {
 for (const text of document.querySelectorAll("svg text")) {
   const size = parseFloat(getComputedStyle(text).fontSize) * text.getScreenCTM().a;
   if (size < 11) faults.push("letters of " + size + ": " + text.textContent);
+}
+for (const table of document.querySelectorAll("table")) {
+  const cell = table.querySelector("td");
+  if (!cell || table.getClientRects().length === 0) continue;
+  const isLabeled = getComputedStyle(cell, "::before").content !== "none";
+  if (isLabeled === table.tHead.getClientRects().length > 0)
+    faults.push((isLabeled ? "headings above labels: " : "no headings: ") + table.outerHTML.slice(0, 80));
 }
 const wide = document.documentElement.scrollWidth - window.innerWidth;
 if (wide > 0) faults.push("wider than the screen by " + wide);
@@ -224,6 +232,8 @@ _BROKEN = [
     ("<dl>", '<div aria-hidden="true"><button>x</button></div><dl>', "a hidden control"),
     ('font-size="12"', 'font-size="10"', "letters of 10"),
     ('x="0"', 'x="350"', "beyond its picture"),
+    ("<thead>", '<thead style="display: none">', "no headings"),
+    ("</head>", "<style>td::before { content: 'Name'; }</style></head>", "headings above labels"),
     ("</text>", '</text><text x="5" y="15" font-size="12">again</text>', "meet"),
     ("<p>end</p>", '<p style="width: 3000px">end</p>', "wider than the screen"),
     ("<p>end</p>", '<p style="overflow-x: auto"><span style="margin-left: 3000px">end</span></p>', "scrolls sideways"),
