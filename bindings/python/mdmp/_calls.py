@@ -19,13 +19,14 @@ from ._records import Extent, IdKind, NameState, SymbolKind
 _T = TypeVar("_T")
 
 
-# Guesses of how many items a file of a size has: powers of two, so that there are few types of arrays.
+# Guesses of how many items a file of a size has: powers of two, so that there are few types of arrays. A call that gives more
+# goes over the file twice. Of a long buffer, only what is written to takes memory.
 def some_records(size: int) -> int:
-    return 1 << min(size // 24, 8191).bit_length()
+    return 1 << (18 if size >= 1 << 16 else (size // 24).bit_length())
 
 
-def some_text(size: int) -> int:
-    return 1 << min(max(size * 2, 1 << 15), 1 << 20).bit_length()
+def some_text(_: int) -> int:
+    return 1 << 26
 
 
 def some_name(_: int) -> int:

@@ -2,14 +2,17 @@
 
 from __future__ import annotations
 
+import mmap
 import os
-from ctypes import CDLL, Array, byref, c_uint8, c_uint64
+from ctypes import CDLL, Array, byref, c_uint8, c_uint64, sizeof
 from functools import lru_cache
 from typing import Any, Callable, NamedTuple
 
 from . import _structures
 from ._buffer import bytes_at
 from ._records import Status
+
+_LONG = 1 << 18  # bytes from which a buffer is mapped
 
 
 def _load() -> CDLL:
@@ -39,6 +42,17 @@ def array_of(item: Any, room: int) -> type[Array[Any]]:
     return made
 
 
+def buffer_of(item: Any, room: int) -> Array[Any]:
+    """A buffer for items. Of a long one, only what is written to takes memory."""
+    kind = array_of(item, room)
+    if sizeof(kind) < _LONG:
+        return kind()
+    try:
+        return kind.from_buffer(mmap.mmap(-1, sizeof(kind), flags=mmap.MAP_PRIVATE))
+    except OSError:
+        raise MemoryError from None
+
+
 class Filled(NamedTuple):
     """What a call returned, and the buffer that it filled. `is_cut`: there are more items than the most."""
 
@@ -64,15 +78,23 @@ class Filled(NamedTuple):
 def fill(call: Callable[..., int], item: Any, room: int, most: int | None = None) -> Filled:
     """Calls with a buffer for `room` items. If that is too short, calls again with one of the length that the call asks
     for, up to the most items."""
+    is_guess = True
     while True:
         room = room if most is None else min(room, most)
-        items, count, fault = array_of(item, room)(), c_uint64(), _structures.Fault()
+        try:
+            items = buffer_of(item, room)
+        except MemoryError:
+            if not is_guess or room <= 1:
+                raise
+            is_guess, room = False, 1  # the call tells how much there is
+            continue
+        count, fault = c_uint64(), _structures.Fault()
         status = call(items, room, byref(count), byref(fault))
         if status != Status.BUFFER_TOO_SHORT:
             return Filled(Status(status), items, count.value, fault)
         if room == most:
             return Filled(Status.BUFFER_TOO_SHORT, items, room, fault, is_cut=True)
-        room = count.value
+        is_guess, room = False, count.value
 
 
 def fault_text(fault: _structures.Fault) -> str:

@@ -15,8 +15,6 @@ import tempfile
 import time
 import unittest
 import xml.etree.ElementTree
-from ctypes import Array, Structure
-from typing import Any
 from unittest import mock
 
 import mdmp
@@ -88,6 +86,11 @@ class Words(unittest.TestCase):
         short = text.shortened("a" * 1000 + "b" * 1000)
         self.assertTrue(short.startswith("aaa") and short.endswith("bbb (2,000 characters)"))
         self.assertLess(len(short), 200)
+        marked = "e" + "\u0301" * 200
+        self.assertEqual(text.shortened(marked, 9), "e\u0301\u0301\\u0 .. 301 (201 characters)")
+        for long in (marked, "a\0" * 100, "\u202e" + "ab\u0301\u0301\u0301" * 60):
+            shown = text.visible(long)
+            self.assertEqual(text.shortened(long, 90), f"{shown[:60]} .. {shown[-30:]} ({len(long)} characters)")
         self.assertEqual([text.fitting("abcdef", room) for room in (6, 5)], ["abcdef", "abcd…"])
         self.assertEqual(text.fitting("試験試験", 6), "試験…")
         self.assertEqual(text.last_part("C:\\one\\two.dll"), "two.dll")
@@ -295,35 +298,8 @@ class Tables(unittest.TestCase):
         self.assertEqual((short.is_too_long, crash.badge(short).kind, len(short.modules)), (True, "long", 0))
 
 
-class Lists(unittest.TestCase):
-    """The rows of lists, and their members."""
-
-    def test_members_are_those_of_the_rows(self) -> None:
-        def paths_of(raw: Any) -> list[str]:
-            """The members that are numbers, with those of members."""
-            found = []
-            for name, kind, *_ in raw._fields_:
-                if issubclass(kind, Structure):
-                    found += [f"{name}.{inner}" for inner in paths_of(kind)]
-                elif not issubclass(kind, Array):
-                    found.append(name)
-            return found
-
-        def member(row: Any, path: str) -> Any:
-            for name in path.split("."):
-                row = getattr(row, name)
-            return row
-
-        rows = 0
-        for path in [FOLDER / "llvm-all-kinds.dmp", FOLDER / "crashpad-one.dmp", FOLDER / "made.dmp"]:
-            for listing in read(path.read_bytes()).lists:
-                names = paths_of(type(listing.items[0]))
-                given = list(listing.members(*names))
-                wanted = [tuple(member(row, name) for name in names) for row in listing.raw()]
-                self.assertEqual(given, wanted)
-                self.assertEqual(list(listing.members(*names[1::2], most=1)), [row[1::2] for row in wanted[:1]])
-                rows += len(wanted)
-        self.assertGreater(rows, 60)
+class Costs(unittest.TestCase):
+    """What a page takes."""
 
     def test_many_ranges_cost_little(self) -> None:
         entries, ranges = 700, 500

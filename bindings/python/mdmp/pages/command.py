@@ -19,8 +19,7 @@ import sys
 from typing import Any, Callable
 
 from .. import _dump
-from . import counting, crash, making, output, reading
-from . import day as day_page
+from . import crash, making, output, reading
 
 _OUT = "the page; - is standard output"
 
@@ -91,6 +90,9 @@ class Progress:
 
 def day(arguments: argparse.Namespace) -> tuple[str, int]:
     """Makes the page of many dumps."""
+    from . import counting  # pages of one dump need no processes
+    from . import day as day_page
+
     making.check()
     try:
         os.scandir(arguments.folder).close()

@@ -5,6 +5,7 @@ from __future__ import annotations
 import base64
 import hashlib
 import pathlib
+from functools import lru_cache
 from typing import Any
 
 from .. import __version__
@@ -22,6 +23,7 @@ class NoJinja(Exception):
         return "Jinja2 is missing, which pages are made with: apt-get install python3-jinja2"
 
 
+@lru_cache(maxsize=None)
 def _environment() -> Any:
     try:
         from jinja2 import Environment, FileSystemLoader, StrictUndefined

@@ -2,33 +2,36 @@
 
 from __future__ import annotations
 
+import struct
+
 from .._records import Extent
 from . import names, text
 from .reading import Reading
 from .tables import ADDRESS, ADDRESSES, NUMBER, Column, Row, Table, list_table, size_of
 
+# State, protection and type of a region.
+_KIND = struct.Struct("=III")
+
 
 def protections(reading: Reading) -> Table:
     """Memory by state, protection and type."""
-    found: dict[tuple[int, int, int], list[int]] = {}  # for each kind its bytes, and how many regions
+    found: dict[bytes, list[int]] = {}  # for each kind its bytes, and how many regions
     beyond = 0
-    members = reading.regions.members("base_address", "region_size", "state", "protect", "memory_type")
-    for base, size, state, protect, kind in members:
+    for base, size, kind in reading.regions.members("base_address", "region_size", "state:memory_type"):
         if base + size > ADDRESSES:
             beyond += 1
             continue
-        key = (state, protect, kind)
-        counted = found.get(key)
+        counted = found.get(kind)
         if counted is None:
-            found[key] = [size, 1]
+            found[kind] = [size, 1]
         else:
             counted[0] += size
             counted[1] += 1
+    kinds = [(-size, _KIND.unpack(kind), count) for kind, (size, count) in found.items()]
     rows = []
-    for key, (size, count) in sorted(found.items(), key=lambda item: (-item[1][0], item[0]))[: reading.most]:
-        state, protect, kind = key
-        words = [names.state(state), names.protection(protect), names.memory_type(kind)]
-        rows.append(Row([*words, text.grouped(count), text.grouped(size)]))
+    for size, (state, protect, memory_type), count in sorted(kinds)[: reading.most]:
+        words = [names.state(state), names.protection(protect), names.memory_type(memory_type)]
+        rows.append(Row([*words, text.grouped(count), text.grouped(-size)]))
     columns = [
         Column("State"),
         Column("Protection"),

@@ -11,9 +11,8 @@ from typing import Any, Iterator
 
 from .. import _structures
 from .._buffer import bytes_at
-from .._calls import some_records
 from .._dump import Dump
-from .._fault import Fault, LimitReached, expect_good, fault_of, output_limit
+from .._fault import Fault, LimitReached, OutputLimit, expect_good, fault_of, output_limit
 from .._images import Images
 from .._library import Filled, array_of, library
 from .._limits import UNTRUSTED, Limits
@@ -24,6 +23,7 @@ from .._records import (
     Module,
     Range,
     Region,
+    Status,
     Stream,
     System,
     Thread,
@@ -31,9 +31,24 @@ from .._records import (
     UnloadedModule,
 )
 from .._summary import Crash, Summary
+from ..names import StreamType
 
 # The most bytes of the file that are read for one list. The lists of 200,000 modules need half of them.
 BUDGET = _structures.UNTRUSTED
+
+# The types of streams that have records, and the least bytes of a record. They give the most rows of a list, so that the
+# first buffer is not too short.
+_LEAST = {
+    StreamType.ThreadListStream: 48,
+    StreamType.ModuleListStream: 108,
+    StreamType.MemoryListStream: 16,
+    StreamType.ExceptionStream: 168,
+    StreamType.SystemInfoStream: 56,
+    StreamType.Memory64ListStream: 16,
+    StreamType.UnloadedModuleListStream: 24,
+    StreamType.MemoryInfoListStream: 48,
+    StreamType.ThreadNamesStream: 12,
+}
 
 
 def page_limits(budget: int) -> Limits:
@@ -45,14 +60,22 @@ def page_limits(budget: int) -> Limits:
 def _unpacker(raw: type[Structure], names: tuple[str, ...]) -> struct.Struct:
     """Gives these members of a plain structure, in the order in which they are in it."""
     form, given = "=", 0
-    for name in names:
+
+    def place(name: str) -> tuple[int, int]:
         kind: Any = raw
         at = 0
         for part in name.split("."):
             at += getattr(kind, part).offset
             kind = dict(kind._fields_)[part]
-        form += f"{at - given}x{'I' if sizeof(kind) == 4 else 'Q'}"
-        given = at + sizeof(kind)
+        return at, at + sizeof(kind)
+
+    for name in names:
+        first, _, last = name.partition(":")
+        (start, end), form_of = place(first), {4: "I", 8: "Q"}
+        if last:
+            end = place(last)[1]
+        form += f"{start - given}x{f'{end - start}s' if last else form_of[end - start]}"
+        given = end
     return struct.Struct(f"{form}{sizeof(raw) - given}x")
 
 
@@ -60,15 +83,17 @@ class Listing:
     """The records of one kind, as the library returned them: the first `count` of `items`. `raw` and `members` go over
     them, and `record` makes one."""
 
-    def __init__(self, reading: Reading, call: Any, record: Any, *limits: Any) -> None:
+    def __init__(self, reading: Reading, call: Any, record: Any, *types: StreamType) -> None:
+        """The records of the streams of these types, or the entries of the directory if no type is given."""
         self._reading, self._record = reading, record
         self.fault: Fault | None = None
         self._raw = getattr(_structures, record.__name__)
         self.items, self.count = array_of(self._raw, 0)(), 0
         reading.lists.append(self)
-        if reading.is_too_long:
+        if reading.is_too_long or not reading.may_have(types):
             return
-        filled = reading.fill(call, self._raw, *limits)
+        limits = [byref(reading.dump._plain)] if types else []
+        filled = reading.fill(call, self._raw, reading.most_rows(types), *limits)
         self.items, self.count = filled.items, filled.given
         try:
             reading.expect_whole(filled)
@@ -83,9 +108,10 @@ class Listing:
         for at in range(self.count if most is None else min(most, self.count)):
             yield self.items[at]
 
-    def members(self, *names: str, most: int | None = None) -> Iterator[tuple[int, ...]]:
+    def members(self, *names: str, most: int | None = None) -> Iterator[tuple[Any, ...]]:
         """These members of the first records, or of all if no number is given, in far less time than by `raw`. The names
-        come in the order of the structure. A member of a member is written `stack.size`."""
+        come in the order of the structure. A member of a member is written `stack.size`. `state:protect` gives the bytes from
+        one member to the end of another."""
         count = self.count if most is None else min(most, self.count)
         return islice(_unpacker(self._raw, names).iter_unpack(self.items), count)
 
@@ -119,22 +145,45 @@ class Reading:
             self.fault = fault
         # If the directory passes a limit, nothing is listed: the call that returns its entries has no limits.
         self.is_too_long = self.header is not None and self._passes(self.header.number_of_streams)
-        limits = byref(dump._plain)
-        self.modules = Listing(self, library.mdmp_modules_, Module, limits)
+        self._rows: dict[int, int] = {}
+        self.streams = Listing(self, library.mdmp_streams_, Stream)
+        self._count_rows()
+        self.modules = Listing(self, library.mdmp_modules_, Module, StreamType.ModuleListStream)
         self._images: Images | None = None
-        self.exceptions = Listing(self, library.mdmp_exceptions_, ExceptionRecord, limits)
+        self.exceptions = Listing(self, library.mdmp_exceptions_, ExceptionRecord, StreamType.ExceptionStream)
         self._verdicts: Any = ()
         self.verdict_count = self.bad_count = 0
         if not self.is_too_long:
-            self._read_verdicts(limits)
-        self.streams = Listing(self, library.mdmp_streams_, Stream)
-        self.threads = Listing(self, library.mdmp_threads_, Thread, limits)
-        self.systems = Listing(self, library.mdmp_systems_, System, limits)
-        self.unloaded = Listing(self, library.mdmp_unloaded_, UnloadedModule, limits)
-        self.regions = Listing(self, library.mdmp_regions_, Region, limits)
-        self.thread_names = Listing(self, library.mdmp_thread_names_, ThreadName, limits)
-        self.ranges = Listing(self, library.mdmp_ranges_, Range, limits)
+            self._read_verdicts()
+        self.threads = Listing(self, library.mdmp_threads_, Thread, StreamType.ThreadListStream)
+        self.systems = Listing(self, library.mdmp_systems_, System, StreamType.SystemInfoStream)
+        self.unloaded = Listing(self, library.mdmp_unloaded_, UnloadedModule, StreamType.UnloadedModuleListStream)
+        self.regions = Listing(self, library.mdmp_regions_, Region, StreamType.MemoryInfoListStream)
+        self.thread_names = Listing(self, library.mdmp_thread_names_, ThreadName, StreamType.ThreadNamesStream)
+        memory = (StreamType.MemoryListStream, StreamType.Memory64ListStream)
+        self.ranges = Listing(self, library.mdmp_ranges_, Range, *memory)
         self._name_threads()
+
+    def _count_rows(self) -> None:
+        """The most records that the streams of each type have, by their sizes. A stream outside the file has none."""
+        rows = dict.fromkeys((stream_type for (stream_type,) in self.streams.members("stream_type")), 0)
+        least = {int(kind): size for kind, size in _LEAST.items() if kind in rows}
+        for stream_type, size, rva in self.streams.members("stream_type", "size", "rva"):
+            if stream_type in least and rva + size <= self.size:
+                rows[stream_type] += size // least[stream_type]
+        self._rows = rows
+
+    def may_have(self, types: tuple[StreamType, ...]) -> bool:
+        """Whether a list of these types may have a record or an error: not if the directory names no such stream."""
+        return not types or self.streams.fault is not None or any(kind in self._rows for kind in types)
+
+    def most_rows(self, types: tuple[StreamType, ...]) -> int:
+        """The most rows that a list of streams of these types has, or of the directory if there are none."""
+        if not types:
+            return min(self.header.number_of_streams, self.size // 12) if self.header else 0
+        budget = self.dump.limits.budget
+        rows = sum(self._rows.get(kind, 0) for kind in types)
+        return rows if budget is None else min(rows, budget // min(_LEAST[kind] for kind in types) + 1)
 
     def _passes(self, entries: int) -> bool:
         """Whether a directory of so many entries passes the limit on reading or on memory."""
@@ -143,10 +192,13 @@ class Reading:
         is_long = limits.budget is not None and 32 + 12 * entries > limits.budget
         return is_long or (limits.memory is not None and held > limits.memory)
 
-    def fill(self, call: Any, item: Any, *arguments: Any) -> Filled:
-        """What a call returns, as far as `output` allows."""
+    def fill(self, call: Any, item: Any, rows: int, *arguments: Any) -> Filled:
+        """What a call returns, as far as `output` allows. It has at most about so many rows."""
         most = None if self._room is None else self._room // sizeof(item)
-        filled = self.dump._fill(call, item, some_records, *arguments, most=most)
+        if most == 0 and rows > 0:  # the call would only count them
+            return Filled(Status.BUFFER_TOO_SHORT, array_of(item, 0)(), 0, _structures.Fault(), is_cut=True)
+        rows = min(rows, BUDGET // sizeof(item))
+        filled = self.dump._fill(call, item, lambda _: rows, *arguments, most=most)
         if self._room is not None:
             self._room -= filled.given * sizeof(item)
         return filled
@@ -157,8 +209,9 @@ class Reading:
             raise output_limit(self.dump.limits.output or 0, None)
         expect_good(filled.status, filled.fault)
 
-    def _read_verdicts(self, limits: Any) -> None:
-        filled = self.fill(library.mdmp_verdicts_, _structures.Fault, limits)
+    def _read_verdicts(self) -> None:
+        limits = byref(self.dump._plain)
+        filled = self.fill(library.mdmp_verdicts_, _structures.Fault, len(self.streams), limits)
         self._verdicts, self.verdict_count = filled.items, filled.given
         if filled.fault.kind == FaultKind.BAD_ENTRIES:
             self.bad_count = filled.fault.size
@@ -168,14 +221,23 @@ class Reading:
             self.expect_whole(filled)
         except Fault as fault:
             self.fault = self.fault or fault
-            self.bad_count = sum(1 for at in range(self.verdict_count) if self._verdicts[at].kind)
+            self.bad_count = sum(1 for _ in self.bad_entries())
 
     @cached_property
     def _summary(self) -> Summary | Fault:
+        if self.fault is not None and self._passes_limits(self.fault):
+            return self.fault  # a summary reads all that verdicts read
         try:
             return self.dump.summary
         except Fault as fault:
             return fault
+
+    def _passes_limits(self, fault: Fault) -> bool:
+        """Whether this error of the verdicts says that all entries together pass the limits."""
+        if fault.kind == FaultKind.TOO_MANY_RANGES:
+            budget = self.dump.limits.budget
+            return budget is not None and fault.size * _LEAST[StreamType.MemoryListStream] > budget
+        return isinstance(fault, LimitReached) and not isinstance(fault, OutputLimit)
 
     @property
     def summary(self) -> Summary | None:
@@ -223,9 +285,10 @@ class Reading:
         raw = self._verdicts[entry]
         return fault_of(raw) if raw.kind else None
 
-    def is_bad(self, entry: int) -> bool:
-        """Whether an entry has an error."""
-        return bool(self._verdicts[entry].kind)
+    def bad_entries(self) -> Iterator[int]:
+        """The entries with an error, in order."""
+        kinds = _unpacker(_structures.Fault, ("kind",)).iter_unpack(self._verdicts)
+        return (entry for entry, (kind,) in enumerate(islice(kinds, self.verdict_count)) if kind)
 
     def holder(self, address: int) -> int | None:
         """The number in `modules` of the first module that has an address."""

@@ -3,6 +3,7 @@
 from __future__ import annotations
 
 from dataclasses import dataclass, field
+from itertools import islice
 from typing import NamedTuple
 
 from .._fault import Fault
@@ -104,8 +105,7 @@ def debug_id(module: Module) -> str:
 def verdicts(reading: Reading) -> Table:
     """Each entry of the directory, with its first error. If the table leaves entries out, bad ones go last."""
     count = min(reading.verdict_count, len(reading.streams))
-    shown = [at for at in range(count) if reading.is_bad(at)] if count > reading.most else []
-    shown = shown[: reading.most]
+    shown = list(islice(reading.bad_entries(), reading.most)) if count > reading.most and reading.bad_count else []
     bad = set(shown)
     for at in range(count):
         if len(shown) >= reading.most:

@@ -8,24 +8,37 @@ _UNITS = ("KiB", "MiB", "GiB", "TiB", "PiB", "EiB")
 LONGEST = 160
 
 
-def visible(text: str) -> str:
-    """A name of the file. Characters that cannot be seen or that change the order of others are escaped. So are the
-    marks of a letter from the third on."""
+# From so many marks on, the marks of a letter are escaped.
+_MARKS = 3
+
+
+def _pieces(text: str) -> list[str]:
+    """What is shown of each character."""
     out, marks = [], 0
     for character in text:
         marks = marks + 1 if unicodedata.combining(character) else 0
-        is_plain = character.isprintable() and marks < 3
+        is_plain = character.isprintable() and marks < _MARKS
         out.append(character if is_plain else f"\\u{ord(character):04x}")
-    return "".join(out)
+    return out
+
+
+def visible(text: str) -> str:
+    """A name of the file. Characters that cannot be seen or that change the order of others are escaped. So are the
+    marks of a letter from the third on."""
+    return text if text.isascii() and text.isprintable() else "".join(_pieces(text))
 
 
 def shortened(text: str, most: int = LONGEST) -> str:
     """A name; if it is longer than `most` characters, its first and its last ones."""
-    shown = visible(text)
-    if len(shown) <= most:
-        return shown
     first = most * 2 // 3
-    return f"{shown[:first]} .. {shown[first - most :]} ({grouped(len(text))} characters)"
+    if len(text) <= most:
+        begin = end = visible(text)
+        if len(begin) <= most:
+            return begin
+    else:  # no character of the middle is looked at: none is shown as less than one
+        begin = visible(text[:first])
+        end = "".join(_pieces(text[first - most - _MARKS :])[_MARKS:])
+    return f"{begin[:first]} .. {end[first - most :]} ({grouped(len(text))} characters)"
 
 
 def name(text: str | None, most: int = LONGEST) -> str:

@@ -43,6 +43,8 @@ def _decoded(stream_type: int, data: bytes) -> str:
 
 def _found(reading: Reading) -> Iterator[tuple[int, int, int, int]]:
     """The entries of texts: number, type, size and place. A stream that is not in the file is none."""
+    if not reading.may_have(tuple(_TITLES)):
+        return
     for entry, stream_type, size, rva in reading.streams.members("entry", "stream_type", "size", "rva"):
         if stream_type in _TITLES and size and rva + size <= reading.size:
             yield entry, stream_type, size, rva
