@@ -44,9 +44,9 @@ static uint32_t listed_entries(const filled *list, uint32_t streams) {
 
 /* The list has the lines of the rows, up to its error, which is that of the first bad entry. */
 static void test_list_of_rows(const reading *given, const filled *list, bool pdb) {
-    char *text = NULL;
-    size_t size = 0;
-    FILE *out = open_memstream(&text, &size);
+    size_t capacity = (size_t)list->count + 64;
+    char *text = malloc(capacity);
+    FILE *out = fmemopen(text, capacity, "w");
     given_rows rows = {.streams = ROWS_OF(given, FILL_STREAMS, mdmp_stream),
         .threads = ROWS_OF(given, FILL_THREADS, mdmp_thread),
         .modules = ROWS_OF(given, FILL_MODULES, mdmp_module),
@@ -62,8 +62,8 @@ static void test_list_of_rows(const reading *given, const filled *list, bool pdb
     mdmp_fault fault;
     ASSERT(out != NULL && mdmp_header(given->file.bytes, given->file.size, &rows.header, &fault) == MDMP_OK);
     print_rows(out, given->file, &rows, listed_entries(list, rows.header.number_of_streams), pdb);
+    ASSERT(fflush(out) == 0 && ftell(out) == (long)list->count && memcmp(text, list->bytes, (size_t)list->count) == 0);
     fclose(out);
-    ASSERT(size == list->count && memcmp(text, list->bytes, size) == 0);
     free(text);
 }
 

@@ -87,4 +87,8 @@ void test_bad_limits(const reading *given);
 /* ---- stores.c */
 void test_mapped(const reading *given);
 
+/* ---- refusals.c */
+void test_refused(const reading *given);
+long live_blocks(void);
+
 #endif
