@@ -1,4 +1,5 @@
 /* Texts beside rows: the list has the items of the rows, the check has the verdicts, and a part is a part of the list. */
+#define _GNU_SOURCE
 #include "texts.h"
 #include "oracles.h"
 

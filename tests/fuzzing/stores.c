@@ -1,4 +1,5 @@
 /* A file that is mapped gives what the same bytes in memory give, and no call writes to it. */
+#define _GNU_SOURCE
 #include "oracles.h"
 #include <sys/mman.h>
 #include <unistd.h>

@@ -16,7 +16,7 @@ IN_C = TOP / "bindings/tests/in_c"
 WARNINGS = "-Wall -Wextra -Wpedantic -Werror".split()
 # The oracle of refused allocations sees what the library asks for.
 WRAPPED = ["-Wl,--wrap=malloc,--wrap=realloc,--wrap=free"]
-INCLUDED = ["-D_GNU_SOURCE", f"-I{TOP / 'include'}", f"-I{IN_C}", f"-I{FOLDER}"]
+INCLUDED = [f"-I{TOP / 'include'}", f"-I{IN_C}", f"-I{FOLDER}"]
 MAIN = FOLDER / "harness.c"
 ORACLES = sorted({*FOLDER.glob("*.c")} - {MAIN, FOLDER / "edges.c"}) + [IN_C / name for name in ("support.c", "fillers.c", "texts.c")]
 
