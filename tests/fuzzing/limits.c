@@ -180,9 +180,18 @@ void test_bad_limits(const reading *given) {
     size_t number = choose_filler();
     uint64_t count = 1;
     mdmp_fault fault;
-    filler_limits = BAD[below(4)];
+    const mdmp_limits *limits = &BAD[below(4)];
+    filler_limits = *limits;
     uint8_t *out = guarded(64 * FILLERS[number].item);
     uint32_t status = FILLERS[number].call(given->file, out, 64, &count, &fault);
     filler_limits = LIMITS;
     ASSERT(status == MDMP_BAD_ARGUMENT && fault.kind == MDMP_FAULT_BAD_LIMITS && count == 0 && out[0] == 0xaa);
+    const mdmp_place place = {24, 0, MDMP_EXTENT_INSIDE, 0};
+    mdmp_symbol_file symbols;
+    mdmp_fault same;
+    bool known[1] = {true};
+    ASSERT(mdmp_symbols(given->file.bytes, given->file.size, limits, &place, &symbols, &same) == MDMP_BAD_ARGUMENT);
+    ASSERT(is_same_fault(&same, &fault) && symbols.name_offset == 0 && symbols.kind == 0);
+    ASSERT(mdmp_memory(given->file.bytes, given->file.size, limits, 0, out, 1, known, 1, &same) == MDMP_BAD_ARGUMENT);
+    ASSERT(is_same_fault(&same, &fault) && known[0] && out[0] == 0xaa);
 }

@@ -84,7 +84,6 @@ static uint64_t near_range(const mdmp_range *ranges, uint64_t count) {
 void test_memory(const reading *given) {
     const mdmp_range *ranges = ROWS_OF(given, FILL_RANGES, mdmp_range);
     const uint64_t count = given->of[FILL_RANGES].count;
-    mdmp_fault fault;
     if (ranges == NULL || count > MOST_RANGES) {
         return;
     }
@@ -94,9 +93,23 @@ void test_memory(const reading *given) {
         test_stretch(given->file, ranges, (size_t)count, address, length);
         test_file_memory(given, address, length);
     }
+}
+
+/* Buffers of two lengths are refused, and not touched. */
+void test_lengths(const reading *given) {
+    const blob file = given->file;
+    const mdmp_slot slot = {0, 1, 0, 0};
+    const mdmp_range range = {.size = 1, .extent = MDMP_EXTENT_INSIDE};
     uint8_t *out = guarded(8);
-    ASSERT(mdmp_memory(given->file.bytes, given->file.size, &LIMITS, 0, out, 8, known_buffer(7), 7, &fault) == MDMP_BAD_ARGUMENT);
-    ASSERT(fault.kind == MDMP_FAULT_LENGTHS_DIFFER && out[0] == 0xaa);
+    bool *known = known_buffer(7);
+    mdmp_fault faults[3];
+    ASSERT(mdmp_memory(file.bytes, file.size, &LIMITS, 0, out, 8, known, 7, &faults[0]) == MDMP_BAD_ARGUMENT);
+    ASSERT(mdmp_read(file.bytes, file.size, &range, 1, 0, out, 8, known, 7, &faults[1]) == MDMP_BAD_ARGUMENT);
+    ASSERT(mdmp_read_index(file.bytes, file.size, &slot, 1, 0, out, 8, known, 7, &faults[2]) == MDMP_BAD_ARGUMENT);
+    for (size_t i = 0; i < 3; i++) {
+        ASSERT(faults[i].kind == MDMP_FAULT_LENGTHS_DIFFER);
+    }
+    ASSERT(out[0] == 0xaa && ((uint8_t *)known)[0] == 0xaa);
 }
 
 /* Slots are sorted, do not overlap, and have no address twice. */

@@ -68,6 +68,7 @@ void test_crash(const reading *given);
 
 /* ---- memory.c */
 void test_memory(const reading *given);
+void test_lengths(const reading *given);
 void test_index(const reading *given);
 void test_where(const reading *given);
 void test_strange_ranges(blob file);

@@ -98,9 +98,10 @@ def run_over(program: Path, paths: list[Path], **how: object) -> None:
     for share, process in running:
         said = process.communicate()[1]
         if process.returncode:
-            failed.append((share, said))
-    for share, said in failed:
+            failed.append((share, process.returncode, said))
+    for share, status, said in failed:
         culprits = [
             path for path in share if subprocess.run([program, path], stdout=subprocess.DEVNULL, stderr=subprocess.DEVNULL, **how).returncode
         ]
-        stop(f"fails over {' '.join(map(str, culprits)) or 'its files together'}:\n{said.decode(errors='replace')[-4000:]}")
+        names = " ".join(map(str, culprits)) or "its files together"
+        stop(f"status {status} over {names}\n{said.decode(errors='replace')[-4000:]}")
