@@ -3,6 +3,10 @@
 
 enum { LONGEST = 4096, MOST_ROWS = 64 };
 
+static uint32_t number_at(const uint8_t *bytes) {
+    return bytes[0] | (uint32_t)bytes[1] << 8 | (uint32_t)bytes[2] << 16 | (uint32_t)bytes[3] << 24;
+}
+
 static size_t put_character(uint8_t *out, uint32_t character) {
     if (character < 0x80) {
         out[0] = (uint8_t)character;
@@ -34,6 +38,43 @@ static size_t decode(uint8_t *out, const uint8_t *units, uint32_t size) {
         end += put_character(out + end, unit);
     }
     return end;
+}
+
+/* The error of a name at an offset, by the rules: its length has to be inside the file and even, and so have its units. */
+static mdmp_fault fault_at(blob file, uint64_t rva, uint32_t size) {
+    if (rva > file.size || file.size - rva < 4) {
+        return (mdmp_fault){.kind = MDMP_FAULT_NAME_LENGTH_OUTSIDE, .offset = rva, .size = 4};
+    }
+    if (size % 2 != 0) {
+        return (mdmp_fault){.kind = MDMP_FAULT_NAME_ODD, .offset = rva, .size = size};
+    }
+    if (size > file.size - rva - 4) {
+        return (mdmp_fault){.kind = MDMP_FAULT_NAME_OUTSIDE, .offset = rva + 4, .size = size};
+    }
+    return (mdmp_fault){.kind = size > LIMITS.name ? MDMP_FAULT_NAME_TOO_LONG : MDMP_FAULT_NONE, .size = size};
+}
+
+/* A name at any offset of 64 bits has the error that is due, or the text of its units. */
+void test_chosen_name(const reading *given) {
+    const filled *whole = &given->of[FILL_NAME];
+    static uint8_t text[3 * LONGEST];
+    uint8_t length[4] = {0};
+    if (name_rva == 0) {
+        ASSERT(whole->count == 0 && whole->fault.kind == MDMP_FAULT_NONE);
+        return;
+    }
+    if (name_rva < given->file.size && given->file.size - name_rva >= 4) {
+        memcpy(length, given->file.bytes + name_rva, 4);
+    }
+    const uint32_t size = number_at(length);
+    const mdmp_fault wanted = fault_at(given->file, name_rva, size);
+    ASSERT(whole->fault.kind == wanted.kind);
+    if (wanted.kind != MDMP_FAULT_NONE) {
+        ASSERT(whole->fault.offset == wanted.offset && whole->fault.size == wanted.size && whole->count == 0);
+        return;
+    }
+    ASSERT(decode(text, given->file.bytes + name_rva + 4, size) == whole->count);
+    ASSERT(memcmp(text, whole->bytes, (size_t)whole->count) == 0);
 }
 
 /* The name that a row names is that of the units in the file, none, or longer than the limit. */
@@ -68,10 +109,6 @@ void test_names(const reading *given) {
     NAMES(FILL_UNLOADED, mdmp_unloaded_module, name)
     NAMES(FILL_THREAD_NAMES, mdmp_thread_name, name)
     NAMES(FILL_SYSTEMS, mdmp_system, csd_version)
-}
-
-static uint32_t number_at(const uint8_t *bytes) {
-    return bytes[0] | (uint32_t)bytes[1] << 8 | (uint32_t)bytes[2] << 16 | (uint32_t)bytes[3] << 24;
 }
 
 /* The GUID of bytes as it is in memory: its first three numbers have their lower bytes first. */

@@ -34,13 +34,13 @@ uint64_t next_number(void);
 uint64_t below(uint64_t bound);
 void choose_arguments(blob file);
 
-/* ---- faults.c */
+/* ---- errors.c */
 uint32_t status_of(const mdmp_fault *fault);
 void test_fault(const mdmp_fault *fault);
 void test_strange_fault(void);
 bool is_same_fault(const mdmp_fault *one, const mdmp_fault *other);
 
-/* ---- rooms.c */
+/* ---- buffers.c */
 void *guarded(size_t size);
 bool is_guarded(const uint8_t *out, size_t size);
 void test_rooms(const filler *tried, blob file, filled *whole);
@@ -59,6 +59,7 @@ void test_json(const reading *given);
 
 /* ---- names.c */
 void test_names(const reading *given);
+void test_chosen_name(const reading *given);
 void test_symbols(const reading *given);
 void test_strange_places(blob file);
 

@@ -100,8 +100,7 @@ def run_over(program: Path, paths: list[Path], **how: object) -> None:
         if process.returncode:
             failed.append((share, process.returncode, said))
     for share, status, said in failed:
-        culprits = [
-            path for path in share if subprocess.run([program, path], stdout=subprocess.DEVNULL, stderr=subprocess.DEVNULL, **how).returncode
-        ]
-        names = " ".join(map(str, culprits)) or "its files together"
+        quiet = {"stdout": subprocess.DEVNULL, "stderr": subprocess.DEVNULL}
+        culprit = next((path for path in share if subprocess.run([program, path], **quiet, **how).returncode), None)
+        names = culprit or f"{len(share)} files, and over none of them alone"
         stop(f"status {status} over {names}\n{said.decode(errors='replace')[-4000:]}")
