@@ -11,10 +11,34 @@ typedef struct {
     bool takes_memory;
 } filler;
 
-extern const filler FILLERS[];
-extern const size_t FILLERS_COUNT;
+/* The number of each. Those from FILL_THREADS to FILL_RANGES give records. */
+enum {
+    FILL_STREAMS,
+    FILL_CHECK,
+    FILL_CHECK_JSON,
+    FILL_VERDICTS,
+    FILL_LIST,
+    FILL_LIST_JSON,
+    FILL_LIST_PART,
+    FILL_COPY,
+    FILL_THREADS,
+    FILL_MODULES,
+    FILL_EXCEPTIONS,
+    FILL_SYSTEMS,
+    FILL_UNLOADED,
+    FILL_REGIONS,
+    FILL_THREAD_NAMES,
+    FILL_RANGES,
+    FILL_NAME,
+    FILL_SUMMARY,
+    FILLERS_COUNT
+};
+extern const filler FILLERS[FILLERS_COUNT];
 
-/* The offset at which the filler `mdmp_name` reads. */
-extern _Thread_local uint64_t name_rva;
+/* What they take besides: where `mdmp_name` reads, how much `mdmp_list_part` skips, the types that are copied, and limits. */
+extern _Thread_local uint64_t name_rva, list_skip;
+extern _Thread_local uint32_t copied_types[16];
+extern _Thread_local size_t copied_count;
+extern _Thread_local mdmp_limits filler_limits;
 
 #endif

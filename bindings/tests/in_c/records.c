@@ -30,7 +30,7 @@ static void show_number(const char *key, uint64_t number) {
 
 static void show_wide(const char *key, uint64_t upper, uint64_t lower) {
     show_key(key);
-    print_wide(upper, lower);
+    print_wide(stdout, upper, lower);
 }
 
 static void show_numbers(const char *key, const uint64_t *numbers, size_t count) {
@@ -68,6 +68,25 @@ static void show_named(const char *key, uint32_t number, const named *names, siz
 }
 
 #include "records.h"
+
+/* A name in UTF-8. */
+typedef struct {
+    uint8_t text[8192];
+    uint64_t size;
+} given_name;
+
+/* Whether there is a name, and the name. No name here is over the limit. */
+static bool is_named(blob file, const mdmp_name_place *place, given_name *name) {
+    if (place->state == MDMP_NAME_NONE) {
+        return false;
+    }
+    ASSERT(place->state == MDMP_NAME_GIVEN);
+    mdmp_fault fault;
+    uint32_t status = mdmp_name(
+        file.bytes, file.size, place->rva, LIMITS.name, name->text, sizeof name->text, &name->size, &fault);
+    ASSERT(status == MDMP_OK);
+    return true;
+}
 
 static void show_name(blob file, const mdmp_name_place *place) {
     given_name name;

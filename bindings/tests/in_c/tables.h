@@ -1,4 +1,4 @@
-/* The records of a whole file, and their names, for what prints them. */
+/* The records of a whole file, for what prints them. */
 #ifndef TABLES_H
 #define TABLES_H
 
@@ -39,25 +39,6 @@ static mdmp_stream *all_streams(blob file, uint64_t *count) {
     mdmp_stream *streams = calloc((size_t)room + 1, sizeof *streams);
     ASSERT(mdmp_streams(file.bytes, file.size, streams, room, count, &fault) == MDMP_OK);
     return streams;
-}
-
-/* A name in UTF-8. */
-typedef struct {
-    uint8_t text[8192];
-    uint64_t size;
-} given_name;
-
-/* Whether there is a name, and the name. No name here is over the limit. */
-static bool is_named(blob file, const mdmp_name_place *place, given_name *name) {
-    if (place->state == MDMP_NAME_NONE) {
-        return false;
-    }
-    ASSERT(place->state == MDMP_NAME_GIVEN);
-    mdmp_fault fault;
-    uint32_t status = mdmp_name(
-        file.bytes, file.size, place->rva, LIMITS.name, name->text, sizeof name->text, &name->size, &fault);
-    ASSERT(status == MDMP_OK);
-    return true;
 }
 
 #endif

@@ -10,129 +10,150 @@
 
 static const char *const EXTENTS[] = {"empty", "absent", "inside", "outside"};
 
-static void print_place(const mdmp_place *place) {
+static void print_place(FILE *out, const mdmp_place *place) {
     ASSERT(place->extent <= MDMP_EXTENT_OUTSIDE && place->reserved == 0);
-    printf("%s", EXTENTS[place->extent]);
+    fprintf(out, "%s", EXTENTS[place->extent]);
     if (place->extent != MDMP_EXTENT_EMPTY) {
-        printf(" %" PRIu32, place->size);
+        fprintf(out, " %" PRIu32, place->size);
     }
     if (place->extent >= MDMP_EXTENT_INSIDE) {
-        printf("@%" PRIu32, place->rva);
+        fprintf(out, "@%" PRIu32, place->rva);
     }
 }
 
-static void print_unit(unsigned unit) {
+static void print_unit(FILE *out, unsigned unit) {
     if (unit >= 0x20 && unit <= 0x7e && unit != '\\') {
-        printf("%c", (char)unit);
+        fprintf(out, "%c", (char)unit);
     } else {
-        printf("\\u%04x", unit);
+        fprintf(out, "\\u%04x", unit);
     }
 }
 
-/* The units of a character, of which text in UTF-8 begins with the first byte. No name here has a lone surrogate. */
-static size_t print_character(const uint8_t *text) {
-    static const uint8_t MASKS[] = {0x7f, 0x1f, 0x0f, 0x07};
-    size_t behind = text[0] < 0x80 ? 0 : text[0] < 0xe0 ? 1 : text[0] < 0xf0 ? 2 : 3;
-    uint32_t character = text[0] & MASKS[behind];
-    for (size_t i = 1; i <= behind; i++) {
-        character = character << 6 | (text[i] & 0x3f);
-    }
-    if (character < 0x10000) {
-        print_unit(character);
-    } else {
-        print_unit(0xd800 + ((character - 0x10000) >> 10));
-        print_unit(0xdc00 + ((character - 0x10000) & 0x3ff));
-    }
-    return behind + 1;
-}
-
-static void print_name(blob file, const mdmp_name_place *place) {
-    given_name name;
-    if (!is_named(file, place, &name)) {
-        printf("none");
+/* The units of a name, as the file has them after its length. */
+static void print_name(FILE *out, blob file, const mdmp_name_place *place) {
+    ASSERT(place->state <= MDMP_NAME_LONG);
+    if (place->state == MDMP_NAME_NONE) {
+        fprintf(out, "none");
         return;
     }
-    printf("\"");
-    for (size_t at = 0; at < name.size;) {
-        at += print_character(name.text + at);
+    if (place->state == MDMP_NAME_LONG) {
+        fprintf(out, "long %" PRIu32, place->size);
+        return;
     }
-    printf("\"");
+    ASSERT(place->size % 2 == 0 && place->rva + 4 + place->size <= file.size);
+    const uint8_t *units = file.bytes + place->rva + 4;
+    fprintf(out, "\"");
+    for (uint32_t at = 0; at < place->size; at += 2) {
+        print_unit(out, units[at] | (unsigned)units[at + 1] << 8);
+    }
+    fprintf(out, "\"");
 }
 
-static void print_thread(const mdmp_thread *row) {
+static void print_thread(FILE *out, const mdmp_thread *row) {
     ASSERT_RESERVED(row)
-    printf("thread %" PRIu64 " id %" PRIu32 " suspend %" PRIu32 " class %" PRIu32 " priority %" PRIu32, row->index,
+    fprintf(out, "thread %" PRIu64 " id %" PRIu32 " suspend %" PRIu32 " class %" PRIu32 " priority %" PRIu32, row->index,
         row->thread_id, row->suspend_count, row->priority_class, row->priority);
-    printf(" teb 0x%016" PRIx64 " stack 0x%016" PRIx64 " ", row->teb, row->stack_start);
-    print_place(&row->stack);
-    printf(" context ");
-    print_place(&row->context);
-    printf("\n");
+    fprintf(out, " teb 0x%016" PRIx64 " stack 0x%016" PRIx64 " ", row->teb, row->stack_start);
+    print_place(out, &row->stack);
+    fprintf(out, " context ");
+    print_place(out, &row->context);
+    fprintf(out, "\n");
 }
 
-static void print_module(blob file, const mdmp_module *row) {
+static void print_module(FILE *out, blob file, const mdmp_module *row) {
     ASSERT_RESERVED(row)
-    printf("module %" PRIu64 " base 0x%016" PRIx64 " size %" PRIu32 " checksum %" PRIu32 " time %" PRIu32, row->index,
+    fprintf(out, "module %" PRIu64 " base 0x%016" PRIx64 " size %" PRIu32 " checksum %" PRIu32 " time %" PRIu32, row->index,
         row->base_of_image, row->size_of_image, row->checksum, row->time_date_stamp);
-    printf(" version %" PRIu32 ".%" PRIu32 ".%" PRIu32 ".%" PRIu32 " cv ", row->file_version_ms >> 16,
+    fprintf(out, " version %" PRIu32 ".%" PRIu32 ".%" PRIu32 ".%" PRIu32 " cv ", row->file_version_ms >> 16,
         row->file_version_ms & 0xffff, row->file_version_ls >> 16, row->file_version_ls & 0xffff);
-    print_place(&row->codeview);
-    printf(" misc ");
-    print_place(&row->misc);
-    printf(" name ");
-    print_name(file, &row->name);
-    printf("\n");
+    print_place(out, &row->codeview);
+    fprintf(out, " misc ");
+    print_place(out, &row->misc);
+    fprintf(out, " name ");
+    print_name(out, file, &row->name);
+    fprintf(out, "\n");
 }
 
-static void print_unloaded(blob file, const mdmp_unloaded_module *row) {
+/* The second line of a module whose CodeView record is inside the file. */
+static void print_symbols(FILE *out, blob file, const mdmp_place *place) {
+    mdmp_symbol_file symbols;
+    mdmp_fault fault;
+    if (place->extent != MDMP_EXTENT_INSIDE) {
+        return;
+    }
+    ASSERT(mdmp_symbols(file.bytes, file.size, &LIMITS, place, &symbols, &fault) == MDMP_OK);
+    ASSERT_RESERVED(&symbols)
+    if (symbols.kind == MDMP_SYMBOLS_SHORT) {
+        fprintf(out, "pdb short %" PRIu32 "\n", place->size);
+        return;
+    }
+    if (symbols.kind == MDMP_SYMBOLS_OTHER) {
+        const uint8_t *first = symbols.signature;
+        fprintf(out, "pdb other %02x%02x%02x%02x size %" PRIu32 "\n", first[0], first[1], first[2], first[3], place->size);
+        return;
+    }
+    fprintf(out, "pdb ");
+    for (size_t i = 0; i < sizeof symbols.guid; i++) {
+        fprintf(out, "%s%02x", i == 4 || i == 6 || i == 8 || i == 10 ? "-" : "", symbols.guid[i]);
+    }
+    fprintf(out, " age %" PRIu32 " name \"", symbols.age);
+    ASSERT(symbols.name_offset + symbols.name_size <= (uint64_t)place->rva + place->size);
+    for (uint32_t i = 0; i < symbols.name_size; i++) {
+        uint8_t byte = file.bytes[symbols.name_offset + i];
+        fprintf(out, byte >= 0x20 && byte <= 0x7e && byte != '\\' ? "%c" : "\\x%02x", byte);
+    }
+    fprintf(out, "\"%s\n", symbols.name_ended == 1 ? "" : " cut");
+}
+
+static void print_unloaded(FILE *out, blob file, const mdmp_unloaded_module *row) {
     ASSERT_RESERVED(row)
-    printf("unloaded %" PRIu64 " base 0x%016" PRIx64 " size %" PRIu32 " checksum %" PRIu32 " time %" PRIu32 " name ",
+    fprintf(out, "unloaded %" PRIu64 " base 0x%016" PRIx64 " size %" PRIu32 " checksum %" PRIu32 " time %" PRIu32 " name ",
         row->index, row->base_of_image, row->size_of_image, row->checksum, row->time_date_stamp);
-    print_name(file, &row->name);
-    printf("\n");
+    print_name(out, file, &row->name);
+    fprintf(out, "\n");
 }
 
-static void print_exception(const mdmp_exception *row) {
+static void print_exception(FILE *out, const mdmp_exception *row) {
     ASSERT_RESERVED(row)
-    printf("exception thread %" PRIu32 " code 0x%08" PRIx32 " flags %" PRIu32, row->thread_id, row->exception_code,
+    fprintf(out, "exception thread %" PRIu32 " code 0x%08" PRIx32 " flags %" PRIu32, row->thread_id, row->exception_code,
         row->exception_flags);
-    printf(" record 0x%016" PRIx64 " address 0x%016" PRIx64 " parameters %" PRIu32, row->exception_record,
+    fprintf(out, " record 0x%016" PRIx64 " address 0x%016" PRIx64 " parameters %" PRIu32, row->exception_record,
         row->exception_address, row->number_parameters);
     for (uint32_t i = 0; i < row->number_parameters && i < 15; i++) {
-        printf(" 0x%016" PRIx64, row->information[i]);
+        fprintf(out, " 0x%016" PRIx64, row->information[i]);
     }
-    printf(" context ");
-    print_place(&row->context);
-    printf("\n");
+    fprintf(out, " context ");
+    print_place(out, &row->context);
+    fprintf(out, "\n");
 }
 
-static void print_system(blob file, const mdmp_system *row) {
+static void print_system(FILE *out, blob file, const mdmp_system *row) {
     ASSERT_RESERVED(row)
-    printf("system architecture %" PRIu32 " level %" PRIu32 " revision %" PRIu32 " processors %" PRIu32
+    fprintf(out, "system architecture %" PRIu32 " level %" PRIu32 " revision %" PRIu32 " processors %" PRIu32
            " product %" PRIu32,
         row->processor_architecture, row->processor_level, row->processor_revision, row->number_of_processors,
         row->product_type);
-    printf(" version %" PRIu32 ".%" PRIu32 ".%" PRIu32 " platform %" PRIu32 " suite %" PRIu32 " csd ",
+    fprintf(out, " version %" PRIu32 ".%" PRIu32 ".%" PRIu32 " platform %" PRIu32 " suite %" PRIu32 " csd ",
         row->major_version, row->minor_version, row->build_number, row->platform_id, row->suite_mask);
-    print_name(file, &row->csd_version);
-    printf("\n");
+    print_name(out, file, &row->csd_version);
+    fprintf(out, "\n");
 }
 
-static void print_region(const mdmp_region *row) {
+static void print_region(FILE *out, const mdmp_region *row) {
     ASSERT_RESERVED(row)
-    printf("region %" PRIu64 " base 0x%016" PRIx64 " allocation 0x%016" PRIx64 " initial %" PRIu32 " size %" PRIu64,
+    fprintf(out, "region %" PRIu64 " base 0x%016" PRIx64 " allocation 0x%016" PRIx64 " initial %" PRIu32 " size %" PRIu64,
         row->index, row->base_address, row->allocation_base, row->allocation_protect, row->region_size);
-    printf(" state %" PRIu32 " protect %" PRIu32 " type %" PRIu32 "\n", row->state, row->protect, row->memory_type);
+    fprintf(out, " state %" PRIu32 " protect %" PRIu32 " type %" PRIu32 "\n", row->state, row->protect, row->memory_type);
 }
 
-static void print_thread_name(blob file, const mdmp_thread_name *row) {
+static void print_thread_name(FILE *out, blob file, const mdmp_thread_name *row) {
     ASSERT_RESERVED(row)
-    printf("threadname %" PRIu64 " id %" PRIu32 " name ", row->index, row->thread_id);
-    print_name(file, &row->name);
-    printf("\n");
+    fprintf(out, "threadname %" PRIu64 " id %" PRIu32 " name ", row->index, row->thread_id);
+    print_name(out, file, &row->name);
+    fprintf(out, "\n");
 }
 
-void print_wide(uint64_t upper, uint64_t lower) {
+void print_wide(FILE *out, uint64_t upper, uint64_t lower) {
     char digits[40], *at = digits + sizeof digits;
     *--at = '\0';
     do {
@@ -147,66 +168,73 @@ void print_wide(uint64_t upper, uint64_t lower) {
         lower = parts[2] << 32 | parts[3];
         *--at = (char)('0' + rest);
     } while (upper != 0 || lower != 0);
-    printf("%s", at);
+    fprintf(out, "%s", at);
 }
 
-static void print_range(const mdmp_range *row) {
+static void print_range(FILE *out, const mdmp_range *row) {
     ASSERT_RESERVED(row)
     ASSERT(row->extent <= MDMP_EXTENT_OUTSIDE);
-    printf("range %" PRIu64 " start 0x%016" PRIx64 " %s", row->index, row->start, EXTENTS[row->extent]);
+    fprintf(out, "range %" PRIu64 " start 0x%016" PRIx64 " %s", row->index, row->start, EXTENTS[row->extent]);
     if (row->extent != MDMP_EXTENT_EMPTY) {
-        printf(" %" PRIu64, row->size);
+        fprintf(out, " %" PRIu64, row->size);
     }
     if (row->extent >= MDMP_EXTENT_INSIDE) {
-        printf("@");
-        print_wide(row->offset_high, row->offset);
+        fprintf(out, "@");
+        print_wide(out, row->offset_high, row->offset);
     }
-    printf("\n");
+    fprintf(out, "\n");
 }
 
 /* Prints the rows of one entry, from the first that is not yet printed. */
-#define PRINT(rows, count, at, print)                             \
-    for (; (at) < (count) && (rows)[at].entry == entry; (at)++) { \
-        print;                                                    \
+#define PRINT(kind, rows, print)                                                       \
+    for (; at[kind] < given->counts[kind] && rows[at[kind]].entry == entry; at[kind]++) { \
+        print;                                                                         \
     }
 
-void print_fields(blob file) {
-    mdmp_header_record header = header_of(file);
-    ASSERT_RESERVED(&header)
-    printf("dump version 0x%04" PRIx32 " streams %" PRIu32 " directory %" PRIu32 " checksum %" PRIu32
-           " time %" PRIu32,
-        header.version >> 16, header.number_of_streams, header.stream_directory_rva, header.checksum,
-        header.time_date_stamp);
-    printf(" flags 0x%016" PRIx64 "\n", header.flags);
-    uint64_t count;
-    mdmp_stream *streams = all_streams(file, &count);
-    uint64_t counts[8], at[8] = {0};
-    mdmp_thread *threads = all_threads(file, &counts[0]);
-    mdmp_module *modules = all_modules(file, &counts[1]);
-    mdmp_exception *exceptions = all_exceptions(file, &counts[2]);
-    mdmp_system *systems = all_systems(file, &counts[3]);
-    mdmp_unloaded_module *unloaded = all_unloaded(file, &counts[4]);
-    mdmp_region *regions = all_regions(file, &counts[5]);
-    mdmp_thread_name *names = all_thread_names(file, &counts[6]);
-    mdmp_range *ranges = all_ranges(file, &counts[7]);
-    for (uint32_t entry = 0; entry < count; entry++) {
-        const mdmp_stream *stream = &streams[entry];
+static void print_header(FILE *out, const mdmp_header_record *header) {
+    ASSERT_RESERVED(header)
+    fprintf(out, "dump version 0x%04" PRIx32 " streams %" PRIu32 " directory %" PRIu32 " checksum %" PRIu32 " time %" PRIu32,
+        header->version >> 16, header->number_of_streams, header->stream_directory_rva, header->checksum,
+        header->time_date_stamp);
+    fprintf(out, " flags 0x%016" PRIx64 "\n", header->flags);
+}
+
+void print_rows(FILE *out, blob file, const given_rows *given, uint32_t entries, bool pdb) {
+    uint64_t at[8] = {0};
+    print_header(out, &given->header);
+    for (uint32_t entry = 0; entry < entries; entry++) {
+        const mdmp_stream *stream = &given->streams[entry];
         ASSERT(stream->entry == entry);
         ASSERT_RESERVED(stream)
-        printf("stream %" PRIu32 " type %" PRIu32 " size %" PRIu32 " rva %" PRIu32 "\n", entry, stream->stream_type,
+        fprintf(out, "stream %" PRIu32 " type %" PRIu32 " size %" PRIu32 " rva %" PRIu32 "\n", entry, stream->stream_type,
             stream->size, stream->rva);
-        PRINT(threads, counts[0], at[0], print_thread(&threads[at[0]]))
-        PRINT(modules, counts[1], at[1], print_module(file, &modules[at[1]]))
-        PRINT(exceptions, counts[2], at[2], print_exception(&exceptions[at[2]]))
-        PRINT(systems, counts[3], at[3], print_system(file, &systems[at[3]]))
-        PRINT(unloaded, counts[4], at[4], print_unloaded(file, &unloaded[at[4]]))
-        PRINT(regions, counts[5], at[5], print_region(&regions[at[5]]))
-        PRINT(names, counts[6], at[6], print_thread_name(file, &names[at[6]]))
-        PRINT(ranges, counts[7], at[7], print_range(&ranges[at[7]]))
+        PRINT(0, given->threads, print_thread(out, &given->threads[at[0]]))
+        PRINT(1, given->modules, print_module(out, file, &given->modules[at[1]]);
+              if (pdb) { print_symbols(out, file, &given->modules[at[1]].codeview); })
+        PRINT(2, given->exceptions, print_exception(out, &given->exceptions[at[2]]))
+        PRINT(3, given->systems, print_system(out, file, &given->systems[at[3]]))
+        PRINT(4, given->unloaded, print_unloaded(out, file, &given->unloaded[at[4]]))
+        PRINT(5, given->regions, print_region(out, &given->regions[at[5]]))
+        PRINT(6, given->names, print_thread_name(out, file, &given->names[at[6]]))
+        PRINT(7, given->ranges, print_range(out, &given->ranges[at[7]]))
     }
-    for (int i = 0; i < 8; i++) {
-        ASSERT(at[i] == counts[i]);
-    }
+}
+
+void print_fields(blob file) {
+    uint64_t count;
+    mdmp_stream *streams = all_streams(file, &count);
+    given_rows rows = {.header = header_of(file), .streams = streams};
+    mdmp_thread *threads = all_threads(file, &rows.counts[0]);
+    mdmp_module *modules = all_modules(file, &rows.counts[1]);
+    mdmp_exception *exceptions = all_exceptions(file, &rows.counts[2]);
+    mdmp_system *systems = all_systems(file, &rows.counts[3]);
+    mdmp_unloaded_module *unloaded = all_unloaded(file, &rows.counts[4]);
+    mdmp_region *regions = all_regions(file, &rows.counts[5]);
+    mdmp_thread_name *names = all_thread_names(file, &rows.counts[6]);
+    mdmp_range *ranges = all_ranges(file, &rows.counts[7]);
+    rows.threads = threads, rows.modules = modules, rows.exceptions = exceptions, rows.systems = systems;
+    rows.unloaded = unloaded, rows.regions = regions, rows.names = names, rows.ranges = ranges;
+    print_rows(stdout, file, &rows, (uint32_t)count, false);
     free(ranges);
     free(names);
     free(regions);

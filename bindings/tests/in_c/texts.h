@@ -4,6 +4,24 @@
 
 #include "support.h"
 
+/* The rows of a file that the calls give. */
+typedef struct {
+    mdmp_header_record header;
+    const mdmp_stream *streams;
+    const mdmp_thread *threads;
+    const mdmp_module *modules;
+    const mdmp_exception *exceptions;
+    const mdmp_system *systems;
+    const mdmp_unloaded_module *unloaded;
+    const mdmp_region *regions;
+    const mdmp_thread_name *names;
+    const mdmp_range *ranges;
+    uint64_t counts[8]; /* of each kind of record, in this order */
+} given_rows;
+
+/* Prints the list up to so many entries, of the rows alone, with names and CodeView records as the file has them. */
+void print_rows(FILE *out, blob file, const given_rows *rows, uint32_t entries, bool pdb);
+
 /* Prints the list of a file that is good, field by field, of the structures alone. */
 void print_fields(blob file);
 
@@ -12,6 +30,6 @@ void print_fields(blob file);
 void print_records(blob file);
 
 /* A number of 128 bits, in decimal. */
-void print_wide(uint64_t upper, uint64_t lower);
+void print_wide(FILE *out, uint64_t upper, uint64_t lower);
 
 #endif
