@@ -9,7 +9,7 @@ from . import names, text
 from .reading import Listing, Reading
 
 # The most rows that are drawn, of all lists together.
-DRAWN = 100_000
+DRAWN = 20_000
 _END = 1 << 64  # of addresses
 
 
