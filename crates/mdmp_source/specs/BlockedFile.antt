@@ -18,7 +18,7 @@ file_of f = f.file.file
 -- nowhere that is known
 pub record HoldsNoBlock {F A : Type 0} (room : ℕ) (f : BlockedFile F A) : Type 0 where
   pub place : f.file.place ≡ None
-  pub block : f.block ≡ record { at = 0; bytes = []; room = room; memory = room; reach = 0; given = 0; calls = 0 }
+  pub block : f.block ≡ record { at = 0; bytes = []; room = room; reach = 0; given = 0; calls = 0 }
 
 module _ {F A : Type 0} (may_seek : F → ℕ → Bool → F → Type 0) (may_read : F → Result ℕ StoreFailed → List ℕ → F → Type 0) where
   -- a read that is answered from the block, which holds the byte at its place: nothing is read

@@ -11,10 +11,8 @@ pub record FileBlockState : Type 0 where
   -- the bytes held, of which the first stands at the offset `at`
   pub at : ℕ
   pub bytes : List ℕ
-  -- how many bytes a read into the block may give
+  -- how many bytes a read into the block may give: all its memory
   pub room : ℕ
-  -- how many bytes of memory the block has
-  pub memory : ℕ
   -- how many bytes the last read into the block asked for
   pub reach : ℕ
   -- how many bytes it gave, modulo 2^64, and to how many calls, modulo 2^32
@@ -73,7 +71,7 @@ pub record IsBlockFilled {F T E : Type 0} (may_seek : F → ℕ → Bool → F �
   pub read : IsFileRead may_seek may_read file_before at answer bytes file_after
   pub at_place : after.at ≡ at
   pub holds : after.bytes ≡ given_by answer bytes
-  pub same_room : (after.room ≡ before.room) × (after.memory ≡ before.memory)
+  pub same_room : after.room ≡ before.room
   pub asked : after.reach ≡ length bytes
   pub fresh : (after.given ≡ 0) × (after.calls ≡ 0)
   pub fails : IsOk result ↔ IsOk answer

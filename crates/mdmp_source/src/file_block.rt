@@ -25,6 +25,7 @@ pub(crate) const CALL_USE: usize = 256;
 // more bytes than it is given, since lengths of names are read in a row too, without the names.
 #[derive(Drop)]
 pub(crate) struct FileBlock<A: Allocator> {
+    /// As many bytes as a read ever asked for: a small file touches little of the block's memory.
     buffer: Vec<u8, A>,
     /// How many bytes are held, from the front of the buffer on.
     len: usize,
@@ -45,33 +46,29 @@ impl<A: Allocator> Model for FileBlock<A> {
     ghost view = { λ b. record {
       at = b.at;
       bytes = take b.len b.buffer.items;
-      room = vec_len b.buffer;
-      memory = vec_capacity b.buffer;
+      room = vec_capacity b.buffer;
       reach = b.reach;
       given = b.given;
       calls = b.calls;
     } };
 
-    ghost invariant = { λ b. (b.len ≤ vec_len b.buffer) × (b.reach ≤ vec_len b.buffer) };
+    ghost invariant = { λ b. (b.len ≤ vec_len b.buffer) × (b.reach ≤ vec_capacity b.buffer) };
 }
 
 impl<A: Allocator> FileBlock<A> {
-    /// A block that holds nothing. Its memory is that of `buffer`, which is empty, and no call takes any more.
+    /// A block that holds nothing. Its memory is that of `buffer`, which is empty: no call takes any more, and
+    /// each writes to no more of it than a read asks for.
     pub(crate) fn over(buffer: Vec<u8, A>) -> Self
         requires { vec_len buffer ≡ 0 }
         ensures { result ≡ record {
           at = 0;
           bytes = [];
           room = vec_capacity buffer;
-          memory = vec_capacity buffer;
           reach = 0;
           given = 0;
           calls = 0;
         } }
     {
-        let mut buffer = buffer;
-        let room = buffer.capacity();
-        lengthen(&mut buffer, room);
         FileBlock {
             buffer,
             len: 0,
@@ -86,7 +83,7 @@ impl<A: Allocator> FileBlock<A> {
     pub(crate) fn room(&self) -> usize
         ensures { result ≡ self.now.room }
     {
-        self.buffer.len()
+        self.buffer.capacity()
     }
 
     /// Drops what is held.
@@ -127,7 +124,7 @@ impl<A: Allocator> FileBlock<A> {
         ensures reach { IsReach self.now at wanted result }
         ensures fits { result ≤ self.now.room }
     {
-        let room = self.buffer.len();
+        let room = self.buffer.capacity();
         if self.is_followed(at) {
             return room.min(wanted.max(2 * self.reach));
         }
@@ -150,6 +147,7 @@ impl<A: Allocator> FileBlock<A> {
         self.len = 0;
         self.given = 0;
         self.calls = 0;
+        lengthen(&mut self.buffer, reach);
         self.len = file.read_at(at, &mut self.buffer[0..reach])?;
         Ok(())
     }
