@@ -22,7 +22,7 @@ _mdmp() {
     case $command in
         '') words='check list hex copy help --help --version' ;;
         help) ((place == 0)) && words='check list hex copy' ;;
-        check) words="--json $limits" ;;
+        check) words="--parts --json $limits" ;;
         list) words="--pdb --json --aside $limits" ;;
         hex | copy) words=$limits ;;
     esac

@@ -44,6 +44,7 @@ complete -c mdmp -n 'test (__mdmp_words) = 1' -a help -d 'Tell of the program or
 complete -c mdmp -n 'test (__mdmp_words) = 1' -l version -d 'Print the version'
 complete -c mdmp -n 'test (__mdmp_words) = 2; and __fish_seen_subcommand_from help' -a 'check list hex copy'
 complete -c mdmp -l help -d 'Print help'
+complete -c mdmp -n '__fish_seen_subcommand_from check' -l parts -d 'Tell of parts outside the file'
 complete -c mdmp -n '__fish_seen_subcommand_from list' -l pdb -d 'Tell of symbol files'
 complete -c mdmp -n '__fish_seen_subcommand_from check list' -l json -d 'Print objects of JSON'
 complete -c mdmp -n '__fish_seen_subcommand_from check list hex copy' -l window -x -d 'Fetch the file by at most so many bytes'

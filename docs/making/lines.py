@@ -125,7 +125,7 @@ class Message:
 def messages() -> list[Message]:
     """The error lines, in the order of the page, with their exit statuses."""
     form = Form("Faults", "<e>")
-    form.specs |= Form("FaultWords").specs
+    form.specs |= Form("FaultWords").specs | Form("PartLines").specs
     status = {clause.patterns.strip("()").split(" ")[0]: int(clause.body) for clause in form.specs["own_status"].clauses}
     made: list[Message] = []
 
@@ -284,7 +284,8 @@ def lines_text() -> str:
     table.compare(printed, told)
     parts = [INTRO.strip("\n"), block(list_forms()), PLACEHOLDERS.strip("\n"), block(pdb_forms()), PDB.strip("\n")]
     verdicts = block([Form("VerdictLines", "<e>").of("judged_text"), "<fault>"])
-    parts += [verdicts, CHECK.strip("\n"), block([hex_form()]), HEX.strip("\n"), OBJECTS.strip("\n")]
+    parts += [verdicts, LOST.strip("\n"), block([Form("PartLines", "<e>").of("part_text")])]
+    parts += [CHECK.strip("\n"), block([hex_form()]), HEX.strip("\n"), OBJECTS.strip("\n")]
     for line in printed:
         of, says = table.lines[line.name]
         parts.append(f"### `{line.name}`\n\n{of}{heading(line)}\n\n{key_table(line.objects, says)}")
@@ -334,7 +335,13 @@ PDB = """
 `check` prints one of these lines for each entry. `<fault>` is the [error line](#error-lines) of the entry without `mdmp: `.
 """
 
+LOST = """
+With `--parts`, one of these lines comes before the line of an entry for each part of its records that lies outside the file:
+"""
+
 CHECK = """
+`<what>` is `stack`, `context`, `codeview`, `misc` or `memory`.
+
 `hex` prints 16 bytes per line. The last line has the bytes that are left, and LENGTH 0 prints nothing. `??` is a byte that no memory list has.
 """
 

@@ -1,4 +1,4 @@
-"""The objects of JSON that `list` and `check` print, by the definitions of crates/mdmp_print/specs/JsonLines.antt."""
+"""The objects of JSON that `list` and `check` print, by JsonLines.antt and PartLines.antt of crates/mdmp_print/specs."""
 
 from __future__ import annotations
 
@@ -92,6 +92,8 @@ def hexadecimal(digits: int) -> tuple[str, dict[str, Any]]:
 GUID = {"type": "string", "pattern": "^[0-9a-f]{8}-[0-9a-f]{4}-[0-9a-f]{4}-[0-9a-f]{4}-[0-9a-f]{12}$"}
 DEBUG_ID = {"type": "string", "pattern": "^[0-9A-F]{32}(0|[1-9A-F][0-9A-F]{0,7})$"}
 SIGNATURE = {"type": "string", "pattern": "^[0-9a-f]{8}$"}
+# The definitions whose texts are some words, and the files that have them.
+WORDS = {"kind_words": "FaultWords.antt", "part_words": "PartLines.antt"}
 LOSSY = Key("lossy", "`true`", {"const": True}, is_required=False)
 
 
@@ -234,8 +236,8 @@ def of_text(scope: Scope, name: str, expression: Expression) -> Key:
         return Key(name, "33 to 40 digits of upper case", DEBUG_ID)
     if head == "digits_text":
         return Key(name, "8 hexadecimal digits", SIGNATURE)
-    if head == "kind_words":
-        words = [clause.expression for clause in definitions(SPECS / "FaultWords.antt")["kind_words"].clauses]
+    if head in WORDS:
+        words = [clause.expression for clause in definitions(SPECS / WORDS[head])[head].clauses]
         return Key(name, "words", {"enum": [text_of(one) for one in words if one != "[]"]})
     raise Mistake(f"no text of {name}: {expression!r}")
 
@@ -279,7 +281,8 @@ class Line:
 def lines() -> list[Line]:
     structures = all_structures()
     made: dict[str, Line] = {}
-    for name, definition in definitions(SPECS / "JsonLines.antt").items():
+    found_in = [definitions(SPECS / file) for file in ("JsonLines.antt", "PartLines.antt")]
+    for name, definition in [pair for one in found_in for pair in one.items()]:
         if not name.endswith("_members"):
             continue
         structure = structures.get(definition.kind.split(" →")[0])

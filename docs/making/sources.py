@@ -10,7 +10,10 @@ from .definitions import CRATES, Mistake
 
 STRUCT = re.compile(r"((?:^///.*\n)+)(?:#\[.*\n)*pub struct (\w+)(?:<'a>)? \{\n((?:(?!\}).*\n)*)\}", re.M)
 FIELD = re.compile(r"((?:^    ///.*\n)+)    pub (\w+): ([^,\n]+),", re.M)
-FILES = ["mdmp_wire/src/*.rt", "mdmp_lister/src/item.rt", "mdmp_lister/src/fault.rt", "mdmp_source/src/location.rt"]
+FILES = [
+    "mdmp_wire/src/*.rt", "mdmp_lister/src/item.rt", "mdmp_lister/src/fault.rt", "mdmp_source/src/location.rt",
+    "mdmp_summary/src/part.rt",
+]
 
 
 @dataclass(frozen=True)

@@ -276,15 +276,33 @@ def run_list(dump: Dump, options: Collection[str], operands: Sequence[str]) -> I
                 yield codeview_line(is_json, record, data, dump.longest)
 
 
+def lost(record: Record) -> Iterator[tuple[str, Stop]]:
+    """The parts of a record that are outside the file, each by its name and with its error."""
+    for key, part in record.parts.items():
+        if part.fits == "outside":
+            what = "codeview" if key == "cv" else key
+            yield what, bad(record.entry.number, f"{what} outside the file", part.offset, part.size, record.item)
+
+
+def part_line(is_json: bool, entry: int, what: str, error: Stop) -> bytes:
+    fault = error.fault or {}
+    members = {"entry": entry, "item": fault["item"], "part": what, "offset": fault["offset"], "size": fault["size"]}
+    return line(is_json, error.line, {"line": "part", **members})
+
+
 def run_check(dump: Dump, options: Collection[str], operands: Sequence[str]) -> Iterator[bytes]:
-    errors = 0
+    errors, is_json = 0, "--json" in options
     for entry in dump.listed():
-        text, fault = f"entry {entry.number}: ok", None
+        text, fault, is_bad = f"entry {entry.number}: ok", None, False
         try:
-            list(dump.records(entry))
+            for record in dump.records(entry):
+                for what, error in lost(record) if "--parts" in options else ():
+                    yield part_line(is_json, entry.number, what, error)
+                    is_bad = True
         except Stop as error:
-            text, fault, errors = error.line, error.fault, errors + 1
-        yield line("--json" in options, text, {"line": "entry", "entry": entry.number, "fault": fault})
+            text, fault, is_bad = error.line, error.fault, True
+        yield line(is_json, text, {"line": "entry", "entry": entry.number, "fault": fault})
+        errors += is_bad
     if errors:
         raise Stop(f"{errors} bad entries")
 
@@ -308,10 +326,8 @@ def readable(dump: Dump, entry: Entry) -> Iterator[Record]:
     for record in dump.records(entry):
         if isinstance(record.name, int):
             raise Stop(f"entry {entry.number} item {record.item}: name too long: {record.name}")
-        for key, part in record.parts.items():
-            if part.fits == "outside":
-                what = "codeview" if key == "cv" else key
-                raise bad(entry.number, f"{what} outside the file", part.offset, part.size, record.item)
+        for _, error in lost(record):
+            raise error
         yield record
 
 

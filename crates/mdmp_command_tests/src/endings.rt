@@ -5,6 +5,7 @@ use crate::commands::{
 };
 use crate::files::SmallFile;
 use crate::same::assert_same_at;
+use crate::texts::WIDE_PARTS;
 use mdmp_test_support::{
     FAULTY_TEXT, FAULTY_TOLD, FAULTY_VERDICTS, Room, SYSTEM, SYSTEM_TEXT, WIDE_TEXT,
 };
@@ -25,7 +26,7 @@ const UNKNOWN: Ending<'static> = (0, "0x0000000000000010: ?? ??\n", "");
 /// The words of a copy.
 const COPY: CommandCall<'static> = CommandCall::Line(&["copy", "system.dmp", "copy.dmp", "7"]);
 
-const ROWS: [EndingRow<'static>; 21] = [
+const ROWS: [EndingRow<'static>; 23] = [
     (
         CommandCall::Print(Shown::Verdicts, SmallFile::System),
         (0, "entry 0: ok\n", ""),
@@ -77,6 +78,18 @@ const ROWS: [EndingRow<'static>; 21] = [
     (
         CommandCall::Line(&["check", "system.dmp"]),
         (0, "entry 0: ok\n", ""),
+        None,
+        (1, 0, 0),
+    ),
+    (
+        CommandCall::Line(&["check", "wide.dmp"]),
+        (0, "entry 0: ok\n", ""),
+        None,
+        (1, 0, 0),
+    ),
+    (
+        CommandCall::Line(&["check", "--parts", "wide.dmp"]),
+        (1, WIDE_PARTS, "mdmp: 1 bad entries\n"),
         None,
         (1, 0, 0),
     ),

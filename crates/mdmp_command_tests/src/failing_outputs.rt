@@ -40,7 +40,7 @@ fn assert_swept<R: Files + AllocGlobal + Abort>(rt: &R, alloc: Global, calls: &[
 }
 
 /// Commands that write something.
-const WRITING: [CommandCall<'static>; 14] = [
+const WRITING: [CommandCall<'static>; 15] = [
     CommandCall::Print(Shown::Items, SmallFile::System),
     CommandCall::Print(Shown::Items, SmallFile::Faulty),
     CommandCall::Print(Shown::ItemsAndSymbols, SmallFile::Faulty),
@@ -52,6 +52,7 @@ const WRITING: [CommandCall<'static>; 14] = [
     CommandCall::Line(&["list", "system.dmp"]),
     CommandCall::Line(&["list", "faulty.dmp"]),
     CommandCall::Line(&["check", "faulty.dmp"]),
+    CommandCall::Line(&["check", "--parts", "wide.dmp"]),
     CommandCall::Line(&["hex", "wide.dmp", "0x1000", "4"]),
     CommandCall::Line(&["--help"]),
     CommandCall::Line(&["--version"]),

@@ -145,7 +145,7 @@ fn copy_has_a_first_part(rt: HostRuntime) {
 /// A command line over a disk in memory, how it ends, the file that it makes, and how often it reads its file.
 type ReadingRow<'a> = (&'a [&'a str], Ending<'a>, Option<&'a [u8]>, u64);
 
-const READING: [ReadingRow<'static>; 5] = [
+const READING: [ReadingRow<'static>; 6] = [
     // The header and the directory; then the system, the length of its name and the name, or the head of a list,
     // that again with its ranges, and four bytes.
     (&["list", "system.dmp"], (0, SYSTEM_TEXT, ""), None, 5),
@@ -156,6 +156,12 @@ const READING: [ReadingRow<'static>; 5] = [
         5,
     ),
     (&["check", "system.dmp"], (0, "entry 0: ok\n", ""), None, 5),
+    (
+        &["check", "--parts", "system.dmp"],
+        (0, "entry 0: ok\n", ""),
+        None,
+        5,
+    ),
     (
         &["hex", "wide.dmp", "0x1000", "4"],
         (0, WIDE_TEXT, ""),

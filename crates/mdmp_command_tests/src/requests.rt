@@ -25,9 +25,10 @@ fn form_words(form: LineForm) -> &'static str {
 /// What is to be done, as a text, with the names in brackets.
 fn command_text(rt: &impl Abort, alloc: Global, file: &str, command: &Command<'_>) -> String {
     let text = match command {
-        Command::Check { form } => {
+        Command::Check { form, parts } => {
             let form = form_words(*form);
-            format!(in alloc; "check [{file}]{form}")
+            let looked_at = if *parts { " parts" } else { "" };
+            format!(in alloc; "check [{file}]{form}{looked_at}")
         }
         Command::List { form, pdb } => {
             let form = form_words(*form);
@@ -95,7 +96,7 @@ const USUAL: &str = " within 65536 4096 Some(18446744073709551615) None None";
 const STRANGERS: &str = " within 65536 4096 Some(67108864) Some(67108864) Some(67108864)";
 
 /// Commands, and what is done with names, which are kept as they are.
-const COMMANDS: [AskedRow<'static>; 16] = [
+const COMMANDS: [AskedRow<'static>; 19] = [
     (&["check", "a.dmp"], "check [a.dmp]", USUAL),
     (&["list", "a.dmp"], "list [a.dmp]", USUAL),
     (&["list", "a.dmp", "--pdb"], "list [a.dmp] pdb", USUAL),
@@ -108,6 +109,13 @@ const COMMANDS: [AskedRow<'static>; 16] = [
     ),
     (&["check", "a.dmp", "--json"], "check [a.dmp] json", USUAL),
     (&["check", "--", "--json"], "check [--json]", USUAL),
+    (&["check", "a.dmp", "--parts"], "check [a.dmp] parts", USUAL),
+    (
+        &["check", "--parts", "--json", "a.dmp"],
+        "check [a.dmp] json parts",
+        USUAL,
+    ),
+    (&["check", "--", "--parts"], "check [--parts]", USUAL),
     (&["hex", "a.dmp", "0x10", "5"], "hex [a.dmp] 16 5", USUAL),
     (&["copy", "a", "b", "3"], "copy [a] [b] 3", USUAL),
     (
@@ -634,7 +642,7 @@ const BAD: [AskedRow<'static>; 27] = [
 ];
 
 /// Words that `clap` refuses.
-const REFUSED: [AskedRow<'static>; 36] = [
+const REFUSED: [AskedRow<'static>; 37] = [
     (&["check", "a", "--aside", "5"], "refused", NONE),
     (&["hex", "a", "0", "1", "--aside", "5"], "refused", NONE),
     (&["copy", "a", "b", "3", "--aside", "5"], "refused", NONE),
@@ -682,6 +690,7 @@ const REFUSED: [AskedRow<'static>; 36] = [
     ),
     (&["list", "a", "--json", "--json"], "refused", NONE),
     (&["list", "a", "--json=x"], "refused", NONE),
+    (&["list", "a", "--parts"], "refused", NONE),
     (&["check", "a", "--pdb"], "refused", NONE),
     (&["check", "--", "a", "--name", "5"], "refused", NONE),
     (&["hex", "a"], "refused", NONE),

@@ -15,6 +15,10 @@ pub const SYMBOL_OBJECTS: &str = "\
 {\"line\":\"pdb\",\"entry\":0,\"index\":0,\"kind\":\"rsds\",\"guid\":\"00112233-4455-6677-8899-aabbccddeeff\",\"age\":1,\"debug_id\":\"00112233445566778899AABBCCDDEEFF1\",\"name\":\"a.pdb\",\"cut\":false}
 ";
 
+/// What `check --parts` prints of two ranges of 64-bit memory, of which the second lies outside the file.
+pub const WIDE_PARTS: &str =
+    "entry 0 item 1: memory outside the file: offset 96 size 4\nentry 0: ok\n";
+
 /// What `list --pdb` prints of a file of one module.
 pub const SYMBOL_LINES: &str =
     "dump version 0x0000 streams 1 directory 32 checksum 0 time 0 flags 0x0000000000000000

@@ -83,12 +83,12 @@ PutsPrefix-first form all vs rest before after split cut =
 
 -- ---- a directory has no more bad entries than entries
 
-count_entries : (F : List ℕ) (n e : ℕ) → length (entries_from F n e) ≡ n
+pub count_entries : (F : List ℕ) (n e : ℕ) → length (entries_from F n e) ≡ n
 unfolding entries_from
 count_entries F zero e = refl
 count_entries F (suc n) e = ap suc (count_entries F n (e + 1))
 
-all_chosen : (xs : List Numbered) → only_chosen All xs ≡ xs
+pub all_chosen : (xs : List Numbered) → only_chosen All xs ≡ xs
 unfolding only_chosen
 all_chosen [] = refl
 all_chosen (x ∷ xs) = ap (λ (ys : List Numbered). x ∷ ys) (all_chosen xs)

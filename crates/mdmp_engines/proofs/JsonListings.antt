@@ -1,7 +1,9 @@
 -- Each object of a listing of a file of bytes may stand on a line of JSON Lines.
-use Rattle.std.proofs.Common.{◌≡◌, ℕ, zero, suc, ◌+◌, ◌*◌, ◌<◌, ◌^◌, ◌==◌, ◌%◌, Bool, true, false, cond, not, nat_lt, List, [], ◌∷◌, length, map, Option, Some, None, Result, Ok, Err, IfOk, refl, arith}
+use Rattle.std.proofs.Common.{◌≡◌, ℕ, zero, suc, ◌+◌, ◌*◌, ◌<◌, ◌^◌, ◌==◌, ◌%◌, Bool, true, false, cond, not, nat_lt, List, [], ◌∷◌, ◌++◌, length, map, Option, Some, None, Result, Ok, Err, IfOk, refl, arith}
 use Rattle.std.specs.List.{All}
 use Rattle.std.proofs.lemmas.List.Elements.{All-append, All-cons, All-head, All-map, All-nil, All-tail, All-weaker}
+use Rattle.mdmp_source.specs.declared.location.Extent.{Extent}
+use Rattle.mdmp_source.specs.declared.location.Extent.TheVariants.{Empty, Absent, Inside, Outside}
 use Rattle.mdmp_source.specs.Range.{is_inside}
 use Rattle.mdmp_source.specs.Store.{AreBytes}
 use Rattle.mdmp_wire.specs.AnyRecord.{name_rva}
@@ -26,6 +28,8 @@ use Rattle.mdmp_lister.specs.Format.Kind.{form_of, kind_of, record_size}
 use Rattle.mdmp_lister.specs.Format.Listing.{Numbered, Run, all_joined, chosen, entries, entries_from, entry_body, entry_count, entry_listing, is_chosen, item_then, items_from, joined, listing, only_chosen, records_of, shaped, stream_item, verdicts}
 use Rattle.mdmp_lister.specs.Format.Name.{name_at}
 use Rattle.mdmp_lister.specs.Format.Shape.{counted, head_cost, head_size, location_fault, ranges64, shape_behind_head, shape_of, sized}
+use Rattle.mdmp_summary.specs.Part.{if_outside, parts_outside}
+use Rattle.mdmp_summary.specs.declared.part.PartOutside.{PartOutside}
 use Rattle.mdmp_engines.specs.JsonLaws.{IsJsonLine}
 use Rattle.mdmp_print.specs.JsonLines.{item_object, verdict_object}
 use Rattle.mdmp_engines.proofs.JsonObjects.{at4, at8, item-line, stream-line, verdict-line}
@@ -37,16 +41,20 @@ abbrev pub HasSmallSymbols : Item → Type 0
 HasSmallSymbols (items.Module m) = (m.entry < 2 ^ 64) × (m.index < 2 ^ 64) × (m.fields.cv_record.size < 2 ^ 64)
 HasSmallSymbols item = Unit {0}
 
--- an item's object may stand on a line, and that of its CodeView record is of such numbers
+-- the entry of a part is such a number
+abbrev pub IsSmallPart : PartOutside → Type 0
+IsSmallPart part = part.entry < 2 ^ 64
+
+-- an item's object may stand on a line, and those of its CodeView record and of its parts outside the file are of such numbers
 abbrev pub IsPrinted : Item → Type 0
-IsPrinted item = IsJsonLine (item_object item) × HasSmallSymbols item
+IsPrinted item = IsJsonLine (item_object item) × (HasSmallSymbols item × All IsSmallPart (parts_outside item))
 
 -- a count of records that a number of Rust holds
 abbrev HasSmallCount : Result Shape Fault → Type 0
 HasSmallCount shape = IfOk shape (λ s. s.count < 2 ^ 64)
 
 -- an entry of the directory whose numbers are such
-abbrev IsSmallEntry : Numbered → Type 0
+abbrev pub IsSmallEntry : Numbered → Type 0
 IsSmallEntry x = (x.number < 2 ^ 64) × (x.entry.stream_type < 2 ^ 64) × (x.entry.location.size < 2 ^ 64) × (x.entry.location.rva < 2 ^ 64)
 
 abbrev verdict_of : List ℕ → ℕ → Numbered → Verdict
@@ -70,6 +78,18 @@ sized-small at size head record_size first stride count h = grind arith
 
 ranges64-small : (at size record_size count : ℕ) → count < 2 ^ 64 → HasSmallCount (ranges64 at size record_size count)
 ranges64-small at size record_size count h = grind arith
+
+-- ---- parts
+
+one-small : (class : Extent) (part : PartOutside) → IsSmallPart part → All IsSmallPart (if_outside class part)
+one-small Outside part small = All-cons IsSmallPart part [] small (All-nil IsSmallPart)
+one-small Empty part small = All-nil IsSmallPart
+one-small Absent part small = All-nil IsSmallPart
+one-small Inside part small = All-nil IsSmallPart
+
+both-small : (class other : Extent) (part more : PartOutside) → IsSmallPart part → IsSmallPart more → All IsSmallPart (if_outside class part ++ if_outside other more)
+both-small class other part more small few =
+    All-append IsSmallPart (if_outside class part) (if_outside other more) (one-small class part small) (one-small other more few)
 
 -- ---- runs
 
@@ -125,11 +145,19 @@ module _ (F : List ℕ) (bytes : AreBytes F) (limit : ℕ) where
   symbols-small z e k offset o kinds.Modules name es ks = (es, ks, at4 F bytes _)
   symbols-small z e k offset o kind name es ks = tt
 
+  parts-small : (z e k offset o : ℕ) (kind : StreamKind) (name : Name) → e < 2 ^ 64 → All IsSmallPart (parts_outside (item_of z e k offset (record_at kind F o) name))
+  parts-small z e k offset o kinds.Threads name es = both-small _ _ _ _ es es
+  parts-small z e k offset o kinds.Modules name es = both-small _ _ _ _ es es
+  parts-small z e k offset o kinds.Exception name es = one-small _ _ es
+  parts-small z e k offset o kinds.Memory name es = one-small _ _ es
+  parts-small z e k offset o kinds.Memory64 name es = one-small _ _ es
+  parts-small z e k offset o kind name es = All-nil IsSmallPart
+
   item_at-printed : (e k at o : ℕ) (kind : StreamKind) → e < 2 ^ 64 → k < 2 ^ 64 → IfOk (item_at F limit e k at o kind) IsPrinted
   item_at-printed e k at o kind es ks =
       let offset = offset_in F at k kind in
       named-printed (name_of F limit (name_rva (record_at kind F o))) (item_of (length F) e k offset (record_at kind F o)) (name_of-told _)
-      (λ name told. (item-line F bytes (length F) e k o es ks offset kind name told, symbols-small (length F) e k offset o kind name es ks))
+      (λ name told. (item-line F bytes (length F) e k o es ks offset kind name told, (symbols-small (length F) e k offset o kind name es ks, parts-small (length F) e k offset o kind name es)))
 
   items_from-printed : (e at : ℕ) (kind : StreamKind) (shape : Shape) (n k : ℕ) → e < 2 ^ 64 → k + n < 2 ^ 64 → All IsPrinted (items_from F limit e at kind shape n k).items
   items_from-printed e at kind shape zero k es ks = All-nil IsPrinted
@@ -150,9 +178,9 @@ module _ (F : List ℕ) (bytes : AreBytes F) (limit : ℕ) where
       rw (← inside) (records_of-printed x.number x.entry.location.rva x.entry.location.size (kind_of x.entry.stream_type) es)
   entry_body-printed x (Some f) outside es = rw (← outside) (All-nil IsPrinted)
 
-  entry_listing-printed : (x : Numbered) → IsSmallEntry x → All IsPrinted (entry_listing F limit x).items
+  pub entry_listing-printed : (x : Numbered) → IsSmallEntry x → All IsPrinted (entry_listing F limit x).items
   entry_listing-printed x small = All-cons IsPrinted (stream_item x) (entry_body F limit x).items
-      (stream-line (record { entry = x.number; stream_type = x.entry.stream_type; location = x.entry.location }) small.0 small.1 small.2 small.3, tt)
+      (stream-line (record { entry = x.number; stream_type = x.entry.stream_type; location = x.entry.location }) small.0 small.1 small.2 small.3, (tt, All-nil IsSmallPart))
       (entry_body-printed x (location_fault (length F) x.entry) refl small.0)
 
   all_joined-printed : (xs : List Numbered) → All IsSmallEntry xs → All IsPrinted (all_joined (map (entry_listing F limit) xs)).items
@@ -175,7 +203,7 @@ module _ (F : List ℕ) (bytes : AreBytes F) (limit : ℕ) where
   only_chosen-small choice (x ∷ xs) h =
       kept (is_chosen choice x.entry.stream_type) x (only_chosen choice xs) (All-head IsSmallEntry x xs h) (only_chosen-small choice xs (All-tail IsSmallEntry x xs h))
 
-  chosen-small : (choice : Choice) → All IsSmallEntry (chosen F choice)
+  pub chosen-small : (choice : Choice) → All IsSmallEntry (chosen F choice)
   chosen-small choice = let few : entry_count F < 2 ^ 64 = at4 F bytes _ in only_chosen-small choice (entries F) (entries_from-small (entry_count F) 0 (omega arith))
 
   pub listing-printed : (choice : Choice) → All IsPrinted (listing F choice limit).items

@@ -16,17 +16,20 @@ use Rattle.mdmp_lister.specs.declared.item.Item.{Item}
 use Rattle.mdmp_lister.specs.declared.item.Item.TheVariants as items
 use Rattle.mdmp_lister.specs.Format.Listing.{listing, verdicts}
 use Rattle.mdmp_lister.specs.Format.Refusal.{opening_fault}
+use Rattle.mdmp_summary.specs.CheckRows.{check_rows}
+use Rattle.mdmp_engines.specs.CheckParts.{parts_text}
 use Rattle.mdmp_engines.specs.CheckText.{check_text}
 use Rattle.mdmp_engines.specs.Engines.{unless_refused}
 use Rattle.mdmp_print.specs.Forms.{dump_line_in}
 use Rattle.mdmp_print.specs.Json.{object_line}
-use Rattle.mdmp_engines.specs.JsonLaws.{AreJsonLines, IsJsonLine, check_objects, item_objects, list_objects, objects_unless_refused, symbols_objects}
+use Rattle.mdmp_engines.specs.JsonLaws.{AreJsonLines, IsJsonLine, check_objects, item_objects, list_objects, objects_unless_refused, parts_objects, symbols_objects}
 use Rattle.mdmp_print.specs.JsonLines.{dump_object, item_object, verdict_object}
 use Rattle.mdmp_engines.specs.Symbols.{inside_only, symbols_of}
 use Rattle.mdmp_engines.specs.Text.{item_lines, list_text, symbols_text}
 use Rattle.mdmp_engines.specs.declared.list.ModuleSymbols.{ModuleSymbols}
 use Rattle.mdmp_engines.proofs.JsonListings.{HasSmallSymbols, IsPrinted, listing-printed, verdicts-lines}
 use Rattle.mdmp_engines.proofs.JsonObjects.{dump-line, pdb-line}
+use Rattle.mdmp_engines.proofs.JsonParts.{check_rows-lines, rows-objects}
 use Rattle.mdmp_print.specs.declared.form.LineForm.TheVariants.{Json}
 
 -- ---- lines of objects
@@ -69,7 +72,7 @@ module _ (F : List ℕ) (bytes : AreBytes F) where
 
     printed-lines : (item : Item) → IsPrinted item → AreJsonLines (item_lines Json pdb F limit item) (item_objects pdb F limit item)
     printed-lines item h =
-        more-lines (object_line (item_object item)) _ (item_object item ∷ []) _ (one-line (item_object item) h.0) (symbols-lines pdb item h.1)
+        more-lines (object_line (item_object item)) _ (item_object item ∷ []) _ (one-line (item_object item) h.0) (symbols-lines pdb item h.1.0)
 
     items-lines : (xs : List Item) → All IsPrinted xs → AreJsonLines (flat_map (item_lines Json pdb F limit) xs) (flat_map (item_objects pdb F limit) xs)
     items-lines [] h = no-lines
@@ -86,6 +89,12 @@ module _ (F : List ℕ) (bytes : AreBytes F) where
         let run = listing F EveryType limit in
         unless-lines (opening_fault F EveryType) _ _ (
         more-lines (dump_line_in Json (header_at F 0)) _ (dump_object (header_at F 0) ∷ []) _ header-lines (items-lines run.items (listing-printed F bytes limit EveryType)))
+
+  pub check_parts-lines : (limit : ℕ) → AreJsonLines (parts_text Json F limit) (parts_objects F limit)
+  check_parts-lines limit = unless-lines (opening_fault F EveryType) _ _ (record {
+    lines = rows-objects (check_rows F limit);
+    each = check_rows-lines F bytes limit;
+  })
 
   pub check-lines : (limit : ℕ) → AreJsonLines (check_text Json F limit) (check_objects F limit)
   check-lines limit = unless-lines (opening_fault F EveryType) _ _ (record {

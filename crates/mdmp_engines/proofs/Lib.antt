@@ -9,11 +9,13 @@ pub mod Hexing
 pub mod JsonClean
 pub mod JsonListings
 pub mod JsonObjects
+pub mod JsonParts
 pub mod JsonPlain
 pub mod JsonPrinted
 pub mod JsonReads
 pub mod JsonStrings
 pub mod Listings
+pub mod PartsChecking
 pub mod PlainLines
 pub mod Printing
 pub mod Reached

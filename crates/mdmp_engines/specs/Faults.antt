@@ -6,7 +6,10 @@ use Rattle.mdmp_dump.specs.declared.fault.PartName.{PartName}
 use Rattle.mdmp_dump.specs.declared.fault.PartName.TheVariants as parts
 use Rattle.mdmp_dump.specs.declared.fault.ReadFault.{ReadFault}
 use Rattle.mdmp_dump.specs.declared.fault.ReadFault.TheVariants as reading
+use Rattle.mdmp_summary.specs.declared.part.PartKind.{PartKind}
+use Rattle.mdmp_summary.specs.declared.part.PartKind.TheVariants as kinds
 use Rattle.mdmp_print.specs.FaultWords.{budget_text, list_fault_text, memory_limit_text, memory_text, opening_text, source_text}
+use Rattle.mdmp_print.specs.PartLines.{part_text}
 use Rattle.mdmp_engines.specs.declared.fault.ToolFault.{ToolFault}
 use Rattle.mdmp_engines.specs.declared.fault.ToolFault.TheVariants as tool
 use Rattle.mdmp_engines.specs.Telling.{fault_as_told}
@@ -48,18 +51,13 @@ abbrev pub layout_text : LayoutFault → List ℕ
 layout_text (layout.RawKnownType stream) = concat (codes "stream " ∷ decimal stream ∷ codes " holds raw bytes of a known type" ∷ [])
 layout_text (layout.TooLarge) = codes "the copy is too large"
 
--- what a part is called
-abbrev pub part_words : PartName → List ℕ
-part_words parts.Stack = codes "stack"
-part_words parts.Context = codes "context"
-part_words parts.CodeView = codes "codeview"
-part_words parts.Misc = codes "misc"
-part_words parts.Memory = codes "memory"
-
--- `entry <e> item <k>: <part> outside the file: offset <n> size <n>`
-abbrev pub part_text : ℕ → ℕ → PartName → ℕ → ℕ → List ℕ
-part_text e k part offset size = concat (codes "entry " ∷ decimal e ∷ codes " item " ∷ decimal k
-    ∷ codes ": " ∷ part_words part ∷ codes " outside the file: offset " ∷ decimal offset ∷ codes " size " ∷ decimal size ∷ [])
+-- a part, as a check of parts names it
+abbrev pub part_kind : PartName → PartKind
+part_kind parts.Stack = kinds.Stack
+part_kind parts.Context = kinds.Context
+part_kind parts.CodeView = kinds.CodeView
+part_kind parts.Misc = kinds.Misc
+part_kind parts.Memory = kinds.Memory
 
 -- `entry <e> item <k>: name too long: <n>`
 abbrev pub long_name_text : ℕ → ℕ → ℕ → List ℕ
@@ -68,7 +66,7 @@ long_name_text e k length = concat (codes "entry " ∷ decimal e ∷ codes " ite
 abbrev pub reading_text : ReadFault → List ℕ
 reading_text (reading.Opening fault) = opening_text fault
 reading_text (reading.List fault) = list_fault_text fault
-reading_text (reading.PartOutside e k part offset size) = part_text e k part offset size
+reading_text (reading.PartOutside e k part offset size) = part_text (record { entry = e; index = k; part = part_kind part; offset = offset; size = size })
 reading_text (reading.NameTooLong e k length) = long_name_text e k length
 reading_text (reading.PartsTooLarge e k) = layout_text layout.TooLarge
 reading_text reading.Memory = memory_text

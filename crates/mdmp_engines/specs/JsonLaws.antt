@@ -13,8 +13,12 @@ use Rattle.mdmp_lister.specs.declared.fault.OpenFault.{OpenFault}
 use Rattle.mdmp_lister.specs.declared.item.Item.{Item}
 use Rattle.mdmp_lister.specs.Format.Listing.{listing, verdicts}
 use Rattle.mdmp_lister.specs.Format.Refusal.{opening_fault}
+use Rattle.mdmp_summary.specs.CheckRows.{check_rows}
+use Rattle.mdmp_summary.specs.declared.check_row.CheckRow.{CheckRow}
+use Rattle.mdmp_summary.specs.declared.check_row.CheckRow.TheVariants.{Part, Entry}
 use Rattle.mdmp_print.specs.Json.{object_line}
 use Rattle.mdmp_print.specs.JsonLines.{dump_object, item_object, pdb_object, verdict_object}
+use Rattle.mdmp_print.specs.PartLines.{part_object}
 use Rattle.mdmp_engines.specs.Symbols.{symbols_of}
 use Rattle.mdmp_engines.specs.declared.list.ModuleSymbols.{ModuleSymbols}
 
@@ -53,6 +57,15 @@ item_objects pdb F limit item = item_object item ∷ symbols_objects F limit (sy
 abbrev pub list_objects : Bool → List ℕ → ℕ → List (List Token)
 list_objects pdb F limit = objects_unless_refused (opening_fault F EveryType)
     (dump_object (header_at F 0) ∷ flat_map (item_objects pdb F limit) (listing F EveryType limit).items)
+
+-- that of a row of a check that looks at parts
+abbrev pub row_object : CheckRow → List Token
+row_object (Part part) = part_object part
+row_object (Entry row) = verdict_object row.verdict
+
+-- those of `check --parts`: one for each part outside the file, and one for each entry
+abbrev pub parts_objects : List ℕ → ℕ → List (List Token)
+parts_objects F limit = objects_unless_refused (opening_fault F EveryType) (map row_object (check_rows F limit))
 
 -- those of `check`: one for each entry
 abbrev pub check_objects : List ℕ → ℕ → List (List Token)

@@ -1,4 +1,5 @@
 pub mod Causes
+pub mod CheckParts
 pub mod CheckRuns
 pub mod CheckText
 pub mod Copying

@@ -1,10 +1,13 @@
 //! What is said of a fault, as a piece of a line and as a text that is shown.
-ghost use Rattle.std.specs.Prelude.{◌++◌, refl};
-ghost use Rattle.mdmp_engines.specs.Faults.{layout_text, own_text, part_words, reading_text};
+ghost use Rattle.std.specs.Prelude.{◌≡◌, ◌++◌, refl};
+ghost use Rattle.mdmp_engines.specs.Faults.{layout_text, own_text, part_kind, reading_text};
 
 use crate::fault::{ToolFault, fault_as_told};
 use mdmp_dump::{PartName, ReadFault};
-use mdmp_print::{BudgetWords, LINE_ROOM, ListWords, OpenWords, Piece, SourceWords, row};
+use mdmp_print::{
+    BudgetWords, LINE_ROOM, ListWords, OpenWords, OutsideWords, Piece, SourceWords, row,
+};
+use mdmp_summary::{PartKind, PartOutside};
 use mdmp_writer::LayoutFault;
 use std::fmt::{self, Display, Formatter, Write};
 
@@ -70,18 +73,13 @@ impl Piece for ReadWords {
                 part,
                 offset,
                 size,
-            } => row![
-                b"entry ",
+            } => OutsideWords(PartOutside {
                 entry,
-                b" item ",
                 index,
-                b": ",
-                PartWords(part),
-                b" outside the file: offset ",
+                part: part_kind(part),
                 offset,
-                b" size ",
                 size,
-            ]
+            })
             .write_at(buffer, at),
             ReadFault::NameTooLong {
                 entry,
@@ -105,27 +103,16 @@ impl Piece for ReadWords {
     }
 }
 
-/// What a part is called.
-#[derive(Clone, Copy)]
-struct PartWords(PartName);
-
-impl Piece for PartWords {
-    ghost text = { λ p. part_words p.0 };
-
-    ghost before = { λ p more. part_words p.0 ++ more };
-
-    ghost most = { 8 };
-
-    ghost joined = { λ p more. refl };
-
-    fn write_at(&self, buffer: &mut [u8], at: usize) -> usize {
-        match self.0 {
-            PartName::Stack => b"stack".write_at(buffer, at),
-            PartName::Context => b"context".write_at(buffer, at),
-            PartName::CodeView => b"codeview".write_at(buffer, at),
-            PartName::Misc => b"misc".write_at(buffer, at),
-            PartName::Memory => b"memory".write_at(buffer, at),
-        }
+/// A part, as a check of parts names it.
+fn part_kind(part: PartName) -> PartKind
+    ensures { result ≡ part_kind part }
+{
+    match part {
+        PartName::Stack => PartKind::Stack,
+        PartName::Context => PartKind::Context,
+        PartName::CodeView => PartKind::CodeView,
+        PartName::Misc => PartKind::Misc,
+        PartName::Memory => PartKind::Memory,
     }
 }
 

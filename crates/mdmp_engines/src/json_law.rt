@@ -6,9 +6,10 @@ ghost use Rattle.mdmp_wire.specs.Header.{header_at};
 ghost use Rattle.mdmp_lister.specs.declared.choice.Choice.{Choice};
 ghost use Rattle.mdmp_lister.specs.declared.item.Item.{Item};
 ghost use Rattle.mdmp_lister.specs.Format.Listing.{listing};
+ghost use Rattle.mdmp_engines.specs.CheckParts.{parts_text};
 ghost use Rattle.mdmp_engines.specs.CheckText.{check_text};
 ghost use Rattle.mdmp_print.specs.Forms.{dump_line_in};
-ghost use Rattle.mdmp_engines.specs.JsonLaws.{AreJsonLines, list_objects, check_objects, item_objects};
+ghost use Rattle.mdmp_engines.specs.JsonLaws.{AreJsonLines, list_objects, check_objects, item_objects, parts_objects};
 ghost use Rattle.mdmp_print.specs.JsonLines.{dump_object};
 ghost use Rattle.mdmp_engines.specs.Text.{list_text, item_lines};
 ghost use Rattle.mdmp_print.specs.declared.form.LineForm.TheVariants.{Json};
@@ -20,6 +21,7 @@ ghost use Rattle.mdmp_print.specs.declared.form.LineForm.TheVariants.{Json};
 pub fn objects_are_json_texts()
     ensures list { (F : List ℕ) (pdb : Bool) (limit : ℕ) → AreBytes F → AreJsonLines (list_text Json pdb F limit) (list_objects pdb F limit) }
     ensures check { (F : List ℕ) (limit : ℕ) → AreBytes F → AreJsonLines (check_text Json F limit) (check_objects F limit) }
+    ensures parts { (F : List ℕ) (limit : ℕ) → AreBytes F → AreJsonLines (parts_text Json F limit) (parts_objects F limit) }
     ensures header { (F : List ℕ) → AreBytes F → AreJsonLines (dump_line_in Json (header_at F 0)) (dump_object (header_at F 0) ∷ []) }
     ensures item { (F : List ℕ) (choice : Choice) (pdb : Bool) (limit : ℕ) (item : Item) → AreBytes F → Contains (listing F choice limit).items item
         → AreJsonLines (item_lines Json pdb F limit item) (item_objects pdb F limit item) }

@@ -3,11 +3,12 @@
 //! There is one engine for each command. [`run_list`] writes of a good store the text
 //! of `specs/Text.antt`, whole or up to the first bad location, and of one that fails the first part
 //! of it. [`run_check`] writes the text of `specs/CheckText.antt`, a line for each entry, and answers
-//! how many are bad. [`run_hex`] writes the text of `specs/HexText.antt` of mdmp_print, or nothing where the store
+//! how many are bad. [`run_check_parts`] writes the text of `specs/CheckParts.antt`, which has a line for each part
+//! outside the file too. [`run_hex`] writes the text of `specs/HexText.antt` of mdmp_print, or nothing where the store
 //! fails or the file's memory lists have a bad location. [`run_copy`] writes the dump of the streams of some
 //! types as a file of its own, a first part of it where the output refuses or the store fails, or
-//! nothing. [`list_source`], [`check_source`], [`hex_source`] and [`copy_source`] do the same over a source, and
-//! hand it back. A command that prints is an [`Engine`]; [`run_in_blocks`] runs any of them by few writes.
+//! nothing. [`list_source`], [`check_source`], [`check_parts_source`], [`hex_source`] and [`copy_source`] do the same
+//! over a source, and hand it back. A command that prints is an [`Engine`]; [`run_in_blocks`] runs any of them by few writes.
 //! A [`LineForm`] says whether the lines of `list` and `check` are words or objects of JSON
 //! (`specs/JsonLines.antt` of mdmp_print); all else is the same. [`objects_are_json_texts`] is the law that of any
 //! file these objects are JSON Lines: each is a line of UTF-8 that reads back as it.
@@ -17,6 +18,7 @@
 #![tactic(auto)]
 
 mod check;
+mod check_parts;
 mod copy;
 mod engine;
 mod fault;
@@ -29,6 +31,7 @@ mod outcome;
 mod reporting;
 
 pub use crate::check::{CheckEngine, check_source, run_check};
+pub use crate::check_parts::{CheckPartsEngine, check_parts_source, run_check_parts};
 pub use crate::copy::{copied, copy_source, first_not_copied, run_copy};
 pub use crate::engine::{Engine, run_in_blocks};
 pub use crate::fault::{ToolFault, status};

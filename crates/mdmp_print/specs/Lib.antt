@@ -15,6 +15,8 @@ pub mod JsonLines
 pub mod JsonPieces
 pub mod Lines
 pub mod NameLaws
+pub mod PartLaws
+pub mod PartLines
 pub mod Parts
 pub mod PdbLines
 pub mod PlacedLaws

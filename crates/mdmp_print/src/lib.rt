@@ -9,8 +9,8 @@
 //! them with their commas. A [`Field`] is a piece of a line of text that knows its member. So a kind of
 //! record is one row of fields, from which [`print_record`] prints either form.
 //!
-//! [`print_dump`], [`print_item`], [`print_symbols`] and [`print_verdict`] print the lines of `list` and
-//! `check`, [`print_hex_lines`] those of `hex`. What is said of an error is a piece, as [`ListWords`].
+//! [`print_dump`], [`print_item`], [`print_symbols`], [`print_verdict`] and [`print_check_row`] print the lines of
+//! `list` and `check`, [`print_hex_lines`] those of `hex`. What is said of an error is a piece, as [`ListWords`].
 #![tactic(auto)]
 
 mod bytes;
@@ -35,6 +35,7 @@ mod line_out;
 mod name;
 mod number;
 mod object_line;
+mod part_outside;
 mod parts;
 mod piece;
 mod printer;
@@ -65,6 +66,7 @@ pub use crate::json_text::{BytesValue, NameValue};
 pub use crate::line_out::LineOut;
 pub use crate::name::NameText;
 pub use crate::object_line::{print_object, print_object_around};
+pub use crate::part_outside::{OutsideWords, PartWords, print_check_row};
 pub use crate::parts::{PartEnd, Parts};
 pub use crate::piece::{LINE_ROOM, Piece};
 pub use crate::printer::Printer;

@@ -86,6 +86,12 @@ impl PlainPiece for u64 {
     ghost same = { λ n plain. escape-decimal n };
 }
 
+impl PlainPiece for u128 {
+    ghost is_plain = { λ n. true };
+
+    ghost same = { λ n plain. escape-decimal n };
+}
+
 impl Value for u32 {
     type Json = u32;
 

@@ -1,5 +1,5 @@
 -- What a command over a source prints and tells, and its exit status.
-use Rattle.std.specs.Prelude.{◌≡◌, ℕ, Bool, List, Some, Result}
+use Rattle.std.specs.Prelude.{◌≡◌, ℕ, Bool, true, false, List, Some, Result}
 use Rattle.mdmp_source.specs.Output.{OutState}
 use Rattle.mdmp_source.specs.Source.{SourceState}
 use Rattle.mdmp_source.specs.Store.{IsGood}
@@ -9,6 +9,7 @@ use Rattle.mdmp_engines.specs.declared.fault.ToolFault.{ToolFault}
 use Rattle.mdmp_print.specs.declared.form.LineForm.{LineForm}
 use Rattle.mdmp_words.specs.declared.number_words.Span.{Span}
 use Rattle.mdmp_engines.specs.Causes.{IsNoSourceFault}
+use Rattle.mdmp_engines.specs.CheckParts.{ChecksPartsThrough}
 use Rattle.mdmp_engines.specs.CheckRuns.{ChecksThrough}
 use Rattle.mdmp_engines.specs.Copying.{Copies, SpendsCopy, SpendsWithin, TellsCopyBudget, TellsCopyMemory, first_not_copied}
 use Rattle.mdmp_engines.specs.Engines.{IsReadThrough, Pace, ReadsSource, RunsThrough, Tells, unless_refused, at_the_end, in_blocks, past_faults, up_to_a_fault, Access, check_access, hex_access, list_access}
@@ -39,6 +40,15 @@ HasRunThrough access End Ends text =
 -- `check`, `list` and `hex` have run so, within these limits
 abbrev pub HasChecked : LineForm → Limits → SourceState → OutState → OutState → ℕ → SourceState → OutState → OutState → Type 0
 HasChecked form limits = HasRun (check_access limits) IsCheckEnd (λ file. ChecksThrough form file limits.name) past_faults
+
+-- `check --parts` has run so
+abbrev pub HasCheckedParts : LineForm → Limits → SourceState → OutState → OutState → ℕ → SourceState → OutState → OutState → Type 0
+HasCheckedParts form limits = HasRun (check_access limits) IsCheckEnd (λ file. ChecksPartsThrough form file limits.name) past_faults
+
+-- one of both, by whether parts are looked at
+abbrev pub HasCheckedSo : Bool → LineForm → Limits → SourceState → OutState → OutState → ℕ → SourceState → OutState → OutState → Type 0
+HasCheckedSo true form limits = HasCheckedParts form limits
+HasCheckedSo false form limits = HasChecked form limits
 
 abbrev pub HasPrintedList : LineForm → Bool → Limits → SourceState → OutState → OutState → ℕ → SourceState → OutState → OutState → Type 0
 HasPrintedList form pdb limits = HasRun (list_access pdb limits) IsEnd (λ file. ListsThrough form pdb file limits.name) up_to_a_fault

@@ -4,7 +4,7 @@
 //! the command that they ask for. Under it stands a core over a source and two outputs,
 //! [`print_and_report`] and [`copy_and_report`], whose contract says what is written and told, and the exit
 //! status. Under that stand the engines of mdmp_engines, one for each command, which this crate gives out
-//! again: [`run_list`], [`run_check`], [`run_hex`] and [`run_copy`].
+//! again: [`run_list`], [`run_check`], [`run_check_parts`], [`run_hex`] and [`run_copy`].
 #![tactic(auto)]
 
 mod program;
@@ -17,10 +17,10 @@ pub use crate::running::{copy_and_report, print_and_report};
 pub use crate::standing::what_is_copied_stands;
 pub use crate::words::{run_on_disk, run_words};
 pub use mdmp_engines::{
-    CheckEngine, Engine, FaultKind, HexEngine, LINE_ROOM, LayoutFault, Limits, LineForm, LineOut,
-    ListEngine, ListFault, OpenFault, Outcome, PartName, Printer, ReadFault, ToolFault, TypeSet,
-    check_source, copied, copy_source, fault_line, first_not_copied, hex_source, list_next,
-    list_source, objects_are_json_texts, print_dump, report, run_check, run_copy, run_hex,
-    run_in_blocks, run_list, status,
+    CheckEngine, CheckPartsEngine, Engine, FaultKind, HexEngine, LINE_ROOM, LayoutFault, Limits,
+    LineForm, LineOut, ListEngine, ListFault, OpenFault, Outcome, PartName, Printer, ReadFault,
+    ToolFault, TypeSet, check_parts_source, check_source, copied, copy_source, fault_line,
+    first_not_copied, hex_source, list_next, list_source, objects_are_json_texts, print_dump,
+    report, run_check, run_check_parts, run_copy, run_hex, run_in_blocks, run_list, status,
 };
 pub use mdmp_words::{Command, Invocation, Span, invocation_of};

@@ -3,7 +3,7 @@ ghost use Rattle.std.specs.Prelude.{codes, ◌≡◌, ◌≤◌, ◌⊎◌, ◌�
 ghost use Rattle.std.specs.List.{concat};
 ghost use Rattle.mdmp_source.specs.Output.{OutState};
 ghost use Rattle.mdmp_engines.specs.Reports.{IsLineTold};
-ghost use Rattle.mdmp_tool.specs.Commands.{HasRunThrough};
+ghost use Rattle.mdmp_tool.specs.Commands.{HasCheckedSo, HasRunThrough};
 ghost use Rattle.mdmp_disk.specs.System.{no_requests, system};
 ghost use Rattle.mdmp_disk.specs.declared.disk.Requests.{Requests};
 ghost use Rattle.mdmp_tool.specs.Words.{EndsCopy, EndsPrint, EndsWords, Helps, HelpsInPart};
@@ -11,10 +11,11 @@ ghost use Rattle.mdmp_tool.specs.Words.{EndsCopy, EndsPrint, EndsWords, Helps, H
 use crate::running::{copy_and_report, print_and_report};
 use mdmp_disk::{Disk, SystemDisk};
 use mdmp_engines::{
-    CheckEngine, Engine, HexEngine, ListEngine, ToolFault, first_not_copied, report,
+    CheckEngine, CheckPartsEngine, Engine, HexEngine, ListEngine, ToolFault, first_not_copied,
+    report,
 };
 use mdmp_lister::{Limits, TypeSet};
-use mdmp_print::{LineOut, print_error, print_error_named};
+use mdmp_print::{LineForm, LineOut, print_error, print_error_named};
 use mdmp_source::{Out, OutFailed, Source, write_all};
 use mdmp_words::{Command, Invocation, Span, invocation_of};
 use std::alloc::{AllocGlobal, Allocator};
@@ -36,7 +37,7 @@ pub fn run_words<R: Files + AllocGlobal, A: Allocator + Copy, O: Out, E: Out>(
     run_on_disk(rt, &mut SystemDisk::new(rt), alloc, words, out, err)
 }
 
-/// Runs the command that the words after the program's name ask for: `check FILE [--json]`,
+/// Runs the command that the words after the program's name ask for: `check FILE [--parts] [--json]`,
 /// `list FILE [--pdb] [--json] [--aside N]`, `hex FILE ADDRESS LENGTH` or `copy IN OUT TYPE...`. Each takes
 /// `--window N`, `--name N`, `--budget N`, `--memory N` and `--untrusted`. All words are judged before a file is
 /// opened. `copy` creates OUT, which must not exist; after an error OUT stays, empty or partly written. No other
@@ -62,8 +63,16 @@ pub fn run_on_disk<R: AllocGlobal, D: Disk, A: Allocator + Copy, O: Out, E: Out>
             limits,
             command,
         } => match command {
-            Command::Check { form } => {
-                print_file(disk, alloc, CheckEngine { form }, limits, file, out, err)
+            Command::Check { form, parts } => {
+                check_file(
+                    disk,
+                    alloc,
+                    CheckWay { form, parts },
+                    limits,
+                    file,
+                    out,
+                    err,
+                )
             }
             Command::List { form, pdb } => {
                 let aside = limits.aside;
@@ -101,6 +110,43 @@ fn write_help<O: Out, E: Out>(text: &str, out: &mut O, err: &mut E) -> u8
         Ok(()) => 0,
         Err(OutFailed) => report::<(), E>(Err(ToolFault::Out), err),
     }
+}
+
+/// How a file is checked.
+#[derive(Clone, Copy)]
+struct CheckWay {
+    /// How the lines are printed.
+    form: LineForm,
+    /// Whether parts of records that lie outside the file are printed too, and make their entry bad.
+    parts: bool,
+}
+
+/// Checks the file of this name.
+fn check_file<D: Disk, A: Allocator + Copy, O: Out, W: Out>(
+    disk: &mut D,
+    alloc: A,
+    how: CheckWay,
+    limits: Limits,
+    file: &str,
+    out: &mut O,
+    err: &mut W,
+) -> u8
+    ensures { EndsPrint (HasCheckedSo how.parts how.form limits)
+        file.now (record { old = D.state disk.old; new = D.state disk.new }) (record { out = O.state out.old; err = W.state err.old }) result (record { out = O.state out.new; err = W.state err.new }) }
+{
+    let form = how.form;
+    if how.parts {
+        return print_file(
+            disk,
+            alloc,
+            CheckPartsEngine { form },
+            limits,
+            file,
+            out,
+            err,
+        );
+    }
+    print_file(disk, alloc, CheckEngine { form }, limits, file, out, err)
 }
 
 /// Prints what an engine prints of the file of this name.

@@ -8,9 +8,10 @@ use mdmp_lister::{Choice, Lister, TypeSet};
 use mdmp_source::{Out, PatchyOut, Source, Store, write_all};
 use mdmp_test_support::Room;
 use mdmp_tool::{
-    CheckEngine, HexEngine, LINE_ROOM, Limits, LineForm, LineOut, ListEngine, OpenFault, Outcome,
-    ToolFault, check_source, copy_source, hex_source, list_next, list_source, print_dump,
-    run_check, run_copy, run_hex, run_in_blocks, run_list,
+    CheckEngine, CheckPartsEngine, HexEngine, LINE_ROOM, Limits, LineForm, LineOut, ListEngine,
+    OpenFault, Outcome, ToolFault, check_parts_source, check_source, copy_source, hex_source,
+    list_next, list_source, print_dump, run_check, run_check_parts, run_copy, run_hex,
+    run_in_blocks, run_list,
 };
 use std::alloc::{Allocator, Global};
 use std::process::Abort;
@@ -26,6 +27,8 @@ pub struct AddressSpan {
 #[derive(Clone, Copy)]
 pub enum Task<'a> {
     Check,
+    /// A check with a line in this form for each part outside the file.
+    CheckParts(LineForm),
     List,
     /// A list with a line for each CodeView record of a module.
     Symbols,
@@ -141,6 +144,7 @@ fn answer_over_store<S: Store + Drop, A: Allocator + Copy>(
     let text = LineForm::Text;
     match run.task {
         Task::Check => run_check(heap, store, limits, text, out),
+        Task::CheckParts(form) => run_check_parts(heap, store, limits, form, out),
         Task::List | Task::Symbols => {
             uncounted(run_list(heap, store, limits, text, has_symbols(run.task), out))
         }
@@ -164,6 +168,7 @@ fn end_by_source<S: Store + Drop, A: Allocator + Copy>(
     let text = LineForm::Text;
     match run.task {
         Task::Check => end_of(check_source(heap, source, limits, text, out)),
+        Task::CheckParts(form) => end_of(check_parts_source(heap, source, limits, form, out)),
         Task::List | Task::Symbols => end_of_uncounted(list_source(
             heap,
             source,
@@ -195,6 +200,10 @@ fn end_by_blocks<S: Store + Drop, A: Allocator + Copy, O: Out>(
     match run.task {
         Task::Check => {
             let engine = CheckEngine { form: text };
+            end_of(run_in_blocks(engine, heap, source, limits, blocks))
+        }
+        Task::CheckParts(form) => {
+            let engine = CheckPartsEngine { form };
             end_of(run_in_blocks(engine, heap, source, limits, blocks))
         }
         Task::List | Task::Symbols => {

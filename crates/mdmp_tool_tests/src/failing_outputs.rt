@@ -3,8 +3,8 @@ use crate::commands::{AddressSpan, CallWay, CommandRun, Task};
 use crate::faults::told;
 use crate::files::{File, bytes_of, first_of};
 use crate::runs::{
-    BAD_NAME, COPY_WAYS, EACH_WAY, FOUR, OF_CRASH, RunAnswer, USUAL, WITHOUT_ITEMS, assert_wrote,
-    run_bytes, run_within,
+    BAD_NAME, COPY_WAYS, EACH_WAY, FOUR, OF_CRASH, PARTS, RunAnswer, USUAL, WIDE_PARTS,
+    WITHOUT_ITEMS, assert_wrote, run_bytes, run_within,
 };
 use crate::same::assert_same_at;
 use crate::texts::SYMBOL_LINES;
@@ -33,7 +33,7 @@ const LETTERS: [ListedRange; 2] = [
     },
 ];
 
-const SWEPT: [SweptRow<'static>; 7] = [
+const SWEPT: [SweptRow<'static>; 8] = [
     (
         &EACH_WAY,
         Task::List,
@@ -61,6 +61,13 @@ const SWEPT: [SweptRow<'static>; 7] = [
         File::Numbers(3, &FAULTY),
         Ok(2),
         File::Text(FAULTY_VERDICTS),
+    ),
+    (
+        &WITHOUT_ITEMS,
+        PARTS,
+        File::Bytes(&MEMORY64),
+        Ok(1),
+        File::Text(WIDE_PARTS),
     ),
     (
         &WITHOUT_ITEMS,

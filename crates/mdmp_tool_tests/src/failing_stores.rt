@@ -3,8 +3,8 @@ use crate::commands::{CallWay, CommandRun, StoreWay, Task};
 use crate::copies::NEEDED;
 use crate::files::{File, bytes_of, first_of};
 use crate::runs::{
-    BAD_NAME, COPY_WAYS, EACH_WAY, FOUR, OF_CRASH, RunAnswer, USUAL, WITHOUT_ITEMS, Within,
-    assert_wrote, run_bytes, run_file, run_within,
+    BAD_NAME, COPY_WAYS, EACH_WAY, FOUR, OF_CRASH, PARTS, RunAnswer, USUAL, WIDE_PARTS,
+    WITHOUT_ITEMS, Within, assert_wrote, run_bytes, run_file, run_within,
 };
 use crate::same::assert_same_at;
 use crate::texts::SYMBOL_LINES;
@@ -36,7 +36,7 @@ type StoreRow<'a> = (
 /// The header and the directory, before whose last byte nothing is written.
 const OPENING: ReadSpan = (0, 0, 0);
 
-const SWEPT: [StoreRow<'static>; 5] = [
+const SWEPT: [StoreRow<'static>; 6] = [
     // Behind the directory of one entry the first two lines are written. The two zeros behind the name are not read.
     (
         &EACH_WAY,
@@ -79,6 +79,17 @@ const SWEPT: [StoreRow<'static>; 5] = [
         236,
         Ok(2),
         FAULTY_VERDICTS,
+    ),
+    // So are they for a check of parts, whose lines of ranges follow the read of both.
+    (
+        &WITHOUT_ITEMS,
+        PARTS,
+        File::Bytes(&MEMORY64),
+        USUAL,
+        &[OPENING, (60, 44, 0)],
+        108,
+        Ok(1),
+        WIDE_PARTS,
     ),
     // The 16 bytes of the head of the list are read, and then again with its ranges and the four bytes, before
     // anything is written.

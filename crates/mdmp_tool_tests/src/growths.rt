@@ -3,8 +3,8 @@ use crate::commands::{CallWay, CommandRun, StoreWay, Task};
 use crate::copies::{HELD, NEEDED};
 use crate::files::{File, bytes_of};
 use crate::runs::{
-    BAD_NAME, COPY_WAYS, EACH_WAY, FOUR, OF_CRASH, RunAnswer, WITHOUT_ITEMS, Within, assert_wrote,
-    run_bytes, run_within,
+    BAD_NAME, COPY_WAYS, EACH_WAY, FOUR, OF_CRASH, PARTS, RunAnswer, WIDE_PARTS, WITHOUT_ITEMS,
+    Within, assert_wrote, run_bytes, run_within,
 };
 use crate::same::assert_same_at;
 use crate::texts::{CUT_LINES, SIX_TEXT, SYMBOL_LINES};
@@ -138,7 +138,7 @@ const OPENED: u64 = 32 + 72 + 52 + 168;
 
 /// Commands without limits: a directory, a window and a name; and where memory is printed, a map of the ranges, the
 /// bytes, and which of them are known; where streams are copied, a directory, a window, two lists and a buffer.
-const UNLIMITED: [GrownRow<'static>; 8] = [
+const UNLIMITED: [GrownRow<'static>; 9] = [
     (
         SIX_FILE,
         Task::List,
@@ -157,6 +157,16 @@ const UNLIMITED: [GrownRow<'static>; 8] = [
         Ok(0),
         File::Text(SIX_VERDICTS),
         3,
+        None,
+    ),
+    (
+        WIDE,
+        PARTS,
+        &WITHOUT_ITEMS,
+        (168, 28, None, None, None),
+        Ok(1),
+        File::Text(WIDE_PARTS),
+        4,
         None,
     ),
     (

@@ -25,6 +25,7 @@ mod line_outs;
 #[cfg(test)]
 mod lists;
 #[cfg(test)]
+mod part_checks;
 mod print_items;
 #[cfg(test)]
 mod prints;

@@ -13,7 +13,7 @@ use std::process::Abort;
 
 /// What is asked of a file, in which way and within which limits, what is answered and printed, and how many bytes
 /// are fetched, where a source tells it.
-type PrintRow<'a> = (
+pub type PrintRow<'a> = (
     File<'a>,
     Task<'a>,
     CallWay,
@@ -24,16 +24,16 @@ type PrintRow<'a> = (
 );
 
 /// The file whose second entry and third one are bad.
-const BAD_TWICE: File<'static> = File::Numbers(3, &FAULTY);
+pub const BAD_TWICE: File<'static> = File::Numbers(3, &FAULTY);
 
-const GOOD: File<'static> = File::Bytes(&SYSTEM);
+pub const GOOD: File<'static> = File::Bytes(&SYSTEM);
 
-const WIDE: File<'static> = File::Bytes(&MEMORY64);
+pub const WIDE: File<'static> = File::Bytes(&MEMORY64);
 
-const SHORT: RunAnswer = Err(ToolFault::Opening(OpenFault::TooShort { size: 31 }));
+pub const SHORT: RunAnswer = Err(ToolFault::Opening(OpenFault::TooShort { size: 31 }));
 
 /// Limits of the least window, and names up to 48 bytes.
-const LEAST: Within = (168, 48, None, None, None);
+pub const LEAST: Within = (168, 48, None, None, None);
 
 const CHECKS: [PrintRow<'static>; 9] = [
     (
@@ -576,7 +576,7 @@ const MEMORY_WAYS: [PrintRow<'static>; 8] = [
 ];
 
 /// Asserts what is printed in each way.
-fn assert_rows(rt: &impl Abort, alloc: Global, rows: &[PrintRow<'_>]) {
+pub fn assert_rows(rt: &impl Abort, alloc: Global, rows: &[PrintRow<'_>]) {
     for (file, task, way, within, answer, text, fetched) in rows {
         let outcome = run_file(rt, alloc, file, &run_within(*task, *way, *within));
         assert_wrote(rt, &(text, way), &outcome, *answer, text.as_bytes());

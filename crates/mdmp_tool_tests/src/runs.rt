@@ -4,7 +4,7 @@ use crate::files::{File, bytes_of};
 use crate::same::assert_same_at;
 use mdmp_source::{MemoryStore, PatchyOut, PatchyStore, Store, TwoFaces};
 use mdmp_test_support::{HeapCounts, MeteredHeap, Refusal, Room};
-use mdmp_tool::{FaultKind, LINE_ROOM, Limits, ListFault, ToolFault};
+use mdmp_tool::{FaultKind, LINE_ROOM, Limits, LineForm, ListFault, ToolFault};
 use std::alloc::Global;
 use std::fmt::Debug;
 use std::process::Abort;
@@ -14,6 +14,13 @@ pub const FOUR: Task<'static> = Task::Hex(AddressSpan {
     address: 0x1000,
     length: 4,
 });
+
+/// A check of parts, as lines of text.
+pub const PARTS: Task<'static> = Task::CheckParts(LineForm::Text);
+
+/// What it prints of two ranges of memory, if the second one lies outside the file.
+pub const WIDE_PARTS: &str =
+    "entry 0 item 1: memory outside the file: offset 96 size 4\nentry 0: ok\n";
 
 /// A copy of threads and exceptions.
 pub const OF_CRASH: Task<'static> = Task::Copy(&[3, 6]);

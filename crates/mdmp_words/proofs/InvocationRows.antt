@@ -28,7 +28,7 @@ over file window name command = within file (record usual { window = window; nam
 abbrev check_words : List Text
 check_words = codes "check" ∷ codes "a.dmp" ∷ []
 
-check-request : request_named check_words ≡ over (codes "a.dmp") 65536 4096 (check forms.Text)
+check-request : request_named check_words ≡ over (codes "a.dmp") 65536 4096 (check forms.Text false)
 unfolding clap_on_literals request_named
 check-request = refl
 
@@ -54,7 +54,7 @@ unfolding clap_on_literals request_named
 copy_budget-request = refl
 
 memory-request : request_named (codes "check" ∷ codes "a.dmp" ∷ codes "--memory" ∷ codes "0" ∷ [])
-    ≡ within (codes "a.dmp") (record usual { memory = Some 0 }) (check forms.Text)
+    ≡ within (codes "a.dmp") (record usual { memory = Some 0 }) (check forms.Text false)
 unfolding clap_on_literals request_named
 memory-request = refl
 
@@ -82,9 +82,22 @@ list_json-request : request_named (codes "list" ∷ codes "--json" ∷ codes "a.
 unfolding clap_on_literals request_named
 list_json-request = refl
 
-check_json-request : request_named (codes "check" ∷ codes "--json" ∷ codes "a.dmp" ∷ []) ≡ over (codes "a.dmp") 65536 4096 (check forms.Json)
+check_json-request : request_named (codes "check" ∷ codes "--json" ∷ codes "a.dmp" ∷ []) ≡ over (codes "a.dmp") 65536 4096 (check forms.Json false)
 unfolding clap_on_literals request_named
 check_json-request = refl
+
+check_parts-request : request_named (codes "check" ∷ codes "a.dmp" ∷ codes "--parts" ∷ []) ≡ over (codes "a.dmp") 65536 4096 (check forms.Text true)
+unfolding clap_on_literals request_named
+check_parts-request = refl
+
+check_parts_json-request : request_named (codes "check" ∷ codes "--json" ∷ codes "--parts" ∷ codes "a.dmp" ∷ []) ≡ over (codes "a.dmp") 65536 4096 (check forms.Json true)
+unfolding clap_on_literals request_named
+check_parts_json-request = refl
+
+-- `list` looks at no parts
+list_parts-faults : faults (codes "list" ∷ codes "a.dmp" ∷ codes "--parts" ∷ []) ≡ UnknownArgument ∷ []
+unfolding clap_on_literals faults
+list_parts-faults = refl
 
 hex-request : request_named (codes "hex" ∷ codes "f" ∷ codes "0x10" ∷ codes "17" ∷ codes "--window" ∷ codes "168" ∷ [])
     ≡ over (codes "f") 168 4096 (hex (record { address = 16; length = 17 }))

@@ -40,9 +40,9 @@ limited made = fold with_rule made limit_options
 abbrev pub command : Text → List Rule → Shape
 command name rules = (limited (fold with_rule (new_app name) rules)).top
 
--- `check FILE [--json]`
+-- `check FILE [--parts] [--json]`
 abbrev pub check_command : Shape
-check_command = command (codes "check") (word (codes "FILE") ∷ flag (codes "json") ∷ [])
+check_command = command (codes "check") (word (codes "FILE") ∷ flag (codes "parts") ∷ flag (codes "json") ∷ [])
 
 -- `list FILE [--pdb] [--json] [--aside N]`
 abbrev pub list_command : Shape

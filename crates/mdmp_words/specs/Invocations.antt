@@ -24,7 +24,7 @@ use Rattle.mdmp_print.specs.declared.form.LineForm.TheVariants as forms
 
 -- what is done with a file
 pub data PlainCommand : Type 0 where
-  check : LineForm → PlainCommand
+  check : LineForm → Bool → PlainCommand
   list : LineForm → Bool → PlainCommand
   hex : Span → PlainCommand
   copy : List ℕ → List ℕ → PlainCommand
@@ -36,7 +36,7 @@ pub record Plain : Type 0 where
   pub command : PlainCommand
 
 abbrev pub plain_command : Command → PlainCommand
-plain_command (Check form) = check form
+plain_command (Check form parts) = check form parts
 plain_command (Listing form pdb) = list form pdb
 plain_command (Hex span) = hex span
 plain_command (Copy target types) = copy target.now types
@@ -80,8 +80,9 @@ named_over rows id command =
 abbrev pub form_named : List Row → LineForm
 form_named rows = if is_set rows (codes "json") then forms.Json else forms.Text
 
+-- the parts that lie outside are told where the flag is set
 abbrev pub check_named : List Row → Option Plain
-check_named rows = named_over rows (codes "FILE") (check (form_named rows))
+check_named rows = named_over rows (codes "FILE") (check (form_named rows) (is_set rows (codes "parts")))
 
 -- the symbol files are told where the flag is set
 abbrev pub list_named : List Row → Option Plain
@@ -151,7 +152,7 @@ AsksFor words Memory = Unit {0}
 
 -- the addresses whose bytes are to be printed are not too many, and pass no last address
 abbrev pub IsCommandWithin : Command → Type 0
-IsCommandWithin (Check form) = Unit {0}
+IsCommandWithin (Check form parts) = Unit {0}
 IsCommandWithin (Listing form pdb) = Unit {0}
 IsCommandWithin (Hex span) = (span.length ≤ length_limit) × (span.address + span.length ≤ address_end)
 IsCommandWithin (Copy target types) = Unit {0}

@@ -85,13 +85,9 @@ fn check_invocation<'a>(matches: &ArgMatches<'a>) -> Option<Invocation<'a>>
     ensures named { option_and_then plain_run result ≡ check_named (rows_of (found_of matches.now)) }
     ensures within { IfSome result IsRunWithin }
 {
-    invocation_over(
-        matches,
-        "FILE",
-        Command::Check {
-            form: form_of(matches),
-        },
-    )
+    let form = form_of(matches);
+    let parts = is_set(matches, "parts");
+    invocation_over(matches, "FILE", Command::Check { form, parts })
 }
 
 fn list_invocation<'a>(matches: &ArgMatches<'a>) -> Option<Invocation<'a>>

@@ -65,6 +65,7 @@ fn check_command<'a>(alloc: Global) -> Result<Command<'a>, AllocError>
 {
     let made = described(alloc, "check", help::CHECK_ABOUT, help::CHECK_AFTER);
     let made = with_arg(Ok(made), word(alloc, "FILE", help::FILE));
+    let made = with_arg(made, flag(alloc, "parts", help::PARTS));
     let made = with_arg(made, flag(alloc, "json", help::JSON));
     with_limits(alloc, made)
 }

@@ -32,11 +32,15 @@ pub(crate) const CHECK_AFTER: &str = "\
 Prints a line for each entry of the directory: 'entry 0: ok', or the first error
 of the stream that the entry names. It goes on after an error in the file. If
 any entry is bad, the exit status is 1, and standard error has the number of bad
-entries. It does not look at what records point to. With '--json' each line is
-an object, for programs; messages on standard error stay text.
+entries. With '--parts' it also looks at the parts that records point to, as
+stacks. It prints a line for each part that lies outside the file, before the
+line of the entry, and the entry is bad. A truncated file often shows only so.
+With '--json' each line is an object, for programs; messages on standard error
+stay text.
 
 Examples:
   mdmp check crash.dmp
+  mdmp check --parts crash.dmp
   mdmp check --json crash.dmp";
 
 /// What `list` does, in a line.
@@ -119,6 +123,9 @@ pub(crate) const ASIDE: &str =
 /// What `--untrusted` sets.
 pub(crate) const UNTRUSTED: &str =
     "For strangers' files: --budget, --memory and list's --aside default to 67108864";
+
+/// What `--parts` adds.
+pub(crate) const PARTS: &str = "Print a line for each part of a record that lies outside the file";
 
 /// What `--pdb` adds.
 pub(crate) const PDB: &str = "Print a line for the symbol file (PDB) of each module that names one";

@@ -32,6 +32,8 @@ pub enum Command<'a> {
     Check {
         /// How the lines are printed.
         form: LineForm,
+        /// Whether parts of records that lie outside the file are printed too, and make their entry bad.
+        parts: bool,
     },
     /// What the file holds is printed.
     List {

@@ -8,12 +8,14 @@ pub returns-clause-shape : goal.returns-clause-shape
 returns-clause-shape c =
     let made0 = c.described-made.ensures in
     let made1 = c.with_arg-made.ensures _ (word (codes "FILE")) made0 c.word.ensures.rule c.word.ensures.local in
-    let made2 = c.with_arg-made-2.ensures _ (flag (codes "json")) made1 c.flag.ensures.rule c.flag.ensures.local in
-    IfOk-weaker c.with_limits.result _ _ (λ made is. ap (λ (a : App). a.top) is.app_is) (c.with_limits.ensures _ made2)
+    let made2 = c.with_arg-made-2.ensures _ (flag (codes "parts")) made1 c.flag.ensures.rule c.flag.ensures.local in
+    let made3 = c.with_arg-made-3.ensures _ (flag (codes "json")) made2 c.flag-2.ensures.rule c.flag-2.ensures.local in
+    IfOk-weaker c.with_limits.result _ _ (λ made is. ap (λ (a : App). a.top) is.app_is) (c.with_limits.ensures _ made3)
 
 pub returns-clause-local : goal.returns-clause-local
 returns-clause-local c =
     let made0 = c.described-made.ensures in
     let made1 = c.with_arg-made.ensures _ (word (codes "FILE")) made0 c.word.ensures.rule c.word.ensures.local in
-    let made2 = c.with_arg-made-2.ensures _ (flag (codes "json")) made1 c.flag.ensures.rule c.flag.ensures.local in
-    IfOk-weaker c.with_limits.result _ _ (λ made is. is.local) (c.with_limits.ensures _ made2)
+    let made2 = c.with_arg-made-2.ensures _ (flag (codes "parts")) made1 c.flag.ensures.rule c.flag.ensures.local in
+    let made3 = c.with_arg-made-3.ensures _ (flag (codes "json")) made2 c.flag-2.ensures.rule c.flag-2.ensures.local in
+    IfOk-weaker c.with_limits.result _ _ (λ made is. is.local) (c.with_limits.ensures _ made3)

@@ -1,0 +1,185 @@
+//! The command `check --parts`.
+ghost use Rattle.std.specs.Prelude.{◌≡◌, ◌≤◌, ℕ, List, None, Some};
+ghost use Rattle.mdmp_lister.specs.declared.choice.Choice.TheVariants.{All};
+ghost use Rattle.mdmp_summary.specs.CheckRows.{check_rows};
+ghost use Rattle.mdmp_engines.specs.Causes.{HasBudgetCause, KeepsAside, MayReachAside, MayReachBudget, MayReachMemory};
+ghost use Rattle.mdmp_engines.specs.CheckParts.{CheckPartsEnds, ChecksParts, row_count, row_lines};
+ghost use Rattle.mdmp_engines.specs.Engines.{IsOpened, IsSameRun, IsReadThrough, KeepsReads, Leaves, ReadsSource, ReadsStore, Tells, WritesText, at_most, directly, past_faults, check_access};
+
+use crate::engine::{Engine, run, run_source};
+use crate::fault::{ToolFault, told_list};
+use crate::outcome::Outcome;
+use crate::reporting::report_check;
+use mdmp_lister::{Choice, Limits, Lister, RunFault, Stopped};
+use mdmp_print::{LineForm, Printer, print_check_row};
+use mdmp_source::{Out, OutFailed, Source, Store};
+use mdmp_summary::{CheckRow, CheckRowSink, check_parts_into};
+use std::alloc::Allocator;
+
+/// Reads all entries of a file, and prints in this form a line for each part of a record that lies outside the file
+/// and, after those of an entry, the line that [`run_check`](crate::run_check) prints of it. The answer is how many
+/// entries have an error or such a part.
+///
+/// Nothing is written if the file is refused. If an I/O error occurs, or a limit is reached, the first part of
+/// the text was written. Memory is taken before the first byte of output.
+pub fn run_check_parts<S: Store + Drop, A: Allocator + Copy, O: Out>(
+    alloc: A,
+    store: S,
+    limits: Limits,
+    form: LineForm,
+    out: &mut O,
+) -> Result<u64, ToolFault>
+    ensures checks { (file : List ℕ) → (S.state store).content ≡ Some file → ChecksParts form file limits.name (O.state out.old) result (O.state out.new) }
+    ensures tells { Tells directly past_faults (S.state store) (S.state store).size (O.state out.old) result (O.state out.new) }
+    ensures budget { MayReachBudget limits (S.state store).size result }
+    ensures memory { MayReachMemory limits result }
+    ensures aside { MayReachAside None limits (S.state store).size result }
+    ensures read { ReadsStore (check_access limits) (S.state store) result }
+{
+    run(CheckPartsEngine { form }, alloc, store, limits, out)
+}
+
+/// Does what [`run_check_parts`] does, and hands the source back, whose counts tell the cause of its errors.
+pub fn check_parts_source<S: Store + Drop, A: Allocator + Copy, O: Printer>(
+    alloc: A,
+    source: Source<S>,
+    limits: Limits,
+    form: LineForm,
+    out: &mut O,
+) -> Outcome<Result<u64, ToolFault>, S>
+    ensures checks { (file : List ℕ) → source.store.content ≡ Some file → ChecksParts form file limits.name (O.state out.old) result.answer (O.state out.new) }
+    ensures tells { Tells directly past_faults source.store source.size (O.state out.old) result.answer (O.state out.new) }
+    ensures reads { ReadsSource source result.answer result.source }
+    ensures through { IsReadThrough (check_access limits) source result.answer result.source }
+{
+    run_source(CheckPartsEngine { form }, alloc, source, limits, out)
+}
+
+/// The engine of `check --parts`, which prints the line of a part as its record was read, and the line of an entry
+/// after those of its parts.
+#[derive(Clone, Copy)]
+pub struct CheckPartsEngine {
+    /// How the lines are printed.
+    pub form: LineForm,
+}
+
+impl Engine for CheckPartsEngine {
+    ghost use Rattle.mdmp_lister.specs.declared.choice.Choice.TheVariants.{All};
+    ghost use Rattle.mdmp_summary.specs.CheckRows.{check_rows};
+    ghost use Rattle.mdmp_engines.specs.CheckParts.{CheckPartsEnds, row_lines};
+    ghost use Rattle.mdmp_engines.specs.Engines.{at_most, past_faults};
+    ghost use Rattle.mdmp_engines.specs.Reports.{IsCheckEnd};
+
+    type Answer = u64;
+
+    ghost choice = { All };
+
+    ghost pace = { past_faults };
+
+    ghost can_print = { λ _. Unit {0} };
+
+    ghost aside = { λ _. None };
+
+    ghost held = { λ _. 0 };
+
+    ghost reads = { λ _. at_most 0 };
+
+    ghost Ends = { λ _ file limit. CheckPartsEnds file limit };
+
+    ghost text = { λ e file limit. row_lines e.form (check_rows file limit) };
+
+    ghost IsReported = { IsCheckEnd };
+
+    fn chosen(&self) -> Choice {
+        Choice::All
+    }
+
+    fn beside(&self) -> u64 {
+        0
+    }
+
+    fn print<S: Store + Drop, A: Allocator + Copy, O: Printer>(
+        &self,
+        lister: &mut Lister<S, A>,
+        out: &mut O,
+    ) -> Result<u64, ToolFault> {
+        let mut lines = RowLines {
+            out,
+            form: self.form,
+            bad: 0,
+        };
+        check_parts_listed(lister, &mut lines)
+    }
+
+    fn report<W: Out>(answer: Result<u64, ToolFault>, err: &mut W) -> u8
+        ensures { IsCheckEnd answer result (W.state err.old) (W.state err.new) }
+    {
+        report_check(answer, err)
+    }
+}
+
+/// Prints the lines of all parts outside the file and of all entries, and answers how many entries are bad.
+fn check_parts_listed<S: Store + Drop, A: Allocator + Copy, O: Printer>(
+    lister: &mut Lister<S, A>,
+    lines: &mut RowLines<'_, O>,
+) -> Result<u64, ToolFault>
+    requires opened { IsOpened All lister.old }
+    requires none { lines.old.bad ≡ 0 }
+    ensures same_output { lines.new.out.ghost_name ≡ lines.old.out.ghost_name }
+    ensures ends { (file : List ℕ) → lister.old.source.store.content ≡ Some file → CheckPartsEnds file lister.old.limit result }
+    ensures writes { (file : List ℕ) → lister.old.source.store.content ≡ Some file
+        → WritesText past_faults (row_lines lines.old.form (check_rows file lister.old.limit)) (O.state lines.old.out.now) result (O.state lines.new.out.now) }
+    ensures leaves { Leaves past_faults (O.state lines.new.out.now ≡ O.state lines.old.out.now) lister.old.source (O.state lines.old.out.now) result lister.new.source (O.state lines.new.out.now) }
+    ensures same { IsSameRun lister.old lister.new }
+    ensures over { HasBudgetCause result lister.new }
+    ensures aside { KeepsAside None result lister.new }
+    ensures read { KeepsReads (at_most 0) past_faults lister.new }
+{
+    // The prover needs that a directory has fewer than 2^32 entries: so the count is never at its greatest.
+    let _entries = lister.header().number_of_streams;
+    match check_parts_into(lister, lines) {
+        Ok(()) => Ok(lines.bad),
+        Err(RunFault::At(fault)) => Err(told_list(fault)),
+        Err(RunFault::Stopped) => Err(ToolFault::Out),
+    }
+}
+
+/// A sink that prints a line for each row, and counts the bad entries.
+#[derive(Drop)]
+struct RowLines<'a, O: Printer> {
+    out: &'a mut O,
+    form: LineForm,
+    bad: u64,
+}
+
+impl<'a, O: Printer> CheckRowSink for RowLines<'a, O> {
+    ghost use Rattle.std.specs.Prelude.{◌≡◌};
+    ghost use Rattle.mdmp_engines.specs.CheckParts.{TakesCheckRow};
+
+    ghost step = { λ old row result new. (new.out.ghost_name ≡ old.out.ghost_name) × ((new.form ≡ old.form)
+        × TakesCheckRow old.form (O.state old.out.now) old.bad row result (O.state new.out.now) new.bad) };
+
+    fn take(&mut self, row: &CheckRow) -> Result<(), Stopped> {
+        match print_check_row(self.form, row, self.out) {
+            Ok(()) => {}
+            Err(OutFailed) => return Err(Stopped),
+        }
+        self.bad = self.bad.saturating_add(bad_in(row));
+        Ok(())
+    }
+}
+
+/// 1 for the row of a bad entry: one with an error, or with a part that lies outside the file.
+fn bad_in(row: &CheckRow) -> u64
+    ensures { result ≡ row_count row.now }
+{
+    match row {
+        CheckRow::Part(_) => 0,
+        CheckRow::Entry(row) => {
+            if row.verdict.fault.is_some() {
+                return 1;
+            }
+            if row.loses_parts { 1 } else { 0 }
+        }
+    }
+}

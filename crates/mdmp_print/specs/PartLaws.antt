@@ -1,0 +1,14 @@
+-- What the words of a part print in an object.
+use Rattle.std.proofs.Common.{◌≡◌, refl}
+use Rattle.json.specs.Print.{escape, escape_byte}
+use Rattle.mdmp_print.specs.PartLines.{part_words}
+use Rattle.mdmp_summary.specs.declared.part.PartKind.{PartKind}
+use Rattle.mdmp_summary.specs.declared.part.PartKind.TheVariants as parts
+
+pub escape-part : (part : PartKind) → escape (part_words part) ≡ part_words part
+unfolding escape_byte
+escape-part parts.Stack = refl
+escape-part parts.Context = refl
+escape-part parts.CodeView = refl
+escape-part parts.Misc = refl
+escape-part parts.Memory = refl
