@@ -122,6 +122,8 @@ impl Engine for CheckEngine {
 }
 
 /// Prints the lines of all entries, and answers how many are bad.
+// Apart from what calls it, it keeps more numbers in registers: `check` takes fewer instructions for a record.
+#[inline(never)]
 fn check_listed<S: Store + Drop, A: Allocator + Copy, O: Printer>(
     lister: &mut Lister<S, A>,
     lines: &mut VerdictLines<'_, O>,

@@ -4,7 +4,8 @@ ghost use Rattle.mdmp_lister.specs.declared.choice.Choice.TheVariants.{All};
 ghost use Rattle.mdmp_summary.specs.CheckRows.{check_rows};
 ghost use Rattle.mdmp_engines.specs.Causes.{HasBudgetCause, KeepsAside, MayReachAside, MayReachBudget, MayReachMemory};
 ghost use Rattle.mdmp_engines.specs.CheckParts.{CheckPartsEnds, ChecksParts, row_count, row_lines};
-ghost use Rattle.mdmp_engines.specs.Engines.{IsOpened, IsSameRun, IsReadThrough, KeepsReads, Leaves, ReadsSource, ReadsStore, Tells, WritesText, at_most, directly, past_faults, check_access};
+ghost use Rattle.mdmp_engines.specs.Dropping.{DropsStore};
+ghost use Rattle.mdmp_engines.specs.Engines.{IsOpened, IsSameRun, IsReadThrough, KeepsReads, Leaves, ReadsSource, Tells, WritesText, at_most, directly, past_faults, check_access};
 
 use crate::engine::{Engine, run, run_source};
 use crate::fault::{ToolFault, told_list};
@@ -12,7 +13,7 @@ use crate::outcome::Outcome;
 use crate::reporting::report_check;
 use mdmp_lister::{Choice, Limits, Lister, RunFault, Stopped};
 use mdmp_print::{LineForm, Printer, print_check_row};
-use mdmp_source::{Out, OutFailed, Source, Store};
+use mdmp_source::{LetGo, Out, OutFailed, Source, Store};
 use mdmp_summary::{CheckRow, CheckRowSink, check_parts_into};
 use std::alloc::Allocator;
 
@@ -29,12 +30,14 @@ pub fn run_check_parts<S: Store + Drop, A: Allocator + Copy, O: Out>(
     form: LineForm,
     out: &mut O,
 ) -> Result<u64, ToolFault>
+where
+    Source<S>: LetGo,
     ensures checks { (file : List ℕ) → (S.state store).content ≡ Some file → ChecksParts form file limits.name (O.state out.old) result (O.state out.new) }
     ensures tells { Tells directly past_faults (S.state store) (S.state store).size (O.state out.old) result (O.state out.new) }
     ensures budget { MayReachBudget limits (S.state store).size result }
     ensures memory { MayReachMemory limits result }
     ensures aside { MayReachAside None limits (S.state store).size result }
-    ensures read { ReadsStore (check_access limits) (S.state store) result }
+    ensures read { DropsStore ⟦<Source<S> as LetGo>⟧.may_go (check_access limits) (S.state store) result }
 {
     run(CheckPartsEngine { form }, alloc, store, limits, out)
 }
@@ -119,6 +122,7 @@ impl Engine for CheckPartsEngine {
 }
 
 /// Prints the lines of all parts outside the file and of all entries, and answers how many entries are bad.
+#[inline(never)]
 fn check_parts_listed<S: Store + Drop, A: Allocator + Copy, O: Printer>(
     lister: &mut Lister<S, A>,
     lines: &mut RowLines<'_, O>,
