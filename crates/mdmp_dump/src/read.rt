@@ -64,7 +64,10 @@ where
     ensures limited { MatchResult result (λ _. OpensWithin limits choice source.store.content) (TellsLimit limits choice source.store.content) }
     ensures within { IsReadAndDropped ⟦<Source<S> as LetGo>⟧.may_go limits parts result source }
 {
-    let ReadAnswered { answer, source: left } = read_source(alloc, source, limits, choice, parts);
+    let ReadAnswered {
+        answer,
+        source: left,
+    } = read_source(alloc, source, limits, choice, parts);
     left.let_go();
     answer
 }

@@ -161,7 +161,12 @@ where
             walker.into_source().discard();
             answer
         }
-        Err(OpenRefused { fault, source: left }) => {
+        Err(
+            OpenRefused {
+                fault,
+                source: left,
+            },
+        ) => {
             left.discard();
             Err(SummaryFault::Opening(fault))
         }
