@@ -1,6 +1,6 @@
 -- What a command reads beside its listing, and over which lister.
 use Rattle.std.proofs.Common.{◌≡◌, ◌≤◌, ◌∙◌, ◌+◌, ◌*◌, ℕ, Bool, List, [], Option, Some, None, true, false, ap, arith, length, refl, subst, sym}
-use Rattle.std.specs.Prelude.{Result, slice_get, take, drop}
+use Rattle.std.specs.Prelude.{slice_get, take, drop}
 use Rattle.std.specs.Option.{option_map}
 use Rattle.std.proofs.lemmas.List.{take-append-drop}
 use Rattle.std.proofs.lemmas.List.Sums.{sum_by-append, sum_by-cons}
@@ -21,9 +21,8 @@ use Rattle.mdmp_lister.specs.Format.Listing.{Run, listing}
 use Rattle.mdmp_lister.specs.Format.Refusal.{most_ranges}
 use Rattle.mdmp_lister.specs.Lister.{IsNewLister, IsSameLister, ListerState, Rooms, tail}
 use Rattle.mdmp_lister.specs.Memory.{leaving}
-use Rattle.mdmp_engines.specs.declared.fault.ToolFault.{ToolFault}
 use Rattle.mdmp_engines.specs.declared.list.ModuleSymbols.{ModuleSymbols}
-use Rattle.mdmp_engines.specs.Engines.{Access, Beside, IsListerOf, IsOpened, IsReadThrough, IsSameRun, KeepsBeside, Pace, ReadsSource, ReadsStore, list_beside, source_over}
+use Rattle.mdmp_engines.specs.Engines.{Beside, IsListerOf, IsOpened, IsSameRun, KeepsBeside, Pace, list_beside, source_over}
 use Rattle.mdmp_engines.specs.Runs.{ReadsLeft, ReadsNext}
 use Rattle.mdmp_engines.specs.Symbols.{symbols_bytes, symbols_of, symbols_read}
 use Rattle.mdmp_engines.proofs.PlainLines.{symbols_of-plain}
@@ -58,14 +57,6 @@ pub source_is : (source : SourceState) (store : StoreState) → source.store ≡
 source_is source store is size fetched calls fault =
     let sized : source.size ≡ store.size = size ∙ ap (λ (s : StoreState). s.size) is in
     λ i. record { store = is i; size = sized i; fetched = fetched i; calls = calls i; fault = fault i }
-
-pub reads_store : {T : Type 0} (access : Access) (store : StoreState) (old gone : SourceState) (answer : Result T ToolFault) → old ≡ source_over store → ReadsSource old answer gone
-    → IsReadThrough access old answer gone → ReadsStore access store answer
-reads_store access store old gone answer is reads through = record {
-  gone = gone;
-  reads = subst (λ (s : SourceState). ReadsSource s answer gone) is reads;
-  through = subst (λ (s : SourceState). IsReadThrough access s answer gone) is through;
-}
 
 -- ---- CodeView records
 
