@@ -131,7 +131,22 @@ const COMMANDS: [AskedRow<'static>; 19] = [
 ];
 
 /// Addresses and lengths, at their ends and past them.
-const SPANS: [AskedRow<'static>; 21] = [
+const SPANS: [AskedRow<'static>; 28] = [
+    (
+        &["hex", "a", "00000000`7ffe0300", "1"],
+        "hex [a] 2147353344 1",
+        USUAL,
+    ),
+    (
+        &["hex", "a", "0x7ff6`12345678", "1"],
+        "hex [a] 140694844102264 1",
+        USUAL,
+    ),
+    (&["hex", "a", "0`00000000", "1"], "hex [a] 0 1", USUAL),
+    (&["hex", "a", "`7ffe0300", "1"], "bad", NONE),
+    (&["hex", "a", "0000000`7ffe030", "1"], "bad", NONE),
+    (&["hex", "a", "000000000`7ffe0300", "1"], "bad", NONE),
+    (&["hex", "a", "0`0`7ffe0300", "1"], "bad", NONE),
     (
         &["hex", "a", "00000000000000000000001", "1"],
         "hex [a] 1 1",

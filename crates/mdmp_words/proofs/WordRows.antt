@@ -30,6 +30,28 @@ signed-address = refl
 too_high-address : address_named (codes "18446744073709551616") ≡ None
 too_high-address = refl
 
+-- WinDbg's backtick has eight digits behind it, and one to eight before, with `0x` or without
+windbg-address : address_named (codes "00000000`7ffe0300") ≡ Some 0x7ffe0300
+windbg-address = refl
+
+prefixed-windbg-address : address_named (codes "0x7Ff6`12345678") ≡ Some 0x7ff612345678
+prefixed-windbg-address = refl
+
+last-windbg-address : address_named (codes "ffffffff`ffffffff") ≡ Some 0xffffffffffffffff
+last-windbg-address = refl
+
+short-windbg-address : address_named (codes "00000000`7ffe030") ≡ None
+short-windbg-address = refl
+
+no_high-windbg-address : address_named (codes "0x`7ffe0300") ≡ None
+no_high-windbg-address = refl
+
+long-windbg-address : address_named (codes "000000000`7ffe0300") ≡ None
+long-windbg-address = refl
+
+twice-windbg-address : address_named (codes "0`0`7ffe0300") ≡ None
+twice-windbg-address = refl
+
 limit-length : length_named (codes "1048576") ≡ Some 1048576
 limit-length = refl
 

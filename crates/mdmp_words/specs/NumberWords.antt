@@ -1,6 +1,6 @@
 -- What the words ADDRESS and LENGTH of `hex` name. A word is the list of its bytes.
-use Rattle.std.specs.Prelude.{ℕ, ◌+◌, ◌^◌, Bool, if◌then◌else◌, ◌&&◌, nat_eq, nat_lt, nat_le, List, Option, Some, None, length, drop, codes}
-use Rattle.std.specs.List.{list_all, starts_with}
+use Rattle.std.specs.Prelude.{ℕ, ◌+◌, ◌*◌, ◌^◌, ◌==◌, Bool, if◌then◌else◌, ◌&&◌, nat_eq, nat_lt, nat_le, List, Option, Some, None, length, drop, codes}
+use Rattle.std.specs.List.{after_first, before_first, list_all, position_or_len, starts_with}
 use Rattle.std.specs.Char.{is_digit}
 use Rattle.std.specs.Option.{option_and_then}
 use Rattle.std.specs.Str.Parse.{digits_value}
@@ -32,12 +32,39 @@ decimal32_number word =
 abbrev pub hexadecimal_number : List ℕ → Option ℕ
 hexadecimal_number word = if nat_le (length word) 16 then number_in 16 word else None
 
+-- the number below 2^32 that one to eight such digits write
+abbrev pub half_number : List ℕ → Option ℕ
+half_number word =
+    if nat_le (length word) 8 then option_and_then (λ number. if nat_lt number (2 ^ 32) then Some number else None) (number_in 16 word) else None
+
+-- the number whose high half is written by one to eight such digits, and whose low half by eight
+abbrev pub halves_number : List ℕ → List ℕ → Option ℕ
+halves_number high low =
+    if length low == 8
+    then option_and_then (λ first. option_and_then (λ last. Some (first * 2 ^ 32 + last)) (half_number low)) (half_number high)
+    else None
+
 -- ---- words
 
+-- a word without `0x` at its start
+abbrev pub without_prefix : List ℕ → List ℕ
+without_prefix word = if starts_with nat_eq word (codes "0x") then drop 2 word else word
+
 -- `0x` and a hexadecimal number, or a decimal number
+abbrev pub plain_address : List ℕ → Option ℕ
+plain_address word =
+    if starts_with nat_eq word (codes "0x") then hexadecimal_number (drop 2 word) else decimal_number word
+
+-- the backtick that WinDbg prints between the halves of an address
+abbrev pub is_backtick : ℕ → Bool
+is_backtick byte = byte == 96
+
+-- such a word; or, with a backtick, the two halves of a hexadecimal number, with `0x` or without
 abbrev pub address_named : List ℕ → Option ℕ
 address_named word =
-    if starts_with nat_eq word (codes "0x") then hexadecimal_number (drop 2 word) else decimal_number word
+    if nat_lt (position_or_len is_backtick word) (length word)
+    then halves_number (without_prefix (before_first is_backtick word)) (after_first is_backtick word)
+    else plain_address word
 
 -- a decimal number up to the limit
 abbrev pub length_named : List ℕ → Option ℕ

@@ -135,7 +135,7 @@ pub(crate) const JSON: &str = "Print each line as an object of JSON (RFC 8259), 
 
 /// What ADDRESS is.
 pub(crate) const ADDRESS: &str =
-    "The first address: '0x' and 1 to 16 hexadecimal digits, or a decimal number";
+    "The first address: '0x' and 1 to 16 hexadecimal digits, a decimal number, or 00000000`7ffe0000";
 
 /// What LENGTH is.
 pub(crate) const LENGTH: &str =

@@ -2,13 +2,16 @@
 ghost use Rattle.std.specs.Prelude.{◌≡◌, ◌+◌, ◌≤◌, IfSome};
 ghost use Rattle.mdmp_map.specs.Ranges.{address_end};
 ghost use Rattle.mdmp_print.specs.HexText.{length_limit};
-ghost use Rattle.mdmp_words.specs.NumberWords.{number_in, decimal_number, decimal32_number, hexadecimal_number, address_named, length_named, span_named};
+ghost use Rattle.mdmp_words.specs.NumberWords.{number_in, decimal_number, decimal32_number, half_number, halves_number, hexadecimal_number, address_named, length_named, plain_address, span_named, without_prefix};
 
 /// How many bytes can be asked for.
 const LENGTH_LIMIT: u64 = 1 << 20;
 
 /// One behind the last address.
 const ADDRESS_END: u128 = 1 << 64;
+
+/// One behind the last number that half of an address has.
+const HALF_END: u64 = 1 << 32;
 
 /// Addresses that follow each other.
 #[derive(Clone, Copy, Debug, PartialEq, Eq)]
@@ -34,15 +37,62 @@ pub(crate) fn span_of(address: &str, length: &str) -> Option<Span>
     Some(Span { address, length })
 }
 
-/// The address that a word names: `0x` and one to sixteen hexadecimal digits of either case, or a
-/// decimal number.
+/// The address that a word names: `0x` and one to sixteen hexadecimal digits of either case, a decimal
+/// number, or an address as WinDbg prints it, with a backtick before the last eight digits. Before that
+/// `0x` may be left out.
 pub(crate) fn address_of(word: &str) -> Option<u64>
     ensures { result ≡ address_named word.now }
+{
+    match word.split_once('`') {
+        Some((high, low)) => halves_of(without_prefix(high), low),
+        None => plain_address(word),
+    }
+}
+
+/// The address that a word without a backtick names.
+fn plain_address(word: &str) -> Option<u64>
+    ensures { result ≡ plain_address word.now }
 {
     match word.strip_prefix("0x") {
         Some(digits) => hexadecimal_of(digits),
         None => decimal_of(word),
     }
+}
+
+/// The word without `0x` at its start, if it begins so.
+fn without_prefix(word: &str) -> &str
+    ensures { result.now ≡ without_prefix word.now }
+{
+    match word.strip_prefix("0x") {
+        Some(digits) => digits,
+        None => word,
+    }
+}
+
+/// The number whose high half is written by one to eight hexadecimal digits, and whose low half by eight.
+fn halves_of(high: &str, low: &str) -> Option<u64>
+    ensures { result ≡ halves_number high.now low.now }
+{
+    if low.len() != 8 {
+        return None;
+    }
+    let high = half_of(high)?;
+    let low = half_of(low)?;
+    Some(u64::from(high) * HALF_END + u64::from(low))
+}
+
+/// The number below 2^32 that one to eight hexadecimal digits write.
+fn half_of(digits: &str) -> Option<u32>
+    ensures { result ≡ half_number digits.now }
+{
+    if digits.len() > 8 {
+        return None;
+    }
+    let number = number_of(digits, 16)?;
+    if number > u64::from(u32::MAX) {
+        return None;
+    }
+    Some(number as u32)
 }
 
 /// The length that a word names: a decimal number up to the limit, in bytes.
