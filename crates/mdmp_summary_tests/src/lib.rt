@@ -1,4 +1,4 @@
-//! Tests of `mdmp_summary`, by its public calls alone.
+//! Tests of `mdmp_summary` and `mdmp_summary_lines`, by their public calls alone.
 //!
 //! `summing` makes the calls whose contracts are long, in helpers without a contract; the tests compare plain
 //! values.
@@ -14,6 +14,8 @@ mod failures;
 mod files;
 #[cfg(test)]
 mod ids;
+#[cfg(test)]
+mod lines;
 #[cfg(test)]
 mod prefixes;
 #[cfg(test)]

@@ -1,0 +1,236 @@
+//! The lines of summaries.
+use crate::files::{LINUX, Made, crash_file};
+use crate::same::{assert_same, assert_same_at};
+use crate::summing::{summary_in, summary_of_first};
+use mdmp_lister::Name;
+use mdmp_print::Printer;
+use mdmp_source::{OutFailed, PatchyOut};
+use mdmp_summary::{AccessKind, FileSummary, PartKind, PartOutside, Reached, Registers};
+use mdmp_summary_lines::{SummaryNames, print_summary};
+use mdmp_wire::UnitsRef;
+use std::alloc::Global;
+use std::process::Abort;
+
+/// The units of `/usr/bin/cpad`.
+const CPAD: &[u8; 26] = b"/\0u\0s\0r\0/\0b\0i\0n\0/\0c\0p\0a\0d\0";
+
+/// The units of `C:\é.exe`.
+const EXE: &[u8; 16] = b"C\0:\0\\\0\xe9\0.\0e\0x\0e\0";
+
+/// What a name is.
+#[derive(Clone, Copy)]
+enum GivenName {
+    None,
+    Units(&'static [u8]),
+    Long(u32),
+}
+
+fn name(told: GivenName) -> Name<'static> {
+    match told {
+        GivenName::None => Name::None,
+        GivenName::Units(bytes) => Name::Units(UnitsRef::over(&bytes[..bytes.len() / 2 * 2])),
+        GivenName::Long(length) => Name::Long(length),
+    }
+}
+
+/// The names of the program, of the crash's module and of its thread.
+fn names(program: GivenName, owner: GivenName, thread: GivenName) -> SummaryNames<'static> {
+    SummaryNames {
+        program: name(program),
+        owner: name(owner),
+        thread: name(thread),
+    }
+}
+
+/// Prints a summary to an output.
+fn print_to<O: Printer>(
+    summary: &FileSummary,
+    names: &SummaryNames<'_>,
+    out: &mut O,
+) -> Result<(), OutFailed> {
+    print_summary(b"a.dmp", summary, names, out)
+}
+
+/// Asserts that a summary is printed so.
+fn assert_printed(
+    rt: &impl Abort,
+    alloc: Global,
+    summary: &FileSummary,
+    names: &SummaryNames<'_>,
+    expected: &str,
+) {
+    let mut out = PatchyOut::with_room(alloc, 4096, 7, None).expect(rt, "room");
+    let answer = print_to(summary, names, &mut out);
+    assert_same(rt, answer, Ok(()));
+    assert_same_at(rt, &expected, out.bytes(), expected.as_bytes());
+}
+
+/// The summary of a crash file that is whole.
+fn summary_of(rt: &impl Abort, alloc: Global, made: Made) -> FileSummary {
+    let file = crash_file(rt, alloc, made);
+    let mut summary = summary_in(rt, alloc, &file);
+    summary.bad.count = 0;
+    summary.bad.first = None;
+    summary
+}
+
+/// The lines behind those of the crash and its registers, up to the file's health.
+const COUNTS: &str =
+    "\n  system Linux 0.0.0, x64, processors 0\n  written not set\n  streams 5 threads 0 modules 1 exceptions 2 ranges 0 memory 0\n  file ";
+
+#[test]
+fn crash_in_a_module_succeeds(rt: HostRuntime) {
+    let mut summary = summary_of(&rt, rt.alloc(), LINUX);
+    summary.header.time_date_stamp = 1735689600;
+    if let Some(crash) = &mut summary.crash {
+        crash.exception.fields.exception_flags = 1;
+        crash.reached = Some(Reached {
+            address: 16,
+            access: AccessKind::Write,
+        });
+    }
+    let cpad = GivenName::Units(CPAD);
+    let thread = GivenName::Units(b"c\0\"\0");
+    assert_printed(
+        &rt,
+        rt.alloc(),
+        &summary,
+        &names(cpad, cpad, thread),
+        "a.dmp: SIGSEGV at cpad+0x10, thread 7 \"c\"\"\n  code 0x0000000b flags 0x00000001 SEGV_MAPERR\n  reached 0x0000000000000010 by a write\n  address 0x0000000000000010 instruction 0x0000000000005010 stack 0x0000000000000000 frame 0x0000000000000000\n  program cpad\n  system Linux 0.0.0, x64, processors 0\n  written 1735689600 seconds after 1970 in UTC\n  streams 5 threads 0 modules 1 exceptions 2 ranges 0 memory 0\n  file good\n",
+    );
+}
+
+#[test]
+fn crash_near_a_module_succeeds(rt: HostRuntime) {
+    let mut made = LINUX;
+    made.module_size = 16;
+    let mut summary = summary_of(&rt, rt.alloc(), made);
+    if let Some(crash) = &mut summary.crash {
+        crash.exception.fields.exception_code = 999;
+        crash.exception.fields.exception_flags = 0x80;
+        crash.reached = None;
+        crash.registers = None;
+    }
+    let front =
+        "a.dmp: 0x000003e7 at 0x0000000000005010 near \\u00e9.exe+0x10, thread 7\n  code 0x000003e7 flags 0x00000080\n  address 0x0000000000000010\n  program (name of 8000 bytes)";
+    let expected = format!(in rt.alloc(); "{front}{COUNTS}good\n").expect(&rt, "a text");
+    let exe = GivenName::Units(EXE);
+    assert_printed(
+        &rt,
+        rt.alloc(),
+        &summary,
+        &names(GivenName::Long(8000), exe, GivenName::Units(b"")),
+        &expected,
+    );
+}
+
+#[test]
+fn crash_without_a_module_succeeds(rt: HostRuntime) {
+    let mut summary = summary_of(&rt, rt.alloc(), LINUX);
+    summary.program = None;
+    summary.system = None;
+    if let Some(crash) = &mut summary.crash {
+        crash.holder = None;
+        crash.registers = Some(Registers {
+            instruction: 1,
+            stack: 2,
+            frame: u64::MAX,
+        });
+        crash.reached = Some(Reached {
+            address: 16,
+            access: AccessKind::Unknown,
+        });
+    }
+    assert_printed(
+        &rt,
+        rt.alloc(),
+        &summary,
+        &names(GivenName::None, GivenName::None, GivenName::Long(9)),
+        "a.dmp: 0x0000000b at 0x0000000000005010, thread 7\n  code 0x0000000b flags 0x00000000\n  reached 0x0000000000000010\n  address 0x0000000000000010 instruction 0x0000000000000001 stack 0x0000000000000002 frame 0xffffffffffffffff\n  written not set\n  streams 5 threads 0 modules 1 exceptions 2 ranges 0 memory 0\n  file good\n",
+    );
+}
+
+#[test]
+fn file_without_a_crash_succeeds(rt: HostRuntime) {
+    let mut summary = summary_of(&rt, rt.alloc(), LINUX);
+    summary.crash = None;
+    if let Some(system) = &mut summary.system {
+        system.platform_id = 2;
+        system.processor_architecture = 77;
+        system.major_version = 10;
+        system.build_number = 19041;
+        system.number_of_processors = 255;
+    }
+    summary.outside.count = 2;
+    summary.outside.first = Some(PartOutside {
+        entry: 2,
+        index: 0,
+        part: PartKind::Stack,
+        offset: 4720,
+        size: 7264,
+    });
+    assert_printed(
+        &rt,
+        rt.alloc(),
+        &summary,
+        &names(GivenName::None, GivenName::None, GivenName::None),
+        "a.dmp: no crash\n  program (no name)\n  system Windows 10.0.19041, architecture 77, processors 255\n  written not set\n  streams 5 threads 0 modules 1 exceptions 2 ranges 0 memory 0\n  file readable, 2 parts outside the file: entry 2 item 0: stack outside the file: offset 4720 size 7264\n",
+    );
+    summary.outside.count = 1;
+    if let Some(system) = &mut summary.system {
+        system.platform_id = 9;
+    }
+    assert_printed(
+        &rt,
+        rt.alloc(),
+        &summary,
+        &names(GivenName::None, GivenName::None, GivenName::None),
+        "a.dmp: no crash\n  program (no name)\n  system platform 9 10.0.19041, architecture 77, processors 255\n  written not set\n  streams 5 threads 0 modules 1 exceptions 2 ranges 0 memory 0\n  file readable, 1 part outside the file: entry 2 item 0: stack outside the file: offset 4720 size 7264\n",
+    );
+}
+
+#[test]
+fn bad_entries_are_told(rt: HostRuntime) {
+    let file = crash_file(&rt, rt.alloc(), LINUX);
+    let summary = summary_of_first(&rt, rt.alloc(), &file, 500);
+    assert_printed(
+        &rt,
+        rt.alloc(),
+        &summary,
+        &names(GivenName::None, GivenName::None, GivenName::None),
+        "a.dmp: 0x00000013 at 0x0000000000000005, thread 6\n  code 0x00000013 flags 0x00000000\n  address 0x0000000000000005\n  written not set\n  streams 5 threads 0 modules 0 exceptions 2 ranges 0 memory 0\n  file damaged, 3 bad entries: entry 0: stream outside the file: offset 4096 size 4\n",
+    );
+    let whole = summary_in(&rt, rt.alloc(), &file);
+    let mut out = PatchyOut::with_room(rt.alloc(), 4096, 4096, None).expect(&rt, "room");
+    assert_same(
+        &rt,
+        print_to(
+            &whole,
+            &names(GivenName::None, GivenName::None, GivenName::None),
+            &mut out,
+        ),
+        Ok(()),
+    );
+    let told = out.bytes();
+    let end =
+        b"  file damaged, 1 bad entry: entry 0: stream outside the file: offset 4096 size 4\n";
+    assert!(rt; told.len() >= end.len());
+    assert_same(&rt, &told[told.len() - end.len()..], &end[..]);
+}
+
+#[test]
+fn output_that_fails_has_a_first_part(rt: HostRuntime) {
+    let summary = summary_of(&rt, rt.alloc(), LINUX);
+    let cpad = GivenName::Units(CPAD);
+    for call in 0..30u64 {
+        let mut out = PatchyOut::with_room(rt.alloc(), 4096, 12, Some(call)).expect(&rt, "room");
+        let answer = print_to(&summary, &names(cpad, cpad, cpad), &mut out);
+        let most = 12 * call as usize;
+        assert_same_at(
+            &rt,
+            &call,
+            (answer, out.bytes().len() <= most),
+            (Err(OutFailed), true),
+        );
+    }
+}
