@@ -1,9 +1,9 @@
 //! Whether a file is good.
 ghost use Rattle.std.specs.Prelude.{◌++◌, refl};
-ghost use Rattle.mdmp_summary_lines.specs.HealthText.{bad_count_text, health_text, outside_text, outside_part_words, parts_count_text};
+ghost use Rattle.mdmp_summary_lines.specs.HealthText.{bad_count_text, health_text, parts_count_text};
 
-use mdmp_print::{ListWords, Piece, row};
-use mdmp_summary::{BadEntries, PartKind, PartOutside, PartsOutside};
+use mdmp_print::{ListWords, OutsideWords, Piece, row};
+use mdmp_summary::{BadEntries, PartsOutside};
 
 /// The line that says whether a file is good.
 #[derive(Clone, Copy)]
@@ -83,60 +83,5 @@ impl Piece for PartsCount {
             return b"1 part".write_at(buffer, at);
         }
         row![self.0, b" parts"].write_at(buffer, at)
-    }
-}
-
-/// What is said of a part outside the file.
-#[derive(Clone, Copy)]
-struct OutsideWords(PartOutside);
-
-impl Piece for OutsideWords {
-    ghost text = { λ p. outside_text p.0 };
-
-    ghost before = { λ p more. outside_text p.0 ++ more };
-
-    ghost most = { 180 };
-
-    ghost joined = { λ p more. refl };
-
-    fn write_at(&self, buffer: &mut [u8], at: usize) -> usize {
-        let part = self.0;
-        row![
-            b"entry ",
-            part.entry,
-            b" item ",
-            part.index,
-            b": ",
-            KindOfPart(part.part),
-            b" outside the file: offset ",
-            part.offset,
-            b" size ",
-            part.size,
-        ]
-        .write_at(buffer, at)
-    }
-}
-
-/// What a part is called.
-#[derive(Clone, Copy)]
-struct KindOfPart(PartKind);
-
-impl Piece for KindOfPart {
-    ghost text = { λ p. outside_part_words p.0 };
-
-    ghost before = { λ p more. outside_part_words p.0 ++ more };
-
-    ghost most = { 8 };
-
-    ghost joined = { λ p more. refl };
-
-    fn write_at(&self, buffer: &mut [u8], at: usize) -> usize {
-        match self.0 {
-            PartKind::Stack => b"stack".write_at(buffer, at),
-            PartKind::Context => b"context".write_at(buffer, at),
-            PartKind::CodeView => b"codeview".write_at(buffer, at),
-            PartKind::Misc => b"misc".write_at(buffer, at),
-            PartKind::Memory => b"memory".write_at(buffer, at),
-        }
     }
 }
