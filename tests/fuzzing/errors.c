@@ -39,15 +39,27 @@ void test_fault(const mdmp_fault *fault) {
     }
 }
 
+/* An error of any kind with the fields that its kind has, or with any fields. */
+static mdmp_fault strange_fault(void) {
+    mdmp_fault fault = {.kind = (uint32_t)below(80), .offset = next_number(), .size = next_number() >> below(64)};
+    const bool is_plain = below(4) != 0;
+    const bool has_entry = fault.kind >= MDMP_FAULT_STREAM_OUTSIDE && fault.kind <= MDMP_FAULT_NAME_TOO_LONG;
+    fault.has_index = is_plain ? fault.kind >= MDMP_FAULT_NAME_LENGTH_OUTSIDE && has_entry : (uint32_t)below(3);
+    fault.entry = !is_plain || has_entry ? (uint32_t)next_number() : 0;
+    fault.index = !is_plain || fault.has_index == 1 ? next_number() : 0;
+    fault.part = !is_plain || fault.kind == MDMP_FAULT_PART_OUTSIDE ? (uint32_t)below(7) : 0;
+    fault.high = below(2) == 0 ? 0 : next_number();
+    return fault;
+}
+
 /* Words of an error that no call reports: a text, or nothing and a bad argument. */
 void test_strange_fault(void) {
-    mdmp_fault fault = {.kind = (uint32_t)below(80), .entry = (uint32_t)next_number(), .part = (uint32_t)below(7)};
-    fault.index = next_number(), fault.offset = next_number(), fault.size = next_number();
-    fault.high = below(2) == 0 ? 0 : next_number();
-    fault.has_index = (uint32_t)below(3);
-    uint8_t *text = guarded(256);
-    uint64_t size = 1;
-    uint32_t status = mdmp_fault_text(&fault, text, 256, &size);
-    ASSERT(status == MDMP_OK || (status == MDMP_BAD_ARGUMENT && size == 0 && text[0] == 0xaa));
-    ASSERT(size <= 256 && is_guarded(text, 256));
+    for (int i = 0; i < 4; i++) {
+        const mdmp_fault fault = strange_fault();
+        uint8_t *text = guarded(256);
+        uint64_t size = 1;
+        uint32_t status = mdmp_fault_text(&fault, text, 256, &size);
+        ASSERT(status == MDMP_OK || (status == MDMP_BAD_ARGUMENT && size == 0 && text[0] == 0xaa));
+        ASSERT(size <= 256 && is_guarded(text, 256));
+    }
 }
