@@ -53,9 +53,9 @@ def corpus() -> list[Path]:
     return [*sorted(CORPUS.iterdir()), *sorted(DATA.glob("*.dmp"))]
 
 
-def run(*words: str | Path, **how: object) -> None:
+def run(*words: str | Path, env: dict[str, str] | None = None) -> None:
     """Runs a command; ends the script if it fails, and prints what it wrote."""
-    done = subprocess.run([*map(str, words)], stdout=subprocess.PIPE, stderr=subprocess.STDOUT, text=True, errors="replace", **how)
+    done = subprocess.run([*map(str, words)], stdout=subprocess.PIPE, stderr=subprocess.STDOUT, text=True, errors="replace", env=env)
     if done.returncode:
         stop(f"status {done.returncode} of {' '.join(map(str, words[:3]))} ..\n{done.stdout[-4000:]}")
 
@@ -88,10 +88,10 @@ def shares(paths: list[Path], count: int) -> Iterator[list[Path]]:
             yield paths[start::count]
 
 
-def run_over(program: Path, paths: list[Path], **how: object) -> None:
+def run_over(program: Path, paths: list[Path], env: dict[str, str] | None = None) -> None:
     """Runs a program over files, on all processors. Ends the script if one of them fails, and says which file it was."""
     running = [
-        (share, subprocess.Popen([program, *share], stdout=subprocess.DEVNULL, stderr=subprocess.PIPE, **how))
+        (share, subprocess.Popen([program, *share], stdout=subprocess.DEVNULL, stderr=subprocess.PIPE, env=env))
         for share in shares(paths, os.cpu_count() or 1)
     ]
     failed = []
@@ -100,7 +100,6 @@ def run_over(program: Path, paths: list[Path], **how: object) -> None:
         if process.returncode:
             failed.append((share, process.returncode, said))
     for share, status, said in failed:
-        quiet = {"stdout": subprocess.DEVNULL, "stderr": subprocess.DEVNULL}
-        culprit = next((path for path in share if subprocess.run([program, path], **quiet, **how).returncode), None)
+        culprit = next((path for path in share if subprocess.run([program, path], capture_output=True, env=env).returncode), None)
         names = culprit or f"{len(share)} files, and over none of them alone"
         stop(f"status {status} over {names}\n{said.decode(errors='replace')[-4000:]}")
