@@ -1,5 +1,5 @@
 -- A name that was read and kept is the one that stands in the file.
-use Rattle.std.proofs.Common.{◌≡◌, ◌∙◌, ◌≤◌, ◌+◌, ◌++◌, ◌%◌, ◌==◌, ℕ, Bool, true, false, List, length, Option, Some, Ok, Err, ap, arith, nat_lt, refl, subst, sym, if◌then◌else◌}
+use Rattle.std.proofs.Common.{◌≡◌, ◌∙◌, ◌+◌, ◌++◌, ◌%◌, ◌==◌, ℕ, Bool, true, false, List, length, Option, Some, Ok, Err, ap, arith, nat_lt, refl, subst, sym, if◌then◌else◌}
 use Rattle.std.proofs.Math.Seq.{take-append_seam}
 use Rattle.std.specs.Prelude.{not, take, IfSome, MatchResult, Result}
 use Rattle.mdmp_source.specs.Output.{OutState, Puts}

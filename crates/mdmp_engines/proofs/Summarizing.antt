@@ -66,30 +66,6 @@ cause-refused beside fault old new told = tt
 
 -- ---- errors as a command tells them
 
-quiet-opening : (fault : OpenFault) (untouched : Type 0) → untouched → IsQuietSummary (Err (opening_told fault)) untouched
-quiet-opening (opening.Source f) untouched is = is
-quiet-opening (opening.Budget offset size) untouched is = is
-quiet-opening opening.Memory untouched is = is
-quiet-opening (opening.MemoryLimit held) untouched is = is
-quiet-opening fault untouched is = is
-
-quiet-kind : (kind : FaultKind) (f : ListFault) (untouched : Type 0) → untouched → IsQuietSummary (Err (told_by kind f)) untouched
-quiet-kind (kinds.Source fault) f untouched is = is
-quiet-kind kinds.Budget f untouched is = is
-quiet-kind kind f untouched is = is
-
-out-opening : (fault : OpenFault) (before : OutState) → HasOutCause {T = ℕ} before (Err (opening_told fault)) before
-out-opening (opening.Source f) before = refl
-out-opening (opening.Budget offset size) before = refl
-out-opening opening.Memory before = refl
-out-opening (opening.MemoryLimit held) before = refl
-out-opening fault before = refl
-
-out-kind : (kind : FaultKind) (f : ListFault) (before : OutState) → HasOutCause {T = ℕ} before (Err (told_by kind f)) before
-out-kind (kinds.Source fault) f before = refl
-out-kind kinds.Budget f before = refl
-out-kind kind f before = refl
-
 good-opening : (fault : OpenFault) → (IsUnread fault → ⊥) → IsNoSourceFault {T = ℕ} (Err (opening_told fault))
 good-opening (opening.Source f) never = never tt
 good-opening (opening.Budget offset size) never = tt
@@ -116,16 +92,6 @@ cause-kind first old new kinds.Budget f fetches told same = tt
 cause-kind first old new kind f fetches told same = tt
 
 -- ---- a file whose bytes were not all read
-
-pub quiet-unread : (fault : SummaryFault) (untouched : Type 0) → untouched → IsQuietSummary (Err (summary_told fault)) untouched
-quiet-unread (faults.Opening fault) untouched is = quiet-opening fault untouched is
-quiet-unread (faults.List f) untouched is = quiet-kind f.kind f untouched is
-quiet-unread (faults.Source fault) untouched is = is
-
-pub out-unread : (fault : SummaryFault) (before : OutState) → HasOutCause {T = ℕ} before (Err (summary_told fault)) before
-out-unread (faults.Opening fault) before = out-opening fault before
-out-unread (faults.List f) before = out-kind f.kind f before
-out-unread (faults.Source fault) before = refl
 
 pub good-unread : (fault : SummaryFault) → (IsUnreadIn fault → ⊥) → IsNoSourceFault {T = ℕ} (Err (summary_told fault))
 good-unread (faults.Opening fault) never = good-opening fault never

@@ -9,7 +9,7 @@ use Rattle.mdmp_lister.specs.declared.name.Name.TheVariants as names
 use Rattle.mdmp_summary.specs.declared.summary.Crash.{Crash}
 use Rattle.mdmp_summary.specs.declared.summary.FileSummary.{FileSummary}
 use Rattle.mdmp_summary.specs.declared.summary.PlaceInModule.{PlaceInModule}
-use Rattle.mdmp_summary_lines.specs.CrashText.{details_text, headline_text, held_text, offset_in_module, near_place_text, thread_name_text}
+use Rattle.mdmp_summary_lines.specs.CrashText.{details_text, held_text, offset_in_module, near_place_text, thread_name_text}
 use Rattle.mdmp_summary_lines.specs.FileNames.{file_text}
 use Rattle.mdmp_summary_lines.specs.SummaryText.{crash_or_none, named_file, program_text, summary_text, tail_text}
 use Rattle.mdmp_summary_lines.specs.declared.names.SummaryNames.{SummaryNames}

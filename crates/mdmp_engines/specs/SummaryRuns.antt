@@ -1,5 +1,5 @@
 -- What `summary` answers, and what it writes.
-use Rattle.std.specs.Prelude.{◌≡◌, ◌*◌, ℕ, List, Option, None, Result, Ok, Err, IfErr, MatchResult}
+use Rattle.std.specs.Prelude.{◌≡◌, ◌*◌, ℕ, List, None, Result, Ok, Err, IfErr, MatchResult}
 use Rattle.mdmp_source.specs.Output.{OutState, Puts}
 use Rattle.mdmp_source.specs.Source.{FetchesAtMost, IsTold, SourceState}
 use Rattle.mdmp_lister.specs.Memory.{IsWalkRefusal, leaving, walk_fault}

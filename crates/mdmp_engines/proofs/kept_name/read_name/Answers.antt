@@ -1,4 +1,4 @@
-use Rattle.std.proofs.Common.{rules, ◌≡◌, ◌∙◌, ◌+◌, ◌%◌, ◌==◌, ℕ, List, length, true, false, nat_lt, subst}
+use Rattle.std.proofs.Common.{rules, ◌≡◌, ◌∙◌, ◌+◌, ℕ, List, length, true, false, subst}
 use Rattle.mdmp_source.specs.Range.{is_inside}
 use Rattle.mdmp_wire.specs.Number.{number_at}
 use Rattle.mdmp_engines.proofs.NamesRead.{length_read, some_known, told_absent, told_long, told_odd, told_outside, told_units, told_unmeasured, units_read}
