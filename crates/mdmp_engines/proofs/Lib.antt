@@ -15,6 +15,7 @@ pub mod JsonPrinted
 pub mod JsonReads
 pub mod JsonStrings
 pub mod Listings
+pub mod NamesRead
 pub mod PartsChecking
 pub mod PlainLines
 pub mod Printing
@@ -22,4 +23,6 @@ pub mod Reached
 pub mod ReportedLines
 pub mod Rows
 pub mod SameRuns
+pub mod Summarizing
+pub mod SummaryNames
 pub mod Symbols

@@ -1,6 +1,6 @@
 -- A run of `check --parts`, from its parts.
 use Rattle.std.proofs.Common.{◌≡◌, ◌∙◌, ◌≤◌, ◌<◌, ◌+◌, ◌^◌, ◌++◌, ℕ, List, [], ◌∷◌, Bool, true, false, Option, Some, None, ap, refl, sym, length, map, subst, arith, inl, inr}
-use Rattle.std.specs.Prelude.{Result, Err, flat_map, sum_by}
+use Rattle.std.specs.Prelude.{Result, flat_map}
 use Rattle.std.proofs.lemmas.List.Concat.{flat_map-append}
 use Rattle.std.proofs.lemmas.List.Sums.{sum_by-append, sum_by-cons}
 use Rattle.mdmp_source.specs.Output.{OutState, PutsAll, PutsPrefix}
@@ -10,7 +10,7 @@ use Rattle.mdmp_lister.specs.declared.fault.ListFault.{ListFault}
 use Rattle.mdmp_lister.specs.declared.meter.Amount.{Amount}
 use Rattle.mdmp_lister.specs.declared.sink.Stopped.{Stopped}
 use Rattle.mdmp_lister.specs.Check.{items_of, names_judged}
-use Rattle.mdmp_lister.specs.Format.Listing.{Numbered, chosen, entries_from, entry_count, entry_listing, only_chosen, verdicts}
+use Rattle.mdmp_lister.specs.Format.Listing.{Numbered, chosen, entries_from, entry_count, entry_listing, verdicts}
 use Rattle.mdmp_lister.specs.Lister.{IsSameLister, ListerState}
 use Rattle.mdmp_lister.specs.Sink.{Taken, TakenToStop}
 use Rattle.mdmp_summary.specs.CheckRows.{are_some, check_rows, entry_parts, entry_rows, result_row}

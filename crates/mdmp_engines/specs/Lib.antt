@@ -8,8 +8,10 @@ pub mod Engines
 pub mod Faults
 pub mod HexRuns
 pub mod JsonLaws
+pub mod KeptNames
 pub mod Reports
 pub mod Runs
+pub mod SummaryRuns
 pub mod Symbols
 pub mod Telling
 pub mod Text

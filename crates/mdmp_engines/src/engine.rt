@@ -154,7 +154,7 @@ pub(crate) fn run_source<E: Engine, S: Store + Drop, A: Allocator + Copy, O: Pri
 }
 
 /// A fault of the opening, as a command tells it that holds so many bytes beside its lister.
-fn refused_beside(fault: OpenFault, beside: u64) -> ToolFault
+pub(crate) fn refused_beside(fault: OpenFault, beside: u64) -> ToolFault
     ensures { result ≡ opening_beside beside fault }
 {
     match fault {

@@ -4,6 +4,7 @@
 //! nobody above it knows what the command did, and each proof stays short.
 ghost use Rattle.std.specs.Prelude.{◌+◌, ◌^◌, ◌≤◌, ◌≡◌, [], None};
 
+use mdmp_engines::summary_source;
 use mdmp_lister::{Choice, Lister, TypeSet};
 use mdmp_source::{Out, PatchyOut, Source, Store, write_all};
 use mdmp_test_support::Room;
@@ -29,6 +30,8 @@ pub enum Task<'a> {
     Check,
     /// A check with a line in this form for each part outside the file.
     CheckParts(LineForm),
+    /// The summary of a file of the name `a.dmp`.
+    Summary,
     List,
     /// A list with a line for each CodeView record of a module.
     Symbols,
@@ -145,6 +148,7 @@ fn answer_over_store<S: Store + Drop, A: Allocator + Copy>(
     match run.task {
         Task::Check => run_check(heap, store, limits, text, out),
         Task::CheckParts(form) => run_check_parts(heap, store, limits, form, out),
+        Task::Summary => { summary_source(heap, Source::new(store), limits, b"a.dmp", out).answer }
         Task::List | Task::Symbols => {
             uncounted(run_list(heap, store, limits, text, has_symbols(run.task), out))
         }
@@ -169,6 +173,7 @@ fn end_by_source<S: Store + Drop, A: Allocator + Copy>(
     match run.task {
         Task::Check => end_of(check_source(heap, source, limits, text, out)),
         Task::CheckParts(form) => end_of(check_parts_source(heap, source, limits, form, out)),
+        Task::Summary => end_of(summary_source(heap, source, limits, b"a.dmp", out)),
         Task::List | Task::Symbols => end_of_uncounted(list_source(
             heap,
             source,
@@ -223,7 +228,7 @@ fn end_by_blocks<S: Store + Drop, A: Allocator + Copy, O: Out>(
             };
             end_of_uncounted(run_in_blocks(engine, heap, source, limits, blocks))
         }
-        Task::Copy(_) => rt.panic("no copy in blocks"),
+        Task::Copy(_) | Task::Summary => rt.panic("no copy or summary in blocks"),
     }
 }
 

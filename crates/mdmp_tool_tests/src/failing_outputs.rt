@@ -7,7 +7,7 @@ use crate::runs::{
     WITHOUT_ITEMS, assert_wrote, run_bytes, run_within,
 };
 use crate::same::assert_same_at;
-use crate::texts::SYMBOL_LINES;
+use crate::texts::{CRASH_SUMMARY, NAMED, NAMED_SUMMARY, SYMBOL_LINES};
 use mdmp_test_support::{
     CODEVIEW_RECORD, CRASH, FAULTY, FAULTY_TEXT, FAULTY_TOLD, FAULTY_VERDICTS, ListedRange,
     MEMORY64, Room, SIX, SYSTEM, SYSTEM_TEXT, WIDE_TEXT,
@@ -33,7 +33,21 @@ const LETTERS: [ListedRange; 2] = [
     },
 ];
 
-const SWEPT: [SweptRow<'static>; 8] = [
+const SWEPT: [SweptRow<'static>; 10] = [
+    (
+        &COPY_WAYS,
+        Task::Summary,
+        File::Numbers(1, &NAMED),
+        Ok(0),
+        File::Text(NAMED_SUMMARY),
+    ),
+    (
+        &COPY_WAYS,
+        Task::Summary,
+        File::Numbers(2, &CRASH),
+        Ok(0),
+        File::Text(CRASH_SUMMARY),
+    ),
     (
         &EACH_WAY,
         Task::List,

@@ -7,7 +7,7 @@ use crate::runs::{
     WITHOUT_ITEMS, Within, assert_wrote, run_bytes, run_file, run_within,
 };
 use crate::same::assert_same_at;
-use crate::texts::SYMBOL_LINES;
+use crate::texts::{NAMED, NAMED_SUMMARY, SYMBOL_LINES};
 use mdmp_source::SourceFault;
 use mdmp_test_support::{
     CODEVIEW_RECORD, CRASH, FAULTY, FAULTY_TEXT, FAULTY_VERDICTS, MEMORY64, Room, SIX, SYSTEM,
@@ -36,7 +36,18 @@ type StoreRow<'a> = (
 /// The header and the directory, before whose last byte nothing is written.
 const OPENING: ReadSpan = (0, 0, 0);
 
-const SWEPT: [StoreRow<'static>; 6] = [
+const SWEPT: [StoreRow<'static>; 7] = [
+    // All is read before the first line is written: after the pass the name of the program once more.
+    (
+        &COPY_WAYS,
+        Task::Summary,
+        File::Numbers(1, &NAMED),
+        USUAL,
+        &[OPENING, (168, 156, 0)],
+        180,
+        Ok(0),
+        NAMED_SUMMARY,
+    ),
     // Behind the directory of one entry the first two lines are written. The two zeros behind the name are not read.
     (
         &EACH_WAY,

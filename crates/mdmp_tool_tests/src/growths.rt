@@ -7,7 +7,7 @@ use crate::runs::{
     Within, assert_wrote, run_bytes, run_within,
 };
 use crate::same::assert_same_at;
-use crate::texts::{CUT_LINES, SIX_TEXT, SYMBOL_LINES};
+use crate::texts::{CRASH_SUMMARY, CUT_LINES, NAMED, NAMED_SUMMARY, SIX_TEXT, SYMBOL_LINES};
 use mdmp_test_support::{
     CODEVIEW_RECORD, CRASH, FAULTY, FAULTY_TEXT, FAULTY_VERDICTS, MEMORY64, MODULE_FILE_TEXT, Room,
     SIX, SYSTEM, SYSTEM_TEXT, WIDE_TEXT,
@@ -138,7 +138,27 @@ const OPENED: u64 = 32 + 72 + 52 + 168;
 
 /// Commands without limits: a directory, a window and a name; and where memory is printed, a map of the ranges, the
 /// bytes, and which of them are known; where streams are copied, a directory, a window, two lists and a buffer.
-const UNLIMITED: [GrownRow<'static>; 9] = [
+const UNLIMITED: [GrownRow<'static>; 11] = [
+    (
+        File::Numbers(1, &NAMED),
+        Task::Summary,
+        &COPY_WAYS,
+        (168, 28, None, None, None),
+        Ok(0),
+        File::Text(NAMED_SUMMARY),
+        4,
+        None,
+    ),
+    (
+        CRASH_FILE,
+        Task::Summary,
+        &COPY_WAYS,
+        (168, 28, None, None, None),
+        Ok(0),
+        File::Text(CRASH_SUMMARY),
+        3,
+        None,
+    ),
     (
         SIX_FILE,
         Task::List,

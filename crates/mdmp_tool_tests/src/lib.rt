@@ -34,6 +34,8 @@ mod runs;
 #[cfg(test)]
 mod same;
 #[cfg(test)]
+mod summary_ends;
+#[cfg(test)]
 mod texts;
 #[cfg(test)]
 mod watched;

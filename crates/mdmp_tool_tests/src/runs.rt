@@ -40,7 +40,7 @@ pub const WITHOUT_ITEMS: [CallWay; 3] = [
     CallWay::Blocks(LINE_ROOM),
 ];
 
-/// The ways of a copy.
+/// The ways of a copy, and of a summary.
 pub const COPY_WAYS: [CallWay; 2] = [CallWay::Store, CallWay::Source];
 
 /// What a command answers: how many bad entries or copied bytes, or why not.

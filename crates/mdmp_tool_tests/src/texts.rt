@@ -7,6 +7,59 @@ stream 0 type 4 size 112 rva 44
 module 0 base 0x0000000000000000 size 0 checksum 0 time 0 version 0.0.0.0 cv inside 30@156 misc empty name none
 pdb 00112233-4455-6677-8899-aabbccddeeff age 1 name \"a.pdb\"\n";
 
+/// A file of one module with the name `a/bc`.
+pub const NAMED: [u32; 34] = [
+    4,
+    112,
+    44,
+    1,
+    0,
+    0,
+    0,
+    0,
+    0,
+    156,
+    0,
+    0,
+    0,
+    0,
+    0,
+    0,
+    0,
+    0,
+    0,
+    0,
+    0,
+    0,
+    0,
+    0,
+    0,
+    0,
+    0,
+    0,
+    0,
+    0,
+    0,
+    8,
+    0x002f_0061,
+    0x0063_0062,
+];
+
+/// The summary of `NAMED`.
+pub const NAMED_SUMMARY: &str = "a.dmp: no crash
+  program bc
+  written not set
+  streams 1 threads 0 modules 1 exceptions 0 ranges 0 memory 0
+  file good\n";
+
+/// The summary of `CRASH`.
+pub const CRASH_SUMMARY: &str = "a.dmp: 0xc0000005 at 0x0000000000401000, thread 7
+  code 0xc0000005 flags 0x00000000
+  address 0x0000000000401000
+  written not set
+  streams 2 threads 1 modules 0 exceptions 1 ranges 0 memory 0
+  file good\n";
+
 /// The same, where the name of the record is cut.
 pub const CUT_LINES: &str =
     "dump version 0x0000 streams 1 directory 32 checksum 0 time 0 flags 0x0000000000000000

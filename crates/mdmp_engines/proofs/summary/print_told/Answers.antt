@@ -1,0 +1,14 @@
+use Rattle.std.proofs.Common.{refl}
+use Rattle.mdmp_engines.proofs.NamesRead.{name_unread, printed_named}
+use Rattle.mdmp_engines.specs.SummaryRuns.{IsPrintedOrUnread}
+use Rattle.mdmp_engines.proofs.summary.print_told.Goals as goal
+
+pub returns-in-Err-clause-told : goal.returns-in-Err-clause-told
+returns-in-Err-clause-told g c = λ bytes known.
+    IsPrintedOrUnread.unread c.in-Err.fault (name_unread c.args.source c.read_names.new.source c.in-Err.fault c.in-Err.ensures.fault) refl refl
+
+pub returns-clause-told : goal.returns-clause-told
+returns-clause-told g c = λ bytes known.
+    let printed = c.print_named-answer.ensures in
+    printed_named c.args.file.now bytes c.args.limit c.args.summary.now _ (g.O.Printer.state c.args.out.now) c.print_named-answer.result (g.O.Printer.state c.print_named-answer.new.out)
+    (c.in-Ok.ensures.names bytes known) printed.answer printed.text

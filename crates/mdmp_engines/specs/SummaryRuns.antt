@@ -1,0 +1,92 @@
+-- What `summary` answers, and what it writes.
+use Rattle.std.specs.Prelude.{◌≡◌, ◌*◌, ℕ, List, None, Result, Ok, Err, IfErr, MatchResult}
+use Rattle.mdmp_source.specs.Output.{OutState, Puts}
+use Rattle.mdmp_source.specs.Source.{FetchesAtMost, IsTold, SourceState}
+use Rattle.mdmp_lister.specs.Memory.{IsWalkRefusal, leaving, walk_fault}
+use Rattle.mdmp_lister.specs.Refused.{IsRefusedWalker}
+use Rattle.mdmp_lister.specs.Walker.{IsNewWalker, WalkerState}
+use Rattle.mdmp_lister.specs.declared.choice.Choice.TheVariants.{All}
+use Rattle.mdmp_lister.specs.declared.fault.OpenFault.{OpenFault}
+use Rattle.mdmp_lister.specs.declared.limits.Limits.{Limits}
+use Rattle.mdmp_summary.specs.Spending.{SpendsPasses}
+use Rattle.mdmp_summary.specs.Summary.{file_summary}
+use Rattle.mdmp_summary.specs.Summing.{IsCallFault}
+use Rattle.mdmp_summary.specs.Walking.{IsSameListing}
+use Rattle.mdmp_summary.specs.declared.summary.FileSummary.{FileSummary}
+use Rattle.mdmp_summary.specs.declared.summary.SummaryFault.{SummaryFault}
+use Rattle.mdmp_summary.specs.declared.summary.SummaryFault.TheVariants as faults
+use Rattle.mdmp_summary_lines.specs.SummaryText.{summary_text}
+use Rattle.mdmp_engines.specs.KeptNames.{told_names, names_room}
+use Rattle.mdmp_engines.specs.Telling.{listing_told, opening_beside, opening_told}
+use Rattle.mdmp_engines.specs.declared.fault.ToolFault.{ToolFault}
+use Rattle.mdmp_engines.specs.declared.fault.ToolFault.TheVariants as tool
+
+-- how many bytes three names take at most
+abbrev pub names_held : Limits → ℕ
+names_held limits = 3 * limits.name
+
+-- the limits of a walk beside which three names are held
+abbrev pub within_names : Limits → Limits
+within_names limits = leaving (names_held limits) limits
+
+-- the error of a summary, as a command tells it
+abbrev pub summary_told : SummaryFault → ToolFault
+summary_told (faults.Opening fault) = opening_told fault
+summary_told (faults.List fault) = listing_told fault
+summary_told (faults.Source fault) = tool.Source fault
+
+-- the summary of F, a file of this name
+abbrev pub file_lines : (name F : List ℕ) → ℕ → List ℕ
+file_lines name F limit = summary_text name (file_summary F limit) (told_names F limit (file_summary F limit))
+
+-- bytes of an open file were not read, or memory ran out
+abbrev pub IsUnreadFault : ToolFault → Type 0
+IsUnreadFault (tool.Source fault) = Unit {0}
+IsUnreadFault (tool.Budget offset size) = Unit {0}
+IsUnreadFault tool.Memory = Unit {0}
+IsUnreadFault fault = ⊥
+
+-- how many entries are bad, or that the output failed
+abbrev pub TellsBad : List ℕ → ℕ → Result ℕ ToolFault → Type 0
+TellsBad F limit answer = MatchResult answer (λ bad. bad ≡ (file_summary F limit).bad.count) (λ fault. fault ≡ tool.Out)
+
+-- `summary` of a file of this name with these bytes: it can't be opened, bytes of it are not read, or its lines are printed. Only
+-- then something is written
+pub data Summarizes (name F : List ℕ) (limits : Limits) (before : OutState) (answer : Result ℕ ToolFault) (after : OutState) : Type 0 where
+  refused : (fault : OpenFault) → IsWalkRefusal (within_names limits) F fault → answer ≡ Err (opening_beside (names_held limits) fault) → after ≡ before
+      → Summarizes name F limits before answer after
+  unread : (fault : ToolFault) → walk_fault (within_names limits) F ≡ None → IsUnreadFault fault → answer ≡ Err fault → after ≡ before
+      → Summarizes name F limits before answer after
+  printed : walk_fault (within_names limits) F ≡ None → TellsBad F limits.name answer → Puts answer before (file_lines name F limits.name) after
+      → Summarizes name F limits before answer after
+
+-- the names of a summary of F were read, and its lines printed; or a name was not read
+pub data IsPrintedOrUnread (name F : List ℕ) (limit : ℕ) (summary : FileSummary) (before : OutState) (answer : Result ℕ ToolFault) (after : OutState) : Type 0 where
+  unread : (fault : ToolFault) → IsUnreadFault fault → answer ≡ Err fault → after ≡ before → IsPrintedOrUnread name F limit summary before answer after
+  printed : MatchResult answer (λ bad. bad ≡ summary.bad.count) (λ fault. fault ≡ tool.Out)
+      → Puts answer before (summary_text name summary (told_names F limit summary)) after → IsPrintedOrUnread name F limit summary before answer after
+
+-- the error of a name, or the output's
+abbrev pub IsNameEnd : SourceState → SourceState → ToolFault → Type 0
+IsNameEnd old new tool.Out = Unit {0}
+IsNameEnd old new tool.Memory = Unit {0}
+IsNameEnd old new (tool.Source fault) = IsTold fault old new
+IsNameEnd old new fault = ⊥
+
+-- how the source was read, whatever it holds: the file was not opened; or both passes were made, or ended by an error that has
+-- its cause and its place in them; or the names were read too. They read no more than is said here
+pub data IsSummedThrough (limits : Limits) (old : SourceState) (answer : Result ℕ ToolFault) (new : SourceState) : Type 0 where
+  refused : (fault : OpenFault) → IsRefusedWalker (within_names limits) old fault new → answer ≡ Err (opening_beside (names_held limits) fault)
+      → IsSummedThrough limits old answer new
+  unread : (opened ended : WalkerState) (fault : SummaryFault) → IsNewWalker old All (within_names limits) opened → SpendsPasses 2 1 opened ended
+      → IsSameListing opened.list ended.list → IsCallFault opened.list ended.list fault → answer ≡ Err (summary_told fault) → new ≡ ended.list.source
+      → IsSummedThrough limits old answer new
+  summed : (opened ended : WalkerState) → IsNewWalker old All (within_names limits) opened → SpendsPasses 2 1 opened ended
+      → IsSameListing opened.list ended.list → FetchesAtMost (names_room limits.name) ended.list.source new
+      → IfErr answer (IsNameEnd ended.list.source new) → IsSummedThrough limits old answer new
+
+-- an error but the output's leaves the output as it was
+abbrev pub IsQuietSummary : Result ℕ ToolFault → Type 0 → Type 0
+IsQuietSummary (Ok bad) untouched = Unit {0}
+IsQuietSummary (Err tool.Out) untouched = Unit {0}
+IsQuietSummary (Err fault) untouched = untouched

@@ -1,0 +1,124 @@
+//! The command `summary`.
+ghost use Rattle.std.specs.Prelude.{◌≡◌, ◌+◌, ◌*◌, ℕ, List, Some, None, false, IfErr, IfOk, MatchResult};
+ghost use Rattle.mdmp_source.specs.Output.{Puts};
+ghost use Rattle.mdmp_source.specs.Source.{FetchesAtMost};
+ghost use Rattle.mdmp_source.specs.Store.{IsGood};
+ghost use Rattle.mdmp_summary_lines.specs.SummaryText.{summary_text};
+ghost use Rattle.mdmp_engines.specs.Causes.{HasOutCause, IsNoSourceFault};
+ghost use Rattle.mdmp_engines.specs.Engines.{ReadsSource};
+ghost use Rattle.mdmp_engines.specs.KeptNames.{kept_names, names_room};
+ghost use Rattle.mdmp_engines.specs.SummaryRuns.{IsNameEnd, IsPrintedOrUnread, IsQuietSummary, IsSummedThrough, Summarizes, summary_told};
+
+use crate::engine::refused_beside;
+use crate::fault::{ToolFault, told_list, told_opening};
+use crate::kept_name::{KeptNames, read_names};
+use crate::outcome::Outcome;
+use mdmp_lister::{Choice, Limits, Walker};
+use mdmp_print::Printer;
+use mdmp_source::{OutFailed, Source, Store};
+use mdmp_summary::{FileSummary, SummaryFault, summarize_listing};
+use mdmp_summary_lines::print_summary;
+use std::alloc::Allocator;
+
+/// The error of a summary, as a command tells it.
+fn told_summary(fault: SummaryFault) -> ToolFault
+    ensures { result ≡ summary_told fault }
+{
+    match fault {
+        SummaryFault::Opening(fault) => told_opening(fault),
+        SummaryFault::List(fault) => told_list(fault),
+        SummaryFault::Source(fault) => ToolFault::Source(fault),
+    }
+}
+
+/// Prints the summary of a file, whose first line begins with the file's name `file`, and hands the source back.
+/// The answer is how many entries are bad.
+///
+/// All is read before the first byte is printed. Beside the window, the directory and a name it holds three names.
+/// Both passes count against the read limit; at most 272 bytes of a context and three names are read outside the
+/// listing.
+pub fn summary_source<S: Store + Drop, A: Allocator + Copy, O: Printer>(
+    alloc: A,
+    source: Source<S>,
+    limits: Limits,
+    file: &[u8],
+    out: &mut O,
+) -> Outcome<Result<u64, ToolFault>, S>
+    ensures summarizes { (bytes : List ℕ) → source.store.content ≡ Some bytes → Summarizes file.now bytes limits (O.state out.old) result.answer (O.state out.new) }
+    ensures good { (bytes : List ℕ) → IsGood source.store bytes → IsNoSourceFault result.answer }
+    ensures through { IsSummedThrough limits source result.answer result.source }
+    ensures reads { ReadsSource source result.answer result.source }
+    ensures quiet { IsQuietSummary result.answer (O.state out.new ≡ O.state out.old) }
+    ensures out_cause { HasOutCause (O.state out.old) result.answer (O.state out.new) }
+{
+    let beside = 3 * u64::from(limits.name);
+    let mut walker = match Walker::open(alloc, source, limits.leave_memory(beside), Choice::All) {
+        Ok(walker) => walker,
+        Err(refused) => {
+            return Outcome {
+                answer: Err(refused_beside(refused.fault, beside)),
+                source: refused.source,
+            };
+        }
+    };
+    match summarize_listing(&mut walker) {
+        Ok(summary) => print_told(
+            alloc,
+            walker.into_source(),
+            limits.name,
+            file,
+            &summary,
+            out,
+        ),
+        Err(fault) => Outcome {
+            answer: Err(told_summary(fault)),
+            source: walker.into_source(),
+        },
+    }
+}
+
+/// Reads the names that a summary tells, and prints its lines.
+fn print_told<S: Store + Drop, A: Allocator + Copy, O: Printer>(
+    alloc: A,
+    source: Source<S>,
+    limit: u32,
+    file: &[u8],
+    summary: &FileSummary,
+    out: &mut O,
+) -> Outcome<Result<u64, ToolFault>, S>
+    ensures told { (bytes : List ℕ) → source.store.content ≡ Some bytes → IsPrintedOrUnread file.now bytes limit summary.now (O.state out.old) result.answer (O.state out.new) }
+    ensures good { (bytes : List ℕ) → IsGood source.store bytes → IsNoSourceFault result.answer }
+    ensures fetches { FetchesAtMost (names_room limit) source result.source }
+    ensures end { IfErr result.answer (IsNameEnd source result.source) }
+    ensures quiet { IsQuietSummary result.answer (O.state out.new ≡ O.state out.old) }
+    ensures out_cause { HasOutCause (O.state out.old) result.answer (O.state out.new) }
+{
+    let mut source = source;
+    let names = match read_names(alloc, &mut source, summary, limit) {
+        Ok(names) => names,
+        Err(fault) => {
+            return Outcome {
+                answer: Err(fault),
+                source,
+            };
+        }
+    };
+    let answer = print_named(file, summary, &names, out);
+    Outcome { answer, source }
+}
+
+/// Prints the lines of a summary with these names, and answers how many entries are bad.
+fn print_named<A: Allocator, O: Printer>(
+    file: &[u8],
+    summary: &FileSummary,
+    names: &KeptNames<A>,
+    out: &mut O,
+) -> Result<u64, ToolFault>
+    ensures text { Puts result (O.state out.old) (summary_text file.now summary.now (kept_names names.now)) (O.state out.new) }
+    ensures answer { MatchResult result (λ bad. bad ≡ summary.now.bad.count) (λ fault. fault ≡ ToolFault.Out) }
+{
+    match print_summary(file, summary, &names.lend(), out) {
+        Ok(()) => Ok(summary.bad.count),
+        Err(OutFailed) => Err(ToolFault::Out),
+    }
+}
