@@ -20,11 +20,11 @@ _mdmp() {
     esac
     local words= limits='--window --name --budget --memory --untrusted --help'
     case $command in
-        '') words='check list hex copy help --help --version' ;;
-        help) ((place == 0)) && words='check list hex copy' ;;
+        '') words='summary check list hex copy help --help --version' ;;
+        help) ((place == 0)) && words='summary check list hex copy' ;;
         check) words="--parts --json $limits" ;;
         list) words="--pdb --json --aside $limits" ;;
-        hex | copy) words=$limits ;;
+        summary | hex | copy) words=$limits ;;
     esac
     if [[ $word == -* || -z $command || $command == help ]]; then
         mapfile -t COMPREPLY < <(compgen -W "$words" -- "$word")

@@ -29,6 +29,8 @@ from mdmp._library import library
 FOLDER = pathlib.Path(os.environ["MDMP_STORED"])
 KINDS = FOLDER / "llvm-all-kinds.dmp"
 CRASHPAD = FOLDER / "crashpad-one.dmp"
+# What the command prints, beside the folder of these tests.
+SUMMARIES = pathlib.Path(__file__).resolve().parent.parent / "summaries"
 
 
 class Layout(unittest.TestCase):
@@ -351,6 +353,15 @@ class Command(unittest.TestCase):
             status, out, err = self.run_command("summary", cut.name)
             first = "entry 7: stream outside the file: offset 1321 size 14"
             self.assertEqual((status, out.splitlines()[-1], err), (1, f"  file damaged, 4 bad entries: {first}", ""))
+
+    def test_summaries_are_those_of_the_command(self) -> None:
+        stored = sorted(SUMMARIES.glob("*.txt"))
+        self.assertGreater(len(stored), 7)
+        for path in stored:
+            with self.subTest(path.name):
+                name = f"{path.stem}.dmp"
+                told = path.read_text(encoding="utf-8").replace(name, str(FOLDER / name), 1)
+                self.assertEqual(self.run_command("summary", str(FOLDER / name))[1:], (told, ""))
 
     def test_summary_of_a_file_whose_name_is_no_text(self) -> None:
         with tempfile.TemporaryDirectory() as folder:

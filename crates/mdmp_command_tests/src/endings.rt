@@ -26,7 +26,46 @@ const UNKNOWN: Ending<'static> = (0, "0x0000000000000010: ?? ??\n", "");
 /// The words of a copy.
 const COPY: CommandCall<'static> = CommandCall::Line(&["copy", "system.dmp", "copy.dmp", "7"]);
 
-const ROWS: [EndingRow<'static>; 23] = [
+/// The summary of the file with a system.
+pub const SYSTEM_SUMMARY: &str = "system.dmp: no crash
+  system Windows 6.1.7601, x64, processors 4
+  written not set
+  streams 1 threads 0 modules 0 exceptions 0 ranges 0 memory 0
+  file good\n";
+
+/// The summary of the file with faults.
+const FAULTY_SUMMARY: &str = "faulty.dmp: no crash
+  system Win32s 0.0.0, x86, processors 0
+  written not set
+  streams 3 threads 0 modules 0 exceptions 0 ranges 0 memory 0
+  file damaged, 2 bad entries: entry 1 item 0: name length outside the file: offset 4294967295 size 4\n";
+
+const ROWS: [EndingRow<'static>; 27] = [
+    (
+        CommandCall::Line(&["summary", "system.dmp"]),
+        (0, SYSTEM_SUMMARY, ""),
+        None,
+        (1, 0, 0),
+    ),
+    // Entries are bad: the summary says so, and the status.
+    (
+        CommandCall::Line(&["summary", "faulty.dmp"]),
+        (1, FAULTY_SUMMARY, ""),
+        None,
+        (1, 0, 0),
+    ),
+    (
+        CommandCall::Line(&["summary", "empty.dmp"]),
+        (1, "", "mdmp: empty.dmp: file of 0 bytes is too short\n"),
+        None,
+        (1, 0, 0),
+    ),
+    (
+        CommandCall::Line(&["summary", "other.dmp"]),
+        (3, "", "mdmp: cannot open other.dmp\n"),
+        None,
+        (0, 0, 1),
+    ),
     (
         CommandCall::Print(Shown::Verdicts, SmallFile::System),
         (0, "entry 0: ok\n", ""),

@@ -25,6 +25,7 @@ fn form_words(form: LineForm) -> &'static str {
 /// What is to be done, as a text, with the names in brackets.
 fn command_text(rt: &impl Abort, alloc: Global, file: &str, command: &Command<'_>) -> String {
     let text = match command {
+        Command::Summary => format!(in alloc; "summary [{file}]"),
         Command::Check { form, parts } => {
             let form = form_words(*form);
             let looked_at = if *parts { " parts" } else { "" };
@@ -96,7 +97,8 @@ const USUAL: &str = " within 65536 4096 Some(18446744073709551615) None None";
 const STRANGERS: &str = " within 65536 4096 Some(67108864) Some(67108864) Some(67108864)";
 
 /// Commands, and what is done with names, which are kept as they are.
-const COMMANDS: [AskedRow<'static>; 19] = [
+const COMMANDS: [AskedRow<'static>; 20] = [
+    (&["summary", "a.dmp"], "summary [a.dmp]", USUAL),
     (&["check", "a.dmp"], "check [a.dmp]", USUAL),
     (&["list", "a.dmp"], "list [a.dmp]", USUAL),
     (&["list", "a.dmp", "--pdb"], "list [a.dmp] pdb", USUAL),

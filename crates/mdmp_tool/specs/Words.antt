@@ -6,7 +6,7 @@ use Rattle.mdmp_source.specs.Output.{OutState, PutsAll, PutsPrefix, unlent}
 use Rattle.mdmp_source.specs.Source.{SourceState}
 use Rattle.mdmp_disk.specs.Disk.{DiskState, FileAt, FileState, IsOpenedFile, IsPresent, KeepsOthers, bytes_of_file, make_counted, open_counted, opened_once, present, open_refused}
 use Rattle.mdmp_lister.specs.declared.limits.Limits.{Limits}
-use Rattle.mdmp_tool.specs.Commands.{HasCheckedSo, HasCopied, HasPrintedMemory, HasPrintedList}
+use Rattle.mdmp_tool.specs.Commands.{HasCheckedSo, HasCopied, HasPrintedMemory, HasPrintedList, HasSummarized}
 use Rattle.mdmp_engines.specs.Copying.{first_not_copied}
 use Rattle.mdmp_engines.specs.Faults.{fault_text, exit_status}
 use Rattle.mdmp_engines.specs.Reports.{IsLineTold}
@@ -121,6 +121,7 @@ pub data EndsCopy (Z : Type 0) (types : List ℕ) (limits : Limits) (file target
   copied : first_not_copied types ≡ None → CopiesTo Z types limits file target disk before status after → EndsCopy Z types limits file target disk before status after
 
 abbrev pub EndsCommand : Type 0 → Command → Limits → List ℕ → DiskChange → Outputs → ℕ → Outputs → Type 0
+EndsCommand Z commands.Summary limits file disk before status after = EndsPrint (HasSummarized file limits) file disk before status after
 EndsCommand Z (commands.Check form parts) limits file disk before status after = EndsPrint (HasCheckedSo parts form limits) file disk before status after
 EndsCommand Z (commands.List form pdb) limits file disk before status after = EndsPrint (HasPrintedList form pdb limits) file disk before status after
 EndsCommand Z (commands.Hex span) limits file disk before status after = EndsPrint (HasPrintedMemory span limits) file disk before status after

@@ -1,8 +1,10 @@
 //! Commands over a source: what they print or copy, what they report, and their exit status.
 ghost use Rattle.std.specs.Prelude.{◌≡◌, []};
-ghost use Rattle.mdmp_tool.specs.Commands.{HasCopied, HasRunThrough};
+ghost use Rattle.mdmp_tool.specs.Commands.{HasCopied, HasRunThrough, HasSummarized};
 
-use mdmp_engines::{Engine, Outcome, copy_source, report, run_in_blocks};
+use mdmp_engines::{
+    Engine, Outcome, copy_source, report, report_summary, run_in_blocks, summary_source,
+};
 use mdmp_lister::{Limits, TypeSet};
 use mdmp_print::LineOut;
 use mdmp_source::{Out, Source, Store};
@@ -27,6 +29,25 @@ pub fn print_and_report<E: Engine, S: Store + Drop, A: Allocator + Copy, O: Out,
     let Outcome { answer, source } = run_in_blocks(engine, alloc, source, limits, blocks);
     Outcome {
         answer: E::report(answer, err),
+        source,
+    }
+}
+
+/// Prints the summary of a source to `out`, and reports an error to `err`. The first line begins with `file`, the
+/// file's name. The answer is the exit status, as [`print_and_report`] says; it is 1 if entries are bad.
+pub fn summarize_and_report<S: Store + Drop, A: Allocator + Copy, O: Out, W: Out>(
+    alloc: A,
+    file: &[u8],
+    source: Source<S>,
+    limits: Limits,
+    out: &mut O,
+    err: &mut W,
+) -> Outcome<u8, S>
+    ensures { HasSummarized file.now limits source (O.state out.old) (W.state err.old) result.answer result.source (O.state out.new) (W.state err.new) }
+{
+    let Outcome { answer, source } = summary_source(alloc, source, limits, file, out);
+    Outcome {
+        answer: report_summary(answer, file, err),
         source,
     }
 }

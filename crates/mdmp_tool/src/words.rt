@@ -3,12 +3,12 @@ ghost use Rattle.std.specs.Prelude.{codes, ◌≡◌, ◌≤◌, ◌⊎◌, ◌�
 ghost use Rattle.std.specs.List.{concat};
 ghost use Rattle.mdmp_source.specs.Output.{OutState};
 ghost use Rattle.mdmp_engines.specs.Reports.{IsLineTold};
-ghost use Rattle.mdmp_tool.specs.Commands.{HasCheckedSo, HasRunThrough};
+ghost use Rattle.mdmp_tool.specs.Commands.{HasCheckedSo, HasRunThrough, HasSummarized};
 ghost use Rattle.mdmp_disk.specs.System.{no_requests, system};
 ghost use Rattle.mdmp_disk.specs.declared.disk.Requests.{Requests};
 ghost use Rattle.mdmp_tool.specs.Words.{EndsCopy, EndsPrint, EndsWords, Helps, HelpsInPart};
 
-use crate::running::{copy_and_report, print_and_report};
+use crate::running::{copy_and_report, print_and_report, summarize_and_report};
 use mdmp_disk::{Disk, SystemDisk};
 use mdmp_engines::{
     CheckEngine, CheckPartsEngine, Engine, HexEngine, ListEngine, ToolFault, first_not_copied,
@@ -37,14 +37,15 @@ pub fn run_words<R: Files + AllocGlobal, A: Allocator + Copy, O: Out, E: Out>(
     run_on_disk(rt, &mut SystemDisk::new(rt), alloc, words, out, err)
 }
 
-/// Runs the command that the words after the program's name ask for: `check FILE [--parts] [--json]`,
+/// Runs the command that the words after the program's name ask for: `summary FILE`,
+/// `check FILE [--parts] [--json]`,
 /// `list FILE [--pdb] [--json] [--aside N]`, `hex FILE ADDRESS LENGTH` or `copy IN OUT TYPE...`. Each takes
 /// `--window N`, `--name N`, `--budget N`, `--memory N` and `--untrusted`. All words are judged before a file is
 /// opened. `copy` creates OUT, which must not exist; after an error OUT stays, empty or partly written. No other
 /// file changes.
 ///
 /// It writes the lines, or the help that was asked for, to `out`, and the line of an error to `err`. It returns
-/// the exit status: 0 on success; 1 for an error in the file, for `check` in any entry; 2 for a bad command line,
+/// the exit status: 0 on success; 1 for an error in the file, for `summary` and `check` in any entry; 2 for a bad command line,
 /// or a type that is not copied; 3 for an I/O error, if memory runs out, if a limit is reached, or if a file
 /// can't be opened or created. If `err` refuses, the status is the same.
 pub fn run_on_disk<R: AllocGlobal, D: Disk, A: Allocator + Copy, O: Out, E: Out>(
@@ -63,6 +64,7 @@ pub fn run_on_disk<R: AllocGlobal, D: Disk, A: Allocator + Copy, O: Out, E: Out>
             limits,
             command,
         } => match command {
+            Command::Summary => summarize_file(disk, alloc, limits, file, out, err),
             Command::Check { form, parts } => {
                 check_file(
                     disk,
@@ -181,6 +183,24 @@ fn print_file<E: Engine, D: Disk, A: Allocator + Copy, O: Out, W: Out>(
     // The loan comes back for the prover alone: what was printed is what `out` took.
     let _out = blocks.into_inner();
     status
+}
+
+/// Prints the summary of the file of this name.
+fn summarize_file<D: Disk, A: Allocator + Copy, O: Out, W: Out>(
+    disk: &mut D,
+    alloc: A,
+    limits: Limits,
+    file: &str,
+    out: &mut O,
+    err: &mut W,
+) -> u8
+    ensures { EndsPrint (HasSummarized file.now limits) file.now (record { old = D.state disk.old; new = D.state disk.new })
+        (record { out = O.state out.old; err = W.state err.old }) result (record { out = O.state out.new; err = W.state err.new }) }
+{
+    let Ok(store) = disk.open(file) else {
+        return refuse_name(b"cannot open ", file, err);
+    };
+    summarize_and_report(alloc, file.as_bytes(), Source::new(store), limits, out, err).answer
 }
 
 /// Copies the streams of these types out of one file into another, which is made.

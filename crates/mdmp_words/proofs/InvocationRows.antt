@@ -5,7 +5,7 @@ use Rattle.clap.specs.declared.error.kind.ErrorKind.TheVariants.{DisplayHelp, Di
 use Rattle.clap.proofs.OnLiterals.{clap_on_literals}
 use Rattle.mdmp_print.specs.declared.form.LineForm.TheVariants as forms
 use Rattle.mdmp_words.specs.OptionWords.{Sizes}
-use Rattle.mdmp_words.specs.Invocations.{Plain, PlainCommand, check, copy, faults, hex, list, request_named}
+use Rattle.mdmp_words.specs.Invocations.{Plain, PlainCommand, check, copy, faults, hex, list, request_named, summary}
 
 -- the limits without an option
 abbrev usual : Sizes
@@ -35,6 +35,10 @@ check-request = refl
 check-faults : faults check_words ≡ []
 unfolding clap_on_literals faults
 check-faults = refl
+
+summary-request : request_named (codes "summary" ∷ codes "--untrusted" ∷ codes "a.dmp" ∷ []) ≡ within (codes "a.dmp") untrusted summary
+unfolding clap_on_literals request_named
+summary-request = refl
 
 list-request : request_named (codes "list" ∷ codes "a.dmp" ∷ []) ≡ over (codes "a.dmp") 65536 4096 (list forms.Text false)
 unfolding clap_on_literals request_named

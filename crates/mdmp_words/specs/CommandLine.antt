@@ -40,6 +40,10 @@ limited made = fold with_rule made limit_options
 abbrev pub command : Text → List Rule → Shape
 command name rules = (limited (fold with_rule (new_app name) rules)).top
 
+-- `summary FILE`
+abbrev pub summary_command : Shape
+summary_command = command (codes "summary") (word (codes "FILE") ∷ [])
+
 -- `check FILE [--parts] [--json]`
 abbrev pub check_command : Shape
 check_command = command (codes "check") (word (codes "FILE") ∷ flag (codes "parts") ∷ flag (codes "json") ∷ [])
@@ -62,7 +66,7 @@ program = on_top (λ top. record top { no_binary_name = true; has_version = true
 
 -- the program with its commands
 abbrev pub commands : App
-commands = fold with_subcommand program (check_command ∷ list_command ∷ hex_command ∷ copy_command ∷ [])
+commands = fold with_subcommand program (summary_command ∷ check_command ∷ list_command ∷ hex_command ∷ copy_command ∷ [])
 
 -- an option of the command stands for its subcommands too
 abbrev pub has_globals : Command → Bool

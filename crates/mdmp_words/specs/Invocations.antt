@@ -16,7 +16,7 @@ use Rattle.mdmp_words.specs.declared.number_words.Span.{Span}
 use Rattle.mdmp_words.specs.declared.invocation.Invocation.{Invocation}
 use Rattle.mdmp_words.specs.declared.invocation.Invocation.TheVariants.{Run, Help, Refused, InvalidValue, Memory}
 use Rattle.mdmp_words.specs.declared.invocation.Command.{Command}
-use Rattle.mdmp_words.specs.declared.invocation.Command.TheVariants.{Check, List as Listing, Hex, Copy}
+use Rattle.mdmp_words.specs.declared.invocation.Command.TheVariants.{Summary, Check, List as Listing, Hex, Copy}
 use Rattle.mdmp_print.specs.declared.form.LineForm.{LineForm}
 use Rattle.mdmp_print.specs.declared.form.LineForm.TheVariants as forms
 
@@ -24,6 +24,7 @@ use Rattle.mdmp_print.specs.declared.form.LineForm.TheVariants as forms
 
 -- what is done with a file
 pub data PlainCommand : Type 0 where
+  summary : PlainCommand
   check : LineForm → Bool → PlainCommand
   list : LineForm → Bool → PlainCommand
   hex : Span → PlainCommand
@@ -36,6 +37,7 @@ pub record Plain : Type 0 where
   pub command : PlainCommand
 
 abbrev pub plain_command : Command → PlainCommand
+plain_command Summary = summary
 plain_command (Check form parts) = check form parts
 plain_command (Listing form pdb) = list form pdb
 plain_command (Hex span) = hex span
@@ -80,6 +82,9 @@ named_over rows id command =
 abbrev pub form_named : List Row → LineForm
 form_named rows = if is_set rows (codes "json") then forms.Json else forms.Text
 
+abbrev pub summary_named : List Row → Option Plain
+summary_named rows = named_over rows (codes "FILE") summary
+
 -- the parts that lie outside are told where the flag is set
 abbrev pub check_named : List Row → Option Plain
 check_named rows = named_over rows (codes "FILE") (check (form_named rows) (is_set rows (codes "parts")))
@@ -109,7 +114,8 @@ copy_named rows =
 -- the request that the words of the command of this name ask for
 abbrev pub request_by : Text → List Row → Option Plain
 request_by name rows =
-    if bytes_eq name (codes "check") then check_named rows
+    if bytes_eq name (codes "summary") then summary_named rows
+    else if bytes_eq name (codes "check") then check_named rows
     else if bytes_eq name (codes "list") then list_named rows
     else if bytes_eq name (codes "hex") then hex_named rows
     else if bytes_eq name (codes "copy") then copy_named rows
@@ -152,6 +158,7 @@ AsksFor words Memory = Unit {0}
 
 -- the addresses whose bytes are to be printed are not too many, and pass no last address
 abbrev pub IsCommandWithin : Command → Type 0
+IsCommandWithin Summary = Unit {0}
 IsCommandWithin (Check form parts) = Unit {0}
 IsCommandWithin (Listing form pdb) = Unit {0}
 IsCommandWithin (Hex span) = (span.length ≤ length_limit) × (span.address + span.length ≤ address_end)

@@ -3,7 +3,7 @@ ghost use Rattle.std.specs.Prelude.{◌≡◌, [], IfSome, map, option_map, opti
 ghost use Rattle.clap.specs.Words.{all_of, first_of, found_of, rows_of, subcommand_rows_of};
 ghost use Rattle.clap.specs.Values.{kind_of};
 ghost use Rattle.mdmp_words.specs.OptionWords.{texts_of};
-ghost use Rattle.mdmp_words.specs.Invocations.{AsksFor, AsksIn, AsksNothing, IsRunWithin, IsTextOf, IsCommandWithin, IsValid, check_named, copy_named, form_named, hex_named, is_set, limit_texts, list_named, named_over, plain_command, plain_run, request_by};
+ghost use Rattle.mdmp_words.specs.Invocations.{AsksFor, AsksIn, AsksNothing, IsRunWithin, IsTextOf, IsCommandWithin, IsValid, check_named, copy_named, form_named, hex_named, is_set, limit_texts, list_named, named_over, plain_command, plain_run, request_by, summary_named};
 
 use crate::command_line::command_line;
 use crate::invocation::{Command, Invocation};
@@ -73,12 +73,20 @@ fn named_invocation<'a>(name: &str, matches: &ArgMatches<'a>) -> Option<Invocati
     ensures within { IfSome result IsRunWithin }
 {
     match name {
+        "summary" => summary_invocation(matches),
         "check" => check_invocation(matches),
         "list" => list_invocation(matches),
         "hex" => hex_invocation(matches),
         "copy" => copy_invocation(matches),
         _ => None,
     }
+}
+
+fn summary_invocation<'a>(matches: &ArgMatches<'a>) -> Option<Invocation<'a>>
+    ensures named { option_and_then plain_run result ≡ summary_named (rows_of (found_of matches.now)) }
+    ensures within { IfSome result IsRunWithin }
+{
+    invocation_over(matches, "FILE", Command::Summary)
 }
 
 fn check_invocation<'a>(matches: &ArgMatches<'a>) -> Option<Invocation<'a>>

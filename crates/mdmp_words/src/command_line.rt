@@ -1,7 +1,7 @@
 //! The commands and their words, as `clap` reads them. It takes its memory from `Global` alone.
 ghost use Rattle.std.specs.Prelude.{◌≡◌, IfOk, false};
 ghost use Rattle.clap.specs.Words.{App, Rule, Shape, app_of, new_app, rule_of, shape_of, with_rule, with_subcommand};
-ghost use Rattle.mdmp_words.specs.CommandLine.{IsCommand, check_command, commands, copy_command, flag, has_globals, hex_command, limited, list_command, number_option, program, word, words};
+ghost use Rattle.mdmp_words.specs.CommandLine.{IsCommand, check_command, commands, copy_command, flag, has_globals, hex_command, limited, list_command, number_option, program, summary_command, word, words};
 
 use crate::help;
 use clap::{Arg, ArgAction, Command};
@@ -11,7 +11,8 @@ use std::alloc::{AllocError, Global};
 pub(crate) fn command_line<'a>(alloc: Global) -> Result<Command<'a>, AllocError>
     ensures { IfOk result (λ made. app_of made ≡ commands) }
 {
-    let made = with_command(program(alloc), check_command(alloc));
+    let made = with_command(program(alloc), summary_command(alloc));
+    let made = with_command(made, check_command(alloc));
     let made = with_command(made, list_command(alloc));
     let made = with_command(made, hex_command(alloc));
     with_command(made, copy_command(alloc))
@@ -57,6 +58,15 @@ fn described<'a>(alloc: Global, name: &'a str, above: &'a str, under: &'a str) -
     ensures { IsCommand (new_app name.entry.now) result }
 {
     Command::new(alloc, name).about(above).after_help(under)
+}
+
+fn summary_command<'a>(alloc: Global) -> Result<Command<'a>, AllocError>
+    ensures shape { IfOk result (λ made. shape_of made ≡ summary_command) }
+    ensures local { IfOk result (λ made. has_globals made ≡ false) }
+{
+    let made = described(alloc, "summary", help::SUMMARY_ABOUT, help::SUMMARY_AFTER);
+    let made = with_arg(Ok(made), word(alloc, "FILE", help::FILE));
+    with_limits(alloc, made)
 }
 
 fn check_command<'a>(alloc: Global) -> Result<Command<'a>, AllocError>

@@ -5,9 +5,9 @@ pub(crate) const VERSION: &str = "0.1.0";
 
 /// What the program is, and what it does not do.
 pub(crate) const ABOUT: &str = "\
-Reads Windows minidumps: lists them, checks them, prints memory of the dumped
-process, and copies streams into a new file. It does not walk stacks, read
-symbols or disassemble, and it never writes to its input.";
+Reads Windows minidumps: says what crashed, lists and checks them, prints memory
+of the dumped process, and copies streams into a new file. It does not walk
+stacks, read symbols or disassemble, and it never writes to its input.";
 
 /// What follows the list of commands.
 pub(crate) const AFTER: &str = "\
@@ -15,14 +15,30 @@ pub(crate) const AFTER: &str = "\
 
 Exit status:
   0  success
-  1  an error in the file; for 'check', in any of its entries
+  1  an error in the file; for 'summary' and 'check', in any of its entries
   2  a bad command line, or a type that is not copied
   3  an I/O error, out of memory, a limit was reached, or a file could not be
      opened or created
 
 Examples:
+  mdmp summary crash.dmp
   mdmp list crash.dmp
   mdmp hex crash.dmp 0x7ffe0000 64";
+
+/// What `summary` does, in a line.
+pub(crate) const SUMMARY_ABOUT: &str =
+    "Prints what crashed and where, and whether the file is good";
+
+/// What `summary` prints.
+pub(crate) const SUMMARY_AFTER: &str = "\
+Prints at most ten lines. The first names the crash, its place and its thread.
+The others have registers, the program, the system, counts, and whether the file
+is good. After an error in an entry, it goes on with the next one: the file is
+damaged then, and the exit status is 1. If parts of records are outside the
+file, the last line says which part is the first.
+
+Example:
+  mdmp summary crash.dmp";
 
 /// What `check` does, in a line.
 pub(crate) const CHECK_ABOUT: &str = "Checks each entry of the directory";

@@ -28,6 +28,8 @@ pub enum Invocation<'a> {
 /// What is done with a file.
 #[derive(Drop)]
 pub enum Command<'a> {
+    /// What crashed, and whether the file is good, is printed.
+    Summary,
     /// It is printed of each entry whether it is good.
     Check {
         /// How the lines are printed.
