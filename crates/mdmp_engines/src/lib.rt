@@ -12,7 +12,10 @@
 //! A [`LineForm`] says whether the lines of `list` and `check` are words or objects of JSON
 //! (`specs/JsonLines.antt` of mdmp_print); all else is the same. [`objects_are_json_texts`] is the law that of any
 //! file these objects are JSON Lines: each is a line of UTF-8 that reads back as it.
-//! A [`ToolFault`] has the exit status of [`status`] and the line of [`fault_line`]; [`report`] writes the line.
+//! [`summary_source`] prints the summary of a dump, by `specs/SummaryText.antt` of mdmp_summary_lines. If a read fails, it
+//! prints nothing.
+//! A [`ToolFault`] has the exit status of [`status`] and the line of [`fault_line`]; [`report`] writes the line, and
+//! [`report_summary`] with the name of the file in front.
 //!
 //! It reads no command line and opens no file.
 #![tactic(auto)]
