@@ -355,8 +355,8 @@ class Command(unittest.TestCase):
             self.assertEqual((status, out.splitlines()[-1], err), (1, f"  file damaged, 4 bad entries: {first}", ""))
 
     def test_summaries_are_those_of_the_command(self) -> None:
-        stored = sorted(SUMMARIES.glob("*.txt"))
-        self.assertGreater(len(stored), 7)
+        stored = [path for path in sorted(SUMMARIES.glob("*.txt")) if (FOLDER / f"{path.stem}.dmp").is_file()]
+        self.assertGreater(len(stored), 5)
         for path in stored:
             with self.subTest(path.name):
                 name = f"{path.stem}.dmp"
