@@ -1,5 +1,5 @@
 -- The hexadecimal digits of a number, the last one first.
-use Rattle.std.proofs.Common.{◌≡◌, ◌∙◌, ◌∷◌, ◌+◌, ◌-◌, ◌/◌, ◌%◌, ◌^◌, ◌<◌, ◌≤◌, ℕ, zero, suc, Bool, true, cond, List, ap, arith, div-lt_iff_lt-mul, eq-eqb, ne_eqb, pow-suc, subst}
+use Rattle.std.proofs.Common.{◌≡◌, ◌∙◌, ◌∷◌, ◌+◌, ◌-◌, ◌/◌, ◌%◌, ◌^◌, ◌<◌, ◌≤◌, ℕ, zero, suc, Bool, cond, List, ap, arith, div-lt_iff_lt-mul, eq-eqb, ne_eqb, pow-suc, subst}
 use Rattle.std.specs.Fmt.{digit_glyph, digits_onto}
 
 -- a number with more than one has room for more
@@ -16,20 +16,21 @@ less-places (suc k) left some room =
     (subst (λ (p : ℕ). left < p) (ap (λ (n : ℕ). 16 ^ n) e ∙ pow-suc 16 (suc k - 1 + 1)) room)
 
 -- the last digit stands before those behind it
-pub onto-more : (first left : ℕ) (behind : List ℕ) → 0 < first → 16 ≤ left
-    → digits_onto (first + 57) 16 true left behind ≡ digits_onto (first - 1 + 57) 16 true (left / 16) (digit_glyph true (left % 16) ∷ behind)
-onto-more first left behind some many =
-    let e : first + 57 ≡ suc (first - 1 + 57) = omega (arith, some) in
-    ap (λ (k : ℕ). digits_onto k 16 true left behind) e
-    ∙ ap (λ (b : Bool). cond b (digit_glyph true (left % 16) ∷ behind) (digits_onto (first - 1 + 57) 16 true (left / 16) (digit_glyph true (left % 16) ∷ behind)))
+pub onto-more : (rest : ℕ) (upper : Bool) (first left : ℕ) (behind : List ℕ) → 0 < first → 16 ≤ left
+    → digits_onto (first + suc rest) 16 upper left behind ≡ digits_onto (first - 1 + suc rest) 16 upper (left / 16) (digit_glyph upper (left % 16) ∷ behind)
+onto-more rest upper first left behind some many =
+    let e : first + suc rest ≡ suc (first - 1 + suc rest) = omega (arith, some) in
+    ap (λ (k : ℕ). digits_onto k 16 upper left behind) e
+    ∙ ap (λ (b : Bool). cond b (digit_glyph upper (left % 16) ∷ behind) (digits_onto (first - 1 + suc rest) 16 upper (left / 16) (digit_glyph upper (left % 16) ∷ behind)))
     (ne_eqb (left / 16) 0 (λ none. omega (arith, none, many)))
 
 -- and the first one before them all
-pub onto-last : (first left : ℕ) (behind : List ℕ) → left < 16 → digits_onto (first + 57) 16 true left behind ≡ digit_glyph true left ∷ behind
-onto-last first left behind few =
-    let e : first + 57 ≡ suc (first + 56) = omega arith in
+pub onto-last : (rest : ℕ) (upper : Bool) (first left : ℕ) (behind : List ℕ) → left < 16
+    → digits_onto (first + suc rest) 16 upper left behind ≡ digit_glyph upper left ∷ behind
+onto-last rest upper first left behind few =
+    let e : first + suc rest ≡ suc (first + rest) = omega arith in
     let same : left % 16 ≡ left = omega (arith, few) in
-    ap (λ (k : ℕ). digits_onto k 16 true left behind) e
-    ∙ ap (λ (b : Bool). cond b (digit_glyph true (left % 16) ∷ behind) (digits_onto (first + 56) 16 true (left / 16) (digit_glyph true (left % 16) ∷ behind)))
+    ap (λ (k : ℕ). digits_onto k 16 upper left behind) e
+    ∙ ap (λ (b : Bool). cond b (digit_glyph upper (left % 16) ∷ behind) (digits_onto (first + rest) 16 upper (left / 16) (digit_glyph upper (left % 16) ∷ behind)))
     (eq-eqb (left / 16) 0 (omega (arith, few)))
-    ∙ ap (λ (d : ℕ). digit_glyph true d ∷ behind) same
+    ∙ ap (λ (d : ℕ). digit_glyph upper d ∷ behind) same

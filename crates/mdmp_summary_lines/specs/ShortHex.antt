@@ -1,5 +1,5 @@
 -- Hexadecimal digits without zeros in front stand in a string as they are.
-use Rattle.std.proofs.Common.{◌≡◌, ◌+◌, ◌%◌, ◌/◌, ◌==◌, ◌++◌, ◌∷◌, ◌<◌, ℕ, zero, suc, List, [], Bool, true, false, cond, refl, ap₂, arith, inl, inr}
+use Rattle.std.proofs.Common.{◌≡◌, ◌+◌, ◌%◌, ◌/◌, ◌==◌, ◌++◌, ◌∷◌, ◌<◌, ℕ, zero, suc, List, [], true, false, cond, refl, ap₂, arith, inl, inr}
 use Rattle.std.proofs.lemmas.Bool.{cases_lt, le-ltb, lt-ltb}
 use Rattle.std.specs.Fmt.{digit_glyph, digits, digits_onto}
 use Rattle.json.specs.Print.{escape, escape_byte}

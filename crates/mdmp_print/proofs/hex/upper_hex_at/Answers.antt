@@ -20,7 +20,7 @@ loop-left-preserved c =
       room = less-places l.first l.left some l.invariant.room;
       written =
           ap (digits_onto (l.first - 1 + 57) 16 true (l.left / 16)) (digit ∙ ap (λ (d : ℕ). d ∷ drop (l.first + 1) l.places) c.hex_digit.ensures)
-          ∙ sym (onto-more l.first l.left (drop (l.first + 1) l.places) some c.loop-left-test.true)
+          ∙ sym (onto-more 56 true l.first l.left (drop (l.first + 1) l.places) some c.loop-left-test.true)
           ∙ l.invariant.written;
     }
 
@@ -31,7 +31,7 @@ returns c =
     let text =
     drop-set_at l.places l.first l.first c.hex_digit-2.result refl (omega (arith, l.invariant.inside, l.invariant.long))
     ∙ ap (λ (d : ℕ). d ∷ drop (l.first + 1) l.places) c.hex_digit-2.ensures
-    ∙ sym (onto-last l.first l.left (drop (l.first + 1) l.places) few)
+    ∙ sym (onto-last 56 true l.first l.left (drop (l.first + 1) l.places) few)
     ∙ l.invariant.written in
     let put = slice_set l.places l.first c.hex_digit-2.result in
     let all = take_all (8 - l.first) (drop l.first put)

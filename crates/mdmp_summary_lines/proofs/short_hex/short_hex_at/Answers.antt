@@ -2,8 +2,7 @@ use Rattle.std.proofs.Common.{◌∙◌, ◌∷◌, ◌+◌, ◌-◌, ◌/◌, �
 use Rattle.std.specs.Fmt.{digits, digits_onto}
 use Rattle.std.proofs.lemmas.Grind.{drop-set_at}
 use Rattle.mdmp_print.proofs.BufferLemmas.{IsPutBehind-as}
-use Rattle.mdmp_print.proofs.Sixteens.{less-places, more-places}
-use Rattle.mdmp_summary_lines.proofs.Sixteens.{onto-last, onto-more}
+use Rattle.mdmp_print.proofs.Sixteens.{less-places, more-places, onto-last, onto-more}
 use Rattle.mdmp_summary_lines.proofs.short_hex.short_hex_at.Goals as goal
 
 pub loop-left-init : goal.loop-left-init
@@ -21,7 +20,7 @@ loop-left-preserved c =
       room = less-places l.first l.left some l.invariant.room;
       written =
           ap (digits_onto (l.first - 1 + 49) 16 false (l.left / 16)) (digit ∙ ap (λ (d : ℕ). d ∷ drop (l.first + 1) l.places) c.hex_digit.ensures)
-          ∙ sym (onto-more l.first l.left (drop (l.first + 1) l.places) some c.loop-left-test.true)
+          ∙ sym (onto-more 48 false l.first l.left (drop (l.first + 1) l.places) some c.loop-left-test.true)
           ∙ l.invariant.written;
     }
 
@@ -32,7 +31,7 @@ returns c =
     let text =
     drop-set_at l.places l.first l.first c.hex_digit-2.result refl (omega (arith, l.invariant.inside, l.invariant.long))
     ∙ ap (λ (d : ℕ). d ∷ drop (l.first + 1) l.places) c.hex_digit-2.ensures
-    ∙ sym (onto-last l.first l.left (drop (l.first + 1) l.places) few)
+    ∙ sym (onto-last 48 false l.first l.left (drop (l.first + 1) l.places) few)
     ∙ l.invariant.written in
     let put = slice_set l.places l.first c.hex_digit-2.result in
     let all = take_all (16 - l.first) (drop l.first put)
