@@ -2,9 +2,9 @@
 //!
 //! [`run_words`] reads the words behind the program's name, by [`invocation_of`] of `mdmp_words`, and runs
 //! the command that they ask for. Under it stands a core over a source and two outputs,
-//! [`print_and_report`], [`summarize_and_report`] and [`copy_and_report`], whose contract says what is written and told, and the exit
-//! status. Under that stand the engines of mdmp_engines, one for each command, which this crate gives out
-//! again: [`run_list`], [`run_check`], [`run_check_parts`], [`run_hex`] and [`run_copy`].
+//! [`print_and_report`], [`summarize_and_report`] and [`copy_and_report`], whose contract says what is
+//! written and told, and the exit status. Under that stand the engines of mdmp_engines, one for each command,
+//! which this crate gives out again: [`run_list`], [`run_check`], [`run_check_parts`], [`run_hex`] and [`run_copy`].
 #![tactic(auto)]
 
 mod program;

@@ -45,9 +45,9 @@ pub fn run_words<R: Files + AllocGlobal, A: Allocator + Copy, O: Out, E: Out>(
 /// file changes.
 ///
 /// It writes the lines, or the help that was asked for, to `out`, and the line of an error to `err`. It returns
-/// the exit status: 0 on success; 1 for an error in the file, for `summary` and `check` in any entry; 2 for a bad command line,
-/// or a type that is not copied; 3 for an I/O error, if memory runs out, if a limit is reached, or if a file
-/// can't be opened or created. If `err` refuses, the status is the same.
+/// the exit status: 0 on success; 1 for an error in the file, for `summary` and `check` in any entry; 2 for a bad
+/// command line, or a type that is not copied; 3 for an I/O error, if memory runs out, if a limit is reached, or
+/// if a file can't be opened or created. If `err` refuses, the status is the same.
 pub fn run_on_disk<R: AllocGlobal, D: Disk, A: Allocator + Copy, O: Out, E: Out>(
     rt: &R,
     disk: &mut D,
