@@ -17,6 +17,10 @@ pub record PaintState : Type 0 where
 abbrev pub is_painted : PaintState → ℕ → Bool
 is_painted s place = get_or s.painted place false
 
+-- each place is
+abbrev pub IsFull : PaintState → Type 0
+IsFull s = (place : ℕ) → place < s.count → is_painted s place ≡ true
+
 -- the range holds the address of the place
 abbrev pub is_held_at : PaintState → Range → ℕ → Bool
 is_held_at s r place = holds (s.start + place) r

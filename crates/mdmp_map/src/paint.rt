@@ -1,7 +1,7 @@
 //! Ranges that are painted onto a block of addresses, one after another.
-ghost use Rattle.std.specs.Prelude.{◌≡◌, ◌≤◌, ◌<◌, ◌+◌, ◌++◌, ◌∷◌, ◌^◌, [], ℕ, IsTrue, List, MatchOption, Some, IfSome, false, length, replicate, slice_index, true};
+ghost use Rattle.std.specs.Prelude.{◌≡◌, ◌≤◌, ◌<◌, ◌+◌, ◌++◌, ◌∷◌, ◌^◌, ◌↔◌, [], ℕ, IsTrue, List, MatchOption, Some, IfSome, false, length, replicate, slice_index, true};
 ghost use Rattle.mdmp_map.specs.declared.range.Range.{Range};
-ghost use Rattle.mdmp_map.specs.Painting.{HoldsFirst, IsPaintOf, IsPaintTo, IsPassed, IsRun, Paints, Skips, is_held_at, is_marked, is_painted};
+ghost use Rattle.mdmp_map.specs.Painting.{HoldsFirst, IsFull, IsPaintOf, IsPaintTo, IsPassed, IsRun, Paints, Skips, is_held_at, is_marked, is_painted};
 ghost use Rattle.mdmp_map.specs.Ranges.{IsPlaced, address_end, first_range, range_end};
 
 use crate::found::ADDRESS_END;
@@ -137,7 +137,7 @@ impl Paint {
 
     /// Whether each place is painted.
     pub fn is_full(&mut self) -> bool
-        ensures full { IsTrue result → (place : ℕ) → place < self.old.count → is_painted self.old place ≡ true }
+        ensures full { IsTrue result ↔ IsFull self.old }
         ensures same { self.new ≡ self.old }
     {
         free_from(&mut self.next, 0) >= self.count
