@@ -17,7 +17,7 @@ use Rattle.mdmp_source.specs.declared.location.Extent.{Extent}
 use Rattle.mdmp_source.specs.declared.location.Extent.TheVariants.{Empty, Absent, Inside, Outside}
 use Rattle.mdmp_source.specs.declared.location.Location.{Location}
 use Rattle.mdmp_lister.specs.Format.Item.{range_extent_of}
-use Rattle.mdmp_dump.specs.declared.fault.PartName.{PartName}
+use Rattle.mdmp_wire.specs.declared.slot.PartName.{PartName}
 use Rattle.mdmp_dump.specs.declared.part.Part.TheVariants as parts
 use Rattle.mdmp_dump.specs.declared.reader.Reader.{Reader}
 use Rattle.mdmp_dump.specs.Part.{part_in}

@@ -22,7 +22,7 @@ use Rattle.mdmp_lister.specs.declared.meter.MeterCounts.{MeterCounts}
 use Rattle.mdmp_lister.specs.declared.position.Position.TheVariants.{Begun, Sought}
 use Rattle.mdmp_lister.specs.declared.step.Step.{Step}
 use Rattle.mdmp_lister.specs.Format.Item.{plain}
-use Rattle.mdmp_lister.specs.Format.Kind.{is_known, kind_of}
+use Rattle.mdmp_lister.specs.Format.Kind.{is_known}
 use Rattle.mdmp_lister.specs.Format.Listing.{Numbered, Run, chosen_from, count_listed, entry_of, listing_sought, only_chosen, records_told, stream_item}
 use Rattle.mdmp_lister.specs.Format.Numbers.{is_listed}
 use Rattle.mdmp_lister.specs.Format.Shape.{record_count}
@@ -38,7 +38,7 @@ use Rattle.mdmp_dump.specs.EntryWalk.{Begins, IsSameWalk, Pays, WalkState, chose
 use Rattle.mdmp_dump.specs.FileRefusal.{IsUnbudgeted}
 use Rattle.mdmp_dump.specs.Left.{left_from, run_of}
 use Rattle.mdmp_dump.specs.Reading.{IsLastTold, store_fault_in}
-use Rattle.mdmp_dump.specs.Walking.{IsFar, IsKept, bytes_allowed, current_entry, ended_with, left_by, lists_memory64, records_to_give, state_of}
+use Rattle.mdmp_dump.specs.Walking.{IsKept, bytes_allowed, current_entry, ended_with, left_by, records_to_give, state_of}
 use Rattle.mdmp_dump.proofs.Costs.{unlisted_cost}
 use Rattle.mdmp_dump.proofs.Left.{begun}
 use Rattle.mdmp_dump.proofs.Taking.{FetchesSome_none, FetchesSome_then, Fetches_only, fetches_err}
@@ -340,10 +340,6 @@ step_stopped mid new f step =
     let stop = (subst (λ (a : Result (Option Item) ListFault). WalkerLeaves mid a new) step.told step.leaves).list.stands.stop in
     left_stopped new.list.passed new.list.stop (Some f) new.list.records stop
 
--- so nothing is said of them
-pub far_stopped : (v : ListerState) (far : Bool) → records_to_give v ≡ 0 → IsFar v far
-far_stopped v far none some = absurd (omega (arith, none, some))
-
 -- ---- its records are counted
 
 told_count : (e : ℕ) (r : Result ℕ Fault) (count : ℕ) → count_listed e r ≡ Ok count → r ≡ Ok count
@@ -516,6 +512,3 @@ module _ (x : Numbered) (old mid new : WalkerState) (kept : IsKept old) (at : Is
       failed = ap ended_with counts.stop;
       repeats = λ fault told. never x old mid new kept at (Err f) counts stream is fresh fault told;
     }
-
-  pub far_counted : (result : Result ℕ ListFault) → CountsRecords mid result new → IsFar new.list (lists_memory64 (kind_of x.entry.stream_type))
-  far_counted result counts some = ap (λ (e : Entry). lists_memory64 (kind_of e.stream_type)) (sym (counts.current ∙ at.current))

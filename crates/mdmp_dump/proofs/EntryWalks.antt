@@ -82,17 +82,16 @@ module _ (source : SourceState) (choice : Choice) (limits : Limits) (new lifted 
         unsought = λ some. absurd (omega (arith, some, unbegun));
       }
 
-  pub lifted_stands : (far : Bool) → IsStanding lifted (record { number = 0; stream = 0 }) far
-  lifted_stands far = subst (λ (w : WalkerState). IsStanding w (record { number = 0; stream = 0 }) far) (sym lifted_is) (record {
+  pub lifted_stands : IsStanding lifted (record { number = 0; stream = 0 })
+  lifted_stands = subst (λ (w : WalkerState). IsStanding w (record { number = 0; stream = 0 })) (sym lifted_is) (record {
     kept = lifted_kept;
     stands = record { number = omega arith; behind = refl };
-    told = λ some. absurd (omega (arith, some, unbegun));
   })
 
 -- ---- bytes beside it
 
 -- what is counted aside is nothing to it
-module _ (old : WalkerState) (source : SourceState) (counts : MeterCounts) {calls : ℕ} (n : ℕ) (fetches : FetchesAtMost n old.list.source source) (spends : SpendsAside calls n old.list.counts counts) (place : EntryPlace) (far : Bool) (is : IsStanding old place far) where
+module _ (old : WalkerState) (source : SourceState) (counts : MeterCounts) {calls : ℕ} (n : ℕ) (fetches : FetchesAtMost n old.list.source source) (spends : SpendsAside calls n old.list.counts counts) (place : EntryPlace) (is : IsStanding old place) where
   abbrev aside_state : WalkerState
   aside_state = record old { list = record old.list { source = source; counts = counts } }
 
@@ -107,11 +106,11 @@ module _ (old : WalkerState) (source : SourceState) (counts : MeterCounts) {call
     unsought = is.kept.unsought;
   }
 
-  stands_aside : IsStanding aside_state place far
-  stands_aside = record { kept = kept_aside; stands = record { number = is.stands.number; behind = is.stands.behind }; told = is.told }
+  stands_aside : IsStanding aside_state place
+  stands_aside = record { kept = kept_aside; stands = record { number = is.stands.number; behind = is.stands.behind } }
 
-pub stands_beside : {T : Type 0} {calls : ℕ} (old new : WalkerState) (n : ℕ) (result : Result T SourceFault) (place : EntryPlace) (far : Bool) → ReadsAside calls n result old.list new.list → new ≡ record old { list = new.list }
-    → IsStanding old place far → IsStanding new place far
-stands_beside old new n result place far reads same is =
-    let all : new ≡ aside_state old new.list.source new.list.counts n reads.fetches reads.aside place far is = same ∙ ap (λ (l : ListerState). record old { list = l }) reads.same in
-    subst (λ (w : WalkerState). IsStanding w place far) (sym all) (stands_aside old new.list.source new.list.counts n reads.fetches reads.aside place far is)
+pub stands_beside : {T : Type 0} {calls : ℕ} (old new : WalkerState) (n : ℕ) (result : Result T SourceFault) (place : EntryPlace) → ReadsAside calls n result old.list new.list → new ≡ record old { list = new.list }
+    → IsStanding old place → IsStanding new place
+stands_beside old new n result place reads same is =
+    let all : new ≡ aside_state old new.list.source new.list.counts n reads.fetches reads.aside place is = same ∙ ap (λ (l : ListerState). record old { list = l }) reads.same in
+    subst (λ (w : WalkerState). IsStanding w place) (sym all) (stands_aside old new.list.source new.list.counts n reads.fetches reads.aside place is)

@@ -1,59 +1,45 @@
--- The record of an item that was read with the limit 0, kind by kind.
-use Rattle.std.proofs.Common.{true, false, ◌≡◌, ◌<◌, ◌+◌, ◌^◌, ℕ, zero, suc, List, [], ◌∷◌, ◌++◌, length, get_or, Some, None, Result, Ok, Err, ap, refl, subst}
-use Rattle.mdmp_source.specs.Extent.{extent_of}
+-- A record that was read with the limit 0: what is found behind its slots.
+use Rattle.std.proofs.Common.{◌≡◌, ◌∙◌, ◌<◌, ◌+◌, ◌^◌, ℕ, zero, suc, List, [], ◌∷◌, ◌++◌, length, map, get_or, Option, Some, None, Result, Ok, Err, ap, append-nil, arith, refl, subst, sym}
+use Rattle.std.specs.Prelude.{IfErr}
 use Rattle.mdmp_source.specs.Range.{bytes_at}
-use Rattle.mdmp_wire.specs.AnyRecord.{name_rva}
-use Rattle.mdmp_wire.specs.Descriptor.{descriptor_at}
-use Rattle.mdmp_wire.specs.Descriptor64.{descriptor64_at}
-use Rattle.mdmp_wire.specs.Number.{array_at}
-use Rattle.mdmp_wire.specs.NumberBounds.{number_at-lt}
-use Rattle.mdmp_lister.specs.declared.item.RangeItem.{RangeItem}
-use Rattle.mdmp_dump.proofs.Laid.{range_inside}
-use Rattle.mdmp_dump.proofs.Limits.{name_low, range_absent}
-use Rattle.mdmp_dump.proofs.Unrefused.{part_given}
-use Rattle.mdmp_dump.proofs.Within.Part.{length-array_at}
-use Rattle.mdmp_wire.specs.Exception.{exception_at}
-use Rattle.mdmp_wire.specs.MemoryInfo.{memory_info_at}
-use Rattle.mdmp_wire.specs.Module.{module_at}
-use Rattle.mdmp_wire.specs.System.{system_at}
-use Rattle.mdmp_wire.specs.Thread.{thread_at}
-use Rattle.mdmp_wire.specs.ThreadName.{thread_name_at}
-use Rattle.mdmp_wire.specs.Unloaded.{unloaded_at}
+use Rattle.mdmp_source.specs.Store.{AreBytes}
+use Rattle.mdmp_wire.specs.AnyRecord.{bare, bare_slot, name_rva, slot_at, slot_name, slots_of, with_slots}
+use Rattle.mdmp_wire.specs.Units.{units_over}
 use Rattle.mdmp_wire.specs.declared.any_record.AnyRecord.{AnyRecord}
+use Rattle.mdmp_wire.specs.declared.any_record.AnyRecord.TheVariants as any
+use Rattle.mdmp_wire.specs.declared.slot.Slot.{Slot}
+use Rattle.mdmp_wire.specs.declared.slot.Slot.TheVariants as slots
 use Rattle.mdmp_lister.specs.declared.fault.Fault.{Fault}
+use Rattle.mdmp_lister.specs.declared.fetching.NameRead.{NameRead}
+use Rattle.mdmp_lister.specs.declared.fetching.NameRead.TheVariants as read
 use Rattle.mdmp_lister.specs.declared.item.Item.{Item}
 use Rattle.mdmp_lister.specs.declared.item.Item.TheVariants as items
-use Rattle.mdmp_lister.specs.declared.item.ExceptionItem.{ExceptionItem}
-use Rattle.mdmp_lister.specs.declared.item.MemoryInfoItem.{MemoryInfoItem}
-use Rattle.mdmp_lister.specs.declared.item.ModuleItem.{ModuleItem}
-use Rattle.mdmp_lister.specs.declared.item.StreamItem.{StreamItem}
-use Rattle.mdmp_lister.specs.declared.item.SystemItem.{SystemItem}
-use Rattle.mdmp_lister.specs.declared.item.ThreadItem.{ThreadItem}
-use Rattle.mdmp_lister.specs.declared.item.ThreadNameItem.{ThreadNameItem}
-use Rattle.mdmp_lister.specs.declared.item.UnloadedItem.{UnloadedItem}
 use Rattle.mdmp_lister.specs.declared.kind.StreamKind.{StreamKind}
-use Rattle.mdmp_lister.specs.Format.Kind.{is_memory64}
 use Rattle.mdmp_lister.specs.declared.kind.StreamKind.TheVariants as kinds
 use Rattle.mdmp_lister.specs.declared.name.Name.{Name}
-use Rattle.mdmp_lister.specs.Format.Item.{exception_item, item_at, memory_info_item, module_item, name_of, named, range64_item, range_extent_of, range_item, range_offset, record_at, system_item, thread_item, thread_name_item, unloaded_item}
-use Rattle.mdmp_lister.specs.Format.Name.{name_at}
-use Rattle.mdmp_source.specs.declared.location.Location.{Location}
-use Rattle.mdmp_source.specs.declared.location.Extent.{Extent}
-use Rattle.mdmp_source.specs.declared.location.Extent.TheVariants.{Absent}
-use Rattle.mdmp_wire.specs.declared.any_record.AnyRecord.TheVariants as any
-use Rattle.mdmp_dump.specs.declared.fault.PartName.{PartName}
-use Rattle.mdmp_dump.specs.declared.fault.PartName.TheVariants.{Stack, Context, CodeView, Misc, Memory}
+use Rattle.mdmp_lister.specs.declared.name.Name.TheVariants as names
+use Rattle.mdmp_lister.specs.declared.step.RecordRead.{RecordRead}
+use Rattle.mdmp_lister.specs.declared.step.Step.TheVariants as step
+use Rattle.mdmp_lister.specs.Format.Item.{item_at, item_of, kind_told, name_of, named, offset_in, plain, range_extent_of, record_at}
+use Rattle.mdmp_lister.specs.Format.Name.{name_at, plain_name}
+use Rattle.mdmp_lister.specs.Step.{IsNameOf, IsNameTold, IsStepOf, TellsItem}
+use Rattle.mdmp_wire.specs.declared.slot.PartName.TheVariants.{Memory}
 use Rattle.mdmp_dump.specs.declared.fault.ReadFault.{ReadFault}
+use Rattle.mdmp_dump.specs.declared.found_record.FoundRecord.{FoundRecord}
 use Rattle.mdmp_dump.specs.declared.found_record.PartAt.{PartAt}
 use Rattle.mdmp_dump.specs.declared.view.PartSize.{PartSize}
-use Rattle.mdmp_dump.specs.FoundRecord.{no_part}
+use Rattle.mdmp_dump.specs.declared.view.PartSize.TheVariants.{Size}
 use Rattle.mdmp_dump.specs.FileRefusal.{first_told}
-use Rattle.mdmp_source.specs.Store.{AreBytes}
-use Rattle.mdmp_dump.specs.Finding.{AreHad, FindsName, FindsPart, FindsRange, FindsRecord, IsAt, IsSeenAt, seen_in}
+use Rattle.mdmp_dump.specs.Finding.{AreHad, FindsName, FindsRecord, FindsSeen, FindsSlot, FindsStep, IsAt, IsCountedName, IsFoundInFile, IsFoundInside, IsOfRecord, IsSeenAt, record_steps, seen_in, seen_of, slot_bare, slot_bytes, slot_size, slot_steps}
+use Rattle.mdmp_dump.specs.FoundRecord.{no_part}
 use Rattle.mdmp_dump.specs.Placed.{size_in}
-use Rattle.mdmp_dump.specs.Refusal.{Refuse, ReadStep, Take}
-use Rattle.mdmp_dump.specs.Seen.{nowhere, seen}
+use Rattle.mdmp_dump.specs.Refusal.{Refuse, ReadStep, Take, item_steps}
+use Rattle.mdmp_dump.specs.Seen.{Seen, seen}
 use Rattle.mdmp_dump.specs.TellingLaws.{item_made, made}
+use Rattle.mdmp_dump.proofs.Laid.{range_inside}
+use Rattle.mdmp_dump.proofs.Limits.{long_found, long_refused, none_found, units_found}
+use Rattle.mdmp_dump.proofs.Unrefused.{part_given}
+use Rattle.mdmp_dump.proofs.Within.Part.{length-array_at}
 
 -- ---- steps
 
@@ -102,376 +88,256 @@ module _ (F : List ℕ) (wire : AnyRecord) (a b c : PartSize) (x y z : List ℕ)
     parts = part_at;
   }
 
--- ---- items
+-- ---- a name
 
--- what holds of the item that a record makes with its name holds of that item
-module _ (F : List ℕ) (e k at o : ℕ) (kind : StreamKind) (item : Item) (is : item_at F 0 e k at o kind ≡ Ok item) (P : StreamKind → Item → Type 0) where
-  pub item_case : ((n : Name) → name_of F 0 (name_rva (record_at kind F o)) ≡ Ok n → P kind (made kind F 0 e k at o n)) → P kind item
-  item_case any =
-      let given = item_made kind F 0 e k at o item is in
-      subst (λ (x : Item). P kind x) given.1.1 (any given.0 given.1.0)
+module _ (F : List ℕ) (rva limit e k n : ℕ) (low : rva + 4 < 2 ^ 64) where
+  -- units that were read, or a name that is longer than the limit 0
+  units_answer : (units : List ℕ) → name_at F rva 0 ≡ Ok (names.Units (units_over units)) → length units ≡ n → (result : Result PartAt ReadFault) → IsCountedName limit e k rva n result → FindsName F limit e k rva result
+  units_answer units is len (Ok p) counted =
+      let found = units_found F rva limit e k units is in
+      let part_is : p ≡ record { size = Size (length units); at = rva + 4 } = λ i. record { size = (counted.1.0 ∙ sym (ap Size len)) i; at = counted.1.1 low i } in
+      subst (λ (q : PartAt). FindsName F limit e k rva (Ok q)) (sym part_is) found.1
+  units_answer units is len (Err fault) counted = let none = (units_found F rva limit e k units is).0 in absurd (omega (arith, counted.0, none, len))
 
--- ---- what is found of the parts of an item
+  long_answer : name_at F rva 0 ≡ Ok (names.Long n) → (result : Result PartAt ReadFault) → IsCountedName limit e k rva n result → FindsName F limit e k rva result
+  long_answer is (Ok p) counted =
+      let part_is : p ≡ record { size = Size n; at = rva + 4 } = λ i. record { size = counted.1.0 i; at = counted.1.1 low i } in
+      subst (λ (q : PartAt). FindsName F limit e k rva (Ok q)) (sym part_is) (long_found F rva limit e k n is counted.0)
+  long_answer is (Err fault) counted = subst (λ (f : ReadFault). FindsName F limit e k rva (Err f)) (sym counted.1) (long_refused F rva limit e k n is counted.0)
 
--- a part of an item whose location has this class
-abbrev pub HasPart : ℕ → ℕ → PartName → Location → Extent → Result PartAt ReadFault → Type 0
-HasPart e k part at x result = (F : List ℕ) → extent_of at (length F) ≡ x → FindsPart F e k part at result
+  pub units_told : (name : Name) → IsNameTold (read.Units n) name → name_at F rva 0 ≡ Ok name → (result : Result PartAt ReadFault) → IsCountedName limit e k rva n result → FindsName F limit e k rva result
+  units_told name told is = units_answer told.0 (is ∙ ap Ok told.1.1) told.1.0
 
--- its name
-abbrev pub HasNameIn : ℕ → ℕ → ℕ → Name → ℕ → Result PartAt ReadFault → Type 0
-HasNameIn e k rva name limit result = (F : List ℕ) → name_at F rva 0 ≡ Ok name → FindsName F limit e k rva result
+  pub long_told : (name : Name) → IsNameTold (read.Long n) name → name_at F rva 0 ≡ Ok name → (result : Result PartAt ReadFault) → IsCountedName limit e k rva n result → FindsName F limit e k rva result
+  long_told name told is = long_answer (is ∙ ap Ok told)
 
-module _ (F : List ℕ) (limit e k at o : ℕ) where
-  -- ---- threads
+pub none_told : (F : List ℕ) (rva limit e k : ℕ) (name : Name) → IsNameTold read.None name → name_at F rva 0 ≡ Ok name → FindsName F limit e k rva (Ok no_part)
+none_told F rva limit e k name told is = none_found F rva limit e k (is ∙ ap Ok told)
 
-  abbrev ThreadCase : (StreamKind → ThreadItem → Type 0) → StreamKind → Item → Type 0
-  ThreadCase P kind (items.Thread x) = P kind x
-  ThreadCase P kind item = Unit {0}
+-- ---- slots
 
-  thread_case : (P : StreamKind → ThreadItem → Type 0) → P kinds.Threads (thread_item (length F) e k (thread_at F o)) → (kind : StreamKind) (x : ThreadItem) → item_at F 0 e k at o kind ≡ Ok (items.Thread x) → P kind x
-  thread_case P holds kind x is = item_case F e k at o kind (items.Thread x) is (ThreadCase P) (by kind) where
-    by : (other : StreamKind) (n : Name) → name_of F 0 (name_rva (record_at other F o)) ≡ Ok n → ThreadCase P other (made other F 0 e k at o n)
-    by kinds.Threads n given = holds
-    by other n given = tt
+pub empty_found : (F : List ℕ) → IsFoundInFile F [] no_part.size [] (Ok no_part)
+unfolding first_told
+empty_found F = (refl, nothing_at F)
 
-  abbrev pub thread_wire : ThreadItem → AnyRecord
-  thread_wire x = any.Thread (record x.fields { stack = record x.fields.stack { memory = nowhere }; thread_context = nowhere })
+abbrev IsNameless : Slot → Type 0
+IsNameless (slots.Name rva) = ⊥
+IsNameless slot = Unit {0}
 
-  pub thread_found : (p q : PartAt) (kind : StreamKind) (x : ThreadItem) → item_at F 0 e k at o kind ≡ Ok (items.Thread x)
-      → HasPart x.entry x.index Stack x.fields.stack.memory x.stack (Ok p) → HasPart x.entry x.index Context x.fields.thread_context x.context (Ok q)
-      → FindsRecord F limit e k at o kind (Ok (record { wire = thread_wire x; parts = p ∷ q ∷ no_part ∷ [] }))
-  thread_found p q = thread_case
-      (λ kind x. HasPart x.entry x.index Stack x.fields.stack.memory x.stack (Ok p) → HasPart x.entry x.index Context x.fields.thread_context x.context (Ok q)
-      → FindsRecord F limit e k at o kind (Ok (record { wire = thread_wire x; parts = p ∷ q ∷ no_part ∷ [] })))
-      (λ stack context.
-      let a = stack F refl in
-      let b = context F refl in
-      (items.Thread (thread_item (length F) e k (thread_at F o)), (refl, (both_had _ _ a.0 b.0, seen_at F _ _ _ _ _ _ _ p q no_part a.1 b.1 (nothing_at F)))))
+-- only the first slot of a record is a name
+nameless : (w : AnyRecord) → IsNameless (slot_at w 1) × IsNameless (slot_at w 2)
+nameless (any.Thread r) = (tt, tt)
+nameless _ = (tt, tt)
 
-  pub thread_stack : (fault : ReadFault) (kind : StreamKind) (x : ThreadItem) → item_at F 0 e k at o kind ≡ Ok (items.Thread x)
-      → HasPart x.entry x.index Stack x.fields.stack.memory x.stack (Err fault) → FindsRecord F limit e k at o kind (Err fault)
-  thread_stack fault = thread_case
-      (λ kind x. HasPart x.entry x.index Stack x.fields.stack.memory x.stack (Err fault) → FindsRecord F limit e k at o kind (Err fault))
-      (λ stack. (items.Thread (thread_item (length F) e k (thread_at F o)), (refl, λ own. first_refused _ _ fault (stack F refl own))))
+-- what each has, of the three
+three_of : {X : Type 0} (f : Slot → X) (w : AnyRecord) → map f (slots_of w) ≡ f (slot_at w 0) ∷ f (slot_at w 1) ∷ f (slot_at w 2) ∷ []
+three_of f (any.Thread r) = refl
+three_of f _ = refl
 
-  pub thread_context : (p : PartAt) (fault : ReadFault) (kind : StreamKind) (x : ThreadItem) → item_at F 0 e k at o kind ≡ Ok (items.Thread x)
-      → HasPart x.entry x.index Stack x.fields.stack.memory x.stack (Ok p) → HasPart x.entry x.index Context x.fields.thread_context x.context (Err fault)
-      → FindsRecord F limit e k at o kind (Err fault)
-  thread_context p fault = thread_case
-      (λ kind x. HasPart x.entry x.index Stack x.fields.stack.memory x.stack (Ok p) → HasPart x.entry x.index Context x.fields.thread_context x.context (Err fault)
-      → FindsRecord F limit e k at o kind (Err fault))
-      (λ stack context. (items.Thread (thread_item (length F) e k (thread_at F o)), (refl, λ own. then_refused _ _ fault (stack F refl).0 (context F refl own))))
+module _ (F : List ℕ) (limit : ℕ) (r : RecordRead) where
+  -- what is found behind a slot, with a name under the limit
+  abbrev HasSlot : Name → Slot → Result PartAt ReadFault → Type 0
+  HasSlot m s result = IsFoundInFile F (slot_steps (length F) r.entry r.index r.offset m s) (slot_size F r.offset s) (slot_bytes F r.offset s) result
 
-  -- ---- exceptions
+  slot_other : (m : Name) (s : Slot) → IsNameless s → (result : Result PartAt ReadFault) → FindsSlot F limit r s result → HasSlot m s result
+  slot_other m (slots.Name rva) none result found = absurd none
+  slot_other m slots.Empty none result found = found
+  slot_other m (slots.Part part at) none result found = found
+  slot_other m (slots.Behind n) none result found = found
 
-  abbrev ExceptionCase : (StreamKind → ExceptionItem → Type 0) → StreamKind → Item → Type 0
-  ExceptionCase P kind (items.Exception x) = P kind x
-  ExceptionCase P kind item = Unit {0}
+  slot_first : (name : Name) → IsNameTold r.name name → (s : Slot) → name_of F 0 (slot_name s) ≡ Ok name → (result : Result PartAt ReadFault) → FindsSlot F limit r s result
+      → (m : Name) × ((name_of F limit (slot_name s) ≡ Ok m) × HasSlot m s result)
+  slot_first name told (slots.Name rva) is result found = found name told is
+  slot_first name told slots.Empty is result found = (names.None, (refl, found))
+  slot_first name told (slots.Part part at) is result found = (names.None, (refl, found))
+  slot_first name told (slots.Behind n) is result found = (names.None, (refl, found))
 
-  exception_case : (P : StreamKind → ExceptionItem → Type 0) → P kinds.Exception (exception_item (length F) e k (exception_at F o)) → (kind : StreamKind) (x : ExceptionItem) → item_at F 0 e k at o kind ≡ Ok (items.Exception x) → P kind x
-  exception_case P holds kind x is = item_case F e k at o kind (items.Exception x) is (ExceptionCase P) (by kind) where
-    by : (other : StreamKind) (n : Name) → name_of F 0 (name_rva (record_at other F o)) ≡ Ok n → ExceptionCase P other (made other F 0 e k at o n)
-    by kinds.Exception n given = holds
-    by other n given = tt
+  -- the slot that is found has no place in it
+  slot_same : (m : Name) (s : Slot) (p : PartAt) → HasSlot m s (Ok p) → bare_slot s ≡ slot_bare F r.offset s
+  slot_same m slots.Empty p found = refl
+  slot_same m (slots.Name rva) p found = refl
+  slot_same m (slots.Part part at) p found = refl
+  slot_same m (slots.Behind n) p found =
+      let inside = range_inside r.offset n (length F) (part_given r.entry r.index Memory r.offset n (range_extent_of r.offset n (length F)) found.0) in
+      ap slots.Behind (sym (length-array_at F r.offset n inside))
 
-  abbrev pub exception_wire : ExceptionItem → AnyRecord
-  exception_wire x = any.Exception (record x.fields { thread_context = nowhere })
+  abbrev Has : Name → ℕ → Result PartAt ReadFault → Type 0
+  Has m j result = HasSlot m (slot_at r.fields j) result
 
-  pub exception_found : (p : PartAt) (kind : StreamKind) (x : ExceptionItem) → item_at F 0 e k at o kind ≡ Ok (items.Exception x)
-      → HasPart x.entry x.index Context x.fields.thread_context x.context (Ok p)
-      → FindsRecord F limit e k at o kind (Ok (record { wire = exception_wire x; parts = p ∷ no_part ∷ no_part ∷ [] }))
-  exception_found p = exception_case
-      (λ kind x. HasPart x.entry x.index Context x.fields.thread_context x.context (Ok p)
-      → FindsRecord F limit e k at o kind (Ok (record { wire = exception_wire x; parts = p ∷ no_part ∷ no_part ∷ [] })))
-      (λ context.
-      let a = context F refl in
-      (items.Exception (exception_item (length F) e k (exception_at F o)), (refl, (a.0, seen_at F _ _ _ _ _ _ _ p no_part no_part a.1 (nothing_at F) (nothing_at F)))))
+  -- ---- the record
 
-  pub exception_context : (fault : ReadFault) (kind : StreamKind) (x : ExceptionItem) → item_at F 0 e k at o kind ≡ Ok (items.Exception x)
-      → HasPart x.entry x.index Context x.fields.thread_context x.context (Err fault) → FindsRecord F limit e k at o kind (Err fault)
-  exception_context fault = exception_case
-      (λ kind x. HasPart x.entry x.index Context x.fields.thread_context x.context (Err fault) → FindsRecord F limit e k at o kind (Err fault))
-      (λ context. (items.Exception (exception_item (length F) e k (exception_at F o)), (refl, λ own. refused _ fault (context F refl own))))
+  module _ (m : Name) where
+    abbrev FindsAll : Result FoundRecord ReadFault → Type 0
+    FindsAll result = FindsSeen F (record_steps (length F) r.entry r.index r.offset r.fields m) (seen_of F r.offset r.fields) result
 
-  -- ---- regions of memory
+    all_found : (p q t : PartAt) → Has m 0 (Ok p) → Has m 1 (Ok q) → Has m 2 (Ok t) → FindsAll (Ok (record { wire = bare r.fields; parts = p ∷ q ∷ t ∷ [] }))
+    all_found p q t a b c = (both_had _ _ (both_had _ _ a.0 b.0) c.0, subst (λ (s : Seen). IsSeenAt F s (record { wire = bare r.fields; parts = p ∷ q ∷ t ∷ [] })) (sym seen_is) (seen_at F (bare r.fields) _ _ _ _ _ _ p q t a.1 b.1 c.1)) where
+      bare_is : map (slot_bare F r.offset) (slots_of r.fields) ≡ map bare_slot (slots_of r.fields)
+      bare_is =
+          three_of (slot_bare F r.offset) r.fields
+          ∙ (λ i. sym (slot_same m (slot_at r.fields 0) p a) i ∷ sym (slot_same m (slot_at r.fields 1) q b) i ∷ sym (slot_same m (slot_at r.fields 2) t c) i ∷ [])
+          ∙ sym (three_of bare_slot r.fields)
 
-  abbrev MemoryInfoCase : (StreamKind → MemoryInfoItem → Type 0) → StreamKind → Item → Type 0
-  MemoryInfoCase P kind (items.MemoryInfo x) = P kind x
-  MemoryInfoCase P kind item = Unit {0}
+      seen_is : seen_of F r.offset r.fields
+          ≡ seen (bare r.fields) (slot_size F r.offset (slot_at r.fields 0) ∷ slot_size F r.offset (slot_at r.fields 1) ∷ slot_size F r.offset (slot_at r.fields 2) ∷ [])
+          (slot_bytes F r.offset (slot_at r.fields 0) ∷ slot_bytes F r.offset (slot_at r.fields 1) ∷ slot_bytes F r.offset (slot_at r.fields 2) ∷ [])
+      seen_is = λ i. seen (with_slots r.fields (bare_is i)) (three_of (slot_size F r.offset) r.fields i) (three_of (slot_bytes F r.offset) r.fields i)
 
-  memory_info_case : (P : StreamKind → MemoryInfoItem → Type 0) → P kinds.MemoryInfo (memory_info_item e k (memory_info_at F o)) → (kind : StreamKind) (x : MemoryInfoItem) → item_at F 0 e k at o kind ≡ Ok (items.MemoryInfo x) → P kind x
-  memory_info_case P holds kind x is = item_case F e k at o kind (items.MemoryInfo x) is (MemoryInfoCase P) (by kind) where
-    by : (other : StreamKind) (n : Name) → name_of F 0 (name_rva (record_at other F o)) ≡ Ok n → MemoryInfoCase P other (made other F 0 e k at o n)
-    by kinds.MemoryInfo n given = holds
-    by other n given = tt
+    first_fails : (fault : ReadFault) → Has m 0 (Err fault) → FindsAll (Err fault)
+    first_fails fault a = λ own. told_front _ _ fault (first_refused _ _ fault (a own))
 
-  pub memory_info_found : (kind : StreamKind) (x : MemoryInfoItem) → item_at F 0 e k at o kind ≡ Ok (items.MemoryInfo x)
-      → FindsRecord F limit e k at o kind (Ok (record { wire = any.MemoryInfo x.fields; parts = no_part ∷ no_part ∷ no_part ∷ [] }))
-  unfolding first_told
-  memory_info_found = memory_info_case
-      (λ kind x. FindsRecord F limit e k at o kind (Ok (record { wire = any.MemoryInfo x.fields; parts = no_part ∷ no_part ∷ no_part ∷ [] })))
-      (items.MemoryInfo (memory_info_item e k (memory_info_at F o)), (refl, (refl, seen_at F _ _ _ _ _ _ _ no_part no_part no_part (nothing_at F) (nothing_at F) (nothing_at F))))
+    second_fails : (p : PartAt) (fault : ReadFault) → Has m 0 (Ok p) → Has m 1 (Err fault) → FindsAll (Err fault)
+    second_fails p fault a b = λ own. told_front _ _ fault (then_refused _ _ fault a.0 (b own))
 
-  -- ---- modules
+    third_fails : (p q : PartAt) (fault : ReadFault) → Has m 0 (Ok p) → Has m 1 (Ok q) → Has m 2 (Err fault) → FindsAll (Err fault)
+    third_fails p q fault a b c = λ own. then_refused _ _ fault (both_had _ _ a.0 b.0) (c own)
 
-  abbrev ModuleCase : (StreamKind → ModuleItem → Type 0) → StreamKind → Item → Type 0
-  ModuleCase P kind (items.Module x) = P kind x
-  ModuleCase P kind item = Unit {0}
+  abbrev Finds : ℕ → Result PartAt ReadFault → Type 0
+  Finds j result = FindsSlot F limit r (slot_at r.fields j) result
 
-  module_case : (P : StreamKind → ModuleItem → Type 0) → ((n : Name) → name_at F (module_at F o).module_name_rva 0 ≡ Ok n → P kinds.Modules (module_item (length F) e k (module_at F o) n))
-      → (kind : StreamKind) (x : ModuleItem) → item_at F 0 e k at o kind ≡ Ok (items.Module x) → P kind x
-  module_case P holds kind x is = item_case F e k at o kind (items.Module x) is (ModuleCase P) (by kind) where
-    by : (other : StreamKind) (n : Name) → name_of F 0 (name_rva (record_at other F o)) ≡ Ok n → ModuleCase P other (made other F 0 e k at o n)
-    by kinds.Modules n given = holds n given
-    by other n given = tt
+  pub step_found : (p q t : PartAt) → Finds 0 (Ok p) → Finds 1 (Ok q) → Finds 2 (Ok t) → FindsStep F limit r (Ok (record { wire = bare r.fields; parts = p ∷ q ∷ t ∷ [] }))
+  step_found p q t a b c name told is =
+      let first = slot_first name told (slot_at r.fields 0) is (Ok p) a in
+      let second = slot_other first.0 (slot_at r.fields 1) (nameless r.fields).0 (Ok q) b in
+      let third = slot_other first.0 (slot_at r.fields 2) (nameless r.fields).1 (Ok t) c in
+      (first.0, (first.1.0, all_found first.0 p q t first.1.1 second third))
 
-  abbrev pub module_wire : ModuleItem → AnyRecord
-  module_wire x = any.Module (record x.fields { module_name_rva = 0; cv_record = nowhere; misc_record = nowhere })
+  pub step_first : (fault : ReadFault) → Finds 0 (Err fault) → FindsStep F limit r (Err fault)
+  step_first fault a name told is =
+      let first = slot_first name told (slot_at r.fields 0) is (Err fault) a in
+      (first.0, (first.1.0, first_fails first.0 fault first.1.1))
 
-  -- the item with the name under the limit
-  module_under : (n : Name) → name_at F (module_at F o).module_name_rva limit ≡ Ok n → item_at F limit e k at o kinds.Modules ≡ Ok (items.Module (module_item (length F) e k (module_at F o) n))
-  module_under n given = ap (λ (r : Result Name Fault). named r (made kinds.Modules F limit e k at o)) given
+  pub step_second : (p : PartAt) (fault : ReadFault) → Finds 0 (Ok p) → Finds 1 (Err fault) → FindsStep F limit r (Err fault)
+  step_second p fault a b name told is =
+      let first = slot_first name told (slot_at r.fields 0) is (Ok p) a in
+      let second = slot_other first.0 (slot_at r.fields 1) (nameless r.fields).0 (Err fault) b in
+      (first.0, (first.1.0, second_fails first.0 p fault first.1.1 second))
 
-  pub module_found : (p q r : PartAt) (kind : StreamKind) (x : ModuleItem) → item_at F 0 e k at o kind ≡ Ok (items.Module x)
-      → HasNameIn x.entry x.index x.fields.module_name_rva x.name limit (Ok p)
-      → HasPart x.entry x.index CodeView x.fields.cv_record x.codeview (Ok q) → HasPart x.entry x.index Misc x.fields.misc_record x.misc (Ok r)
-      → FindsRecord F limit e k at o kind (Ok (record { wire = module_wire x; parts = p ∷ q ∷ r ∷ [] }))
-  module_found p q r = module_case
-      (λ kind x. HasNameIn x.entry x.index x.fields.module_name_rva x.name limit (Ok p)
-      → HasPart x.entry x.index CodeView x.fields.cv_record x.codeview (Ok q) → HasPart x.entry x.index Misc x.fields.misc_record x.misc (Ok r)
-      → FindsRecord F limit e k at o kind (Ok (record { wire = module_wire x; parts = p ∷ q ∷ r ∷ [] })))
-      (λ n given name codeview misc.
-      let a = name F given in
-      let b = codeview F refl in
-      let c = misc F refl in (
-        items.Module (module_item (length F) e k (module_at F o) a.0),
-        (module_under a.0 a.1.0, (both_had _ _ (both_had _ _ a.1.1.0 b.0) c.0, seen_at F _ _ _ _ _ _ _ p q r a.1.1.1 b.1 c.1)),
-      ))
+  pub step_third : (p q : PartAt) (fault : ReadFault) → Finds 0 (Ok p) → Finds 1 (Ok q) → Finds 2 (Err fault) → FindsStep F limit r (Err fault)
+  step_third p q fault a b c name told is =
+      let first = slot_first name told (slot_at r.fields 0) is (Ok p) a in
+      let second = slot_other first.0 (slot_at r.fields 1) (nameless r.fields).0 (Ok q) b in
+      let third = slot_other first.0 (slot_at r.fields 2) (nameless r.fields).1 (Err fault) c in
+      (first.0, (first.1.0, third_fails first.0 p q fault first.1.1 second third))
 
-  pub module_name : (fault : ReadFault) (kind : StreamKind) (x : ModuleItem) → item_at F 0 e k at o kind ≡ Ok (items.Module x)
-      → HasNameIn x.entry x.index x.fields.module_name_rva x.name limit (Err fault) → FindsRecord F limit e k at o kind (Err fault)
-  module_name fault = module_case
-      (λ kind x. HasNameIn x.entry x.index x.fields.module_name_rva x.name limit (Err fault) → FindsRecord F limit e k at o kind (Err fault))
-      (λ n given name.
-      let a = name F given in
-      (items.Module (module_item (length F) e k (module_at F o) a.0), (module_under a.0 a.1.0, λ own. told_front _ _ fault (first_refused _ _ fault (a.1.1 own)))))
+-- ---- the item of a record tells it: where its kind is known, its fields are
 
-  pub module_codeview : (p : PartAt) (fault : ReadFault) (kind : StreamKind) (x : ModuleItem) → item_at F 0 e k at o kind ≡ Ok (items.Module x)
-      → HasNameIn x.entry x.index x.fields.module_name_rva x.name limit (Ok p) → HasPart x.entry x.index CodeView x.fields.cv_record x.codeview (Err fault)
-      → FindsRecord F limit e k at o kind (Err fault)
-  module_codeview p fault = module_case
-      (λ kind x. HasNameIn x.entry x.index x.fields.module_name_rva x.name limit (Ok p) → HasPart x.entry x.index CodeView x.fields.cv_record x.codeview (Err fault)
-      → FindsRecord F limit e k at o kind (Err fault))
-      (λ n given name codeview.
-      let a = name F given in
-      (items.Module (module_item (length F) e k (module_at F o) a.0), (module_under a.0 a.1.0, λ own. told_front _ _ fault (then_refused _ _ fault a.1.1.0 (codeview F refl own)))))
+record Told : Type 0 where
+  entry : ℕ
+  index : ℕ
+  offset : ℕ
+  fields : AnyRecord
+  name : Name
 
-  pub module_misc : (p q : PartAt) (fault : ReadFault) (kind : StreamKind) (x : ModuleItem) → item_at F 0 e k at o kind ≡ Ok (items.Module x)
-      → HasNameIn x.entry x.index x.fields.module_name_rva x.name limit (Ok p)
-      → HasPart x.entry x.index CodeView x.fields.cv_record x.codeview (Ok q) → HasPart x.entry x.index Misc x.fields.misc_record x.misc (Err fault)
-      → FindsRecord F limit e k at o kind (Err fault)
-  module_misc p q fault = module_case
-      (λ kind x. HasNameIn x.entry x.index x.fields.module_name_rva x.name limit (Ok p)
-      → HasPart x.entry x.index CodeView x.fields.cv_record x.codeview (Ok q) → HasPart x.entry x.index Misc x.fields.misc_record x.misc (Err fault)
-      → FindsRecord F limit e k at o kind (Err fault))
-      (λ n given name codeview misc.
-      let a = name F given in
-      let b = codeview F refl in
-      (items.Module (module_item (length F) e k (module_at F o) a.0), (module_under a.0 a.1.0, λ own. then_refused _ _ fault (both_had _ _ a.1.1.0 b.0) (misc F refl own))))
+-- a place is told of a 64-bit range alone, and a name of the kinds that have one
+abbrev offset_by : AnyRecord → ℕ → ℕ
+offset_by (any.Memory64 r) offset = offset
+offset_by w offset = 0
 
-  -- ---- unloaded modules
+abbrev name_by : Option ℕ → Name → Name
+name_by (Some rva) name = name
+name_by None name = names.None
 
-  abbrev UnloadedCase : (StreamKind → UnloadedItem → Type 0) → StreamKind → Item → Type 0
-  UnloadedCase P kind (items.Unloaded x) = P kind x
-  UnloadedCase P kind item = Unit {0}
+abbrev told_of : ℕ → ℕ → ℕ → AnyRecord → Name → Told
+told_of e k offset w name = record { entry = e; index = k; offset = offset_by w offset; fields = w; name = name_by (name_rva w) name }
 
-  unloaded_case : (P : StreamKind → UnloadedItem → Type 0) → ((n : Name) → name_at F (unloaded_at F o).module_name_rva 0 ≡ Ok n → P kinds.Unloaded (unloaded_item e k (unloaded_at F o) n))
-      → (kind : StreamKind) (x : UnloadedItem) → item_at F 0 e k at o kind ≡ Ok (items.Unloaded x) → P kind x
-  unloaded_case P holds kind x is = item_case F e k at o kind (items.Unloaded x) is (UnloadedCase P) (by kind) where
-    by : (other : StreamKind) (n : Name) → name_of F 0 (name_rva (record_at other F o)) ≡ Ok n → UnloadedCase P other (made other F 0 e k at o n)
-    by kinds.Unloaded n given = holds n given
-    by other n given = tt
+abbrev nothing_told : Told
+nothing_told = record { entry = 0; index = 0; offset = 0; fields = any.MemoryInfo (record { base_address = 0; allocation_base = 0; allocation_protect = 0; region_size = 0; state = 0; protect = 0; memory_type = 0 }); name = names.None }
 
-  abbrev pub unloaded_wire : UnloadedItem → AnyRecord
-  unloaded_wire x = any.Unloaded (record x.fields { module_name_rva = 0 })
+abbrev told_back : StreamKind → Item → Told
+told_back kinds.Threads (items.Thread x) = told_of x.entry x.index 0 (any.Thread x.fields) names.None
+told_back kinds.Modules (items.Module x) = told_of x.entry x.index 0 (any.Module x.fields) x.name
+told_back kinds.Memory (items.Range x) = told_of x.entry x.index 0 (any.Memory (record { start_of_memory_range = x.start; memory = record { size = x.size; rva = x.offset } })) names.None
+told_back kinds.Exception (items.Exception x) = told_of x.entry x.index 0 (any.Exception x.fields) names.None
+told_back kinds.System (items.System x) = told_of x.entry x.index 0 (any.System x.fields) x.name
+told_back kinds.Memory64 (items.Range x) = told_of x.entry x.index x.offset (any.Memory64 (record { start_of_memory_range = x.start; data_size = x.size })) names.None
+told_back kinds.Unloaded (items.Unloaded x) = told_of x.entry x.index 0 (any.Unloaded x.fields) x.name
+told_back kinds.MemoryInfo (items.MemoryInfo x) = told_of x.entry x.index 0 (any.MemoryInfo x.fields) names.None
+told_back kinds.ThreadNames (items.ThreadName x) = told_of x.entry x.index 0 (any.ThreadName x.fields) x.name
+told_back kind item = nothing_told
 
-  unloaded_under : (n : Name) → name_at F (unloaded_at F o).module_name_rva limit ≡ Ok n → item_at F limit e k at o kinds.Unloaded ≡ Ok (items.Unloaded (unloaded_item e k (unloaded_at F o) n))
-  unloaded_under n given = ap (λ (r : Result Name Fault). named r (made kinds.Unloaded F limit e k at o)) given
+back_of : (z e k offset : ℕ) (w : AnyRecord) (name : Name) → told_back (kind_told w) (item_of z e k offset w name) ≡ told_of e k offset w name
+back_of z e k offset (any.Thread r) name = refl
+back_of z e k offset _ name = refl
 
-  pub unloaded_found : (p : PartAt) (kind : StreamKind) (x : UnloadedItem) → item_at F 0 e k at o kind ≡ Ok (items.Unloaded x)
-      → HasNameIn x.entry x.index x.fields.module_name_rva x.name limit (Ok p)
-      → FindsRecord F limit e k at o kind (Ok (record { wire = unloaded_wire x; parts = p ∷ no_part ∷ no_part ∷ [] }))
-  unloaded_found p = unloaded_case
-      (λ kind x. HasNameIn x.entry x.index x.fields.module_name_rva x.name limit (Ok p)
-      → FindsRecord F limit e k at o kind (Ok (record { wire = unloaded_wire x; parts = p ∷ no_part ∷ no_part ∷ [] })))
-      (λ n given name.
-      let a = name F given in
-      (items.Unloaded (unloaded_item e k (unloaded_at F o) a.0), (unloaded_under a.0 a.1.0, (a.1.1.0, seen_at F _ _ _ _ _ _ _ p no_part no_part a.1.1.1 (nothing_at F) (nothing_at F)))))
+kind_at : (kind : StreamKind) (F : List ℕ) (o : ℕ) → kind_told (record_at kind F o) ≡ kind
+kind_at kinds.Threads F o = refl
+kind_at _ F o = refl
 
-  pub unloaded_name : (fault : ReadFault) (kind : StreamKind) (x : UnloadedItem) → item_at F 0 e k at o kind ≡ Ok (items.Unloaded x)
-      → HasNameIn x.entry x.index x.fields.module_name_rva x.name limit (Err fault) → FindsRecord F limit e k at o kind (Err fault)
-  unloaded_name fault = unloaded_case
-      (λ kind x. HasNameIn x.entry x.index x.fields.module_name_rva x.name limit (Err fault) → FindsRecord F limit e k at o kind (Err fault))
-      (λ n given name.
-      let a = name F given in
-      (items.Unloaded (unloaded_item e k (unloaded_at F o) a.0), (unloaded_under a.0 a.1.0, λ own. refused _ fault (a.1.1 own))))
+plain_of : (z e k offset : ℕ) (w : AnyRecord) (name : Name) → plain (item_of z e k offset w name) ≡ item_of z e k offset w (plain_name name)
+plain_of z e k offset (any.Thread r) name = refl
+plain_of z e k offset _ name = refl
 
-  -- ---- names of threads
+plain_told : (r : NameRead) (name : Name) → IsNameTold r name → plain_name name ≡ name
+plain_told read.None name told = rw told refl
+plain_told (read.Units n) name told = rw told.1.1 refl
+plain_told (read.Long n) name told = rw told refl
 
-  abbrev ThreadNameCase : (StreamKind → ThreadNameItem → Type 0) → StreamKind → Item → Type 0
-  ThreadNameCase P kind (items.ThreadName x) = P kind x
-  ThreadNameCase P kind item = Unit {0}
+-- of any other an offset says nothing
+steps_by : (z e k far : ℕ) (w : AnyRecord) (name : Name) → record_steps z e k far w name ≡ record_steps z e k (offset_by w far) w name
+steps_by z e k far (any.Thread r) name = refl
+steps_by z e k far _ name = refl
 
-  pub thread_name_case : (P : StreamKind → ThreadNameItem → Type 0) → ((n : Name) → name_at F (thread_name_at F o).rva_of_thread_name 0 ≡ Ok n → P kinds.ThreadNames (thread_name_item e k (thread_name_at F o) n))
-      → (kind : StreamKind) (x : ThreadNameItem) → item_at F 0 e k at o kind ≡ Ok (items.ThreadName x) → P kind x
-  thread_name_case P holds kind x is = item_case F e k at o kind (items.ThreadName x) is (ThreadNameCase P) (by kind) where
-    by : (other : StreamKind) (n : Name) → name_of F 0 (name_rva (record_at other F o)) ≡ Ok n → ThreadNameCase P other (made other F 0 e k at o n)
-    by kinds.ThreadNames n given = holds n given
-    by other n given = tt
+seen_by : (F : List ℕ) (far : ℕ) (w : AnyRecord) → seen_of F far w ≡ seen_of F (offset_by w far) w
+seen_by F far (any.Thread r) = refl
+seen_by F far _ = refl
 
-  abbrev pub thread_name_wire : ThreadNameItem → AnyRecord
-  thread_name_wire x = any.ThreadName (record x.fields { rva_of_thread_name = 0 })
+-- what the item of a record asks is asked behind its slots
+item_asks : (z e k far : ℕ) (w : AnyRecord) (name : Name) → item_steps z (item_of z e k far w name) ≡ record_steps z e k far w name
+item_asks z e k far (any.Thread r) name = simp append-nil
+item_asks z e k far (any.Module r) name = refl
+item_asks z e k far (any.MemoryInfo r) name = refl
+item_asks z e k far _ name = simp append-nil
 
-  thread_name_under : (n : Name) → name_at F (thread_name_at F o).rva_of_thread_name limit ≡ Ok n
-      → item_at F limit e k at o kinds.ThreadNames ≡ Ok (items.ThreadName (thread_name_item e k (thread_name_at F o) n))
-  thread_name_under n given = ap (λ (r : Result Name Fault). named r (made kinds.ThreadNames F limit e k at o)) given
+name_given : (F : List ℕ) (rva : Option ℕ) (r : NameRead) (n name : Name) → IsNameOf rva r → IsNameTold r name → name_of F 0 rva ≡ Ok n → name_by rva n ≡ name_by rva name → name_of F 0 rva ≡ Ok name
+name_given F (Some rva) r n name of told is same = is ∙ ap Ok same
+name_given F None r n name of told is same = ap Ok (sym (subst (λ (x : NameRead). IsNameTold x name) of told))
 
-  pub thread_name_found : (p : PartAt) (kind : StreamKind) (x : ThreadNameItem) → item_at F 0 e k at o kind ≡ Ok (items.ThreadName x)
-      → HasNameIn x.entry x.index x.fields.rva_of_thread_name x.name limit (Ok p)
-      → FindsRecord F limit e k at o kind (Ok (record { wire = thread_name_wire x; parts = p ∷ no_part ∷ no_part ∷ [] }))
-  thread_name_found p = thread_name_case
-      (λ kind x. HasNameIn x.entry x.index x.fields.rva_of_thread_name x.name limit (Ok p)
-      → FindsRecord F limit e k at o kind (Ok (record { wire = thread_name_wire x; parts = p ∷ no_part ∷ no_part ∷ [] })))
-      (λ n given name.
-      let a = name F given in
-      (items.ThreadName (thread_name_item e k (thread_name_at F o) a.0), (thread_name_under a.0 a.1.0, (a.1.1.0, seen_at F _ _ _ _ _ _ _ p no_part no_part a.1.1.1 (nothing_at F) (nothing_at F)))))
+module _ (F : List ℕ) (limit e k at o : ℕ) (kind : StreamKind) (r : RecordRead) (item : Item) (z : ℕ) (is : item_at F 0 e k at o kind ≡ Ok (plain item)) (tells : TellsItem z (step.Record r) item)
+    (of : IsStepOf (Some kind) (step.Record r)) where
+  abbrev w : AnyRecord
+  w = record_at kind F o
 
-  pub thread_name_name : (fault : ReadFault) (kind : StreamKind) (x : ThreadNameItem) → item_at F 0 e k at o kind ≡ Ok (items.ThreadName x)
-      → HasNameIn x.entry x.index x.fields.rva_of_thread_name x.name limit (Err fault) → FindsRecord F limit e k at o kind (Err fault)
-  thread_name_name fault = thread_name_case
-      (λ kind x. HasNameIn x.entry x.index x.fields.rva_of_thread_name x.name limit (Err fault) → FindsRecord F limit e k at o kind (Err fault))
-      (λ n given name.
-      let a = name F given in
-      (items.ThreadName (thread_name_item e k (thread_name_at F o) a.0), (thread_name_under a.0 a.1.0, λ own. refused _ fault (a.1.1 own))))
+  given : (n : Name) × ((name_of F 0 (name_rva w) ≡ Ok n) × (made kind F 0 e k at o n ≡ plain item))
+  given = item_made kind F 0 e k at o (plain item) is
 
-  -- ---- the system
+  item_is : item_of (length F) e k (offset_in F at k kind) w given.0 ≡ item_of z r.entry r.index r.offset r.fields tells.0
+  item_is = given.1.1 ∙ ap plain tells.1.1 ∙ plain_of z r.entry r.index r.offset r.fields tells.0 ∙ ap (item_of z r.entry r.index r.offset r.fields) (plain_told r.name tells.0 tells.1.0)
 
-  abbrev SystemCase : (StreamKind → SystemItem → Type 0) → StreamKind → Item → Type 0
-  SystemCase P kind (items.System x) = P kind x
-  SystemCase P kind item = Unit {0}
+  kinds_are : kind_told w ≡ kind_told r.fields
+  kinds_are = kind_at kind F o ∙ (let same = of.0 in cc same)
 
-  system_case : (P : StreamKind → SystemItem → Type 0) → ((n : Name) → name_at F (system_at F o).csd_version_rva 0 ≡ Ok n → P kinds.System (system_item e k (system_at F o) n))
-      → (kind : StreamKind) (x : SystemItem) → item_at F 0 e k at o kind ≡ Ok (items.System x) → P kind x
-  system_case P holds kind x is = item_case F e k at o kind (items.System x) is (SystemCase P) (by kind) where
-    by : (other : StreamKind) (n : Name) → name_of F 0 (name_rva (record_at other F o)) ≡ Ok n → SystemCase P other (made other F 0 e k at o n)
-    by kinds.System n given = holds n given
-    by other n given = tt
+  told_is : told_of r.entry r.index r.offset r.fields tells.0 ≡ told_of e k (offset_in F at k kind) w given.0
+  told_is =
+      sym (back_of z r.entry r.index r.offset r.fields tells.0) ∙ sym (ap (told_back (kind_told r.fields)) item_is)
+      ∙ sym (ap (λ (one : StreamKind). told_back one (item_of (length F) e k (offset_in F at k kind) w given.0)) kinds_are)
+      ∙ back_of (length F) e k (offset_in F at k kind) w given.0
 
-  abbrev pub system_wire : SystemItem → AnyRecord
-  system_wire x = any.System (record x.fields { csd_version_rva = 0 })
+  fields_are : r.fields ≡ w
+  fields_are = ap (λ (t : Told). t.fields) told_is
 
-  system_under : (n : Name) → name_at F (system_at F o).csd_version_rva limit ≡ Ok n → item_at F limit e k at o kinds.System ≡ Ok (items.System (system_item e k (system_at F o) n))
-  system_under n given = ap (λ (r : Result Name Fault). named r (made kinds.System F limit e k at o)) given
+  name_is : name_of F 0 (name_rva r.fields) ≡ Ok tells.0
+  name_is =
+      let had : name_of F 0 (name_rva r.fields) ≡ Ok given.0 = ap (λ (v : AnyRecord). name_of F 0 (name_rva v)) fields_are ∙ given.1.0 in
+      let same : name_by (name_rva r.fields) given.0 ≡ name_by (name_rva r.fields) tells.0 =
+      ap (λ (v : AnyRecord). name_by (name_rva v) given.0) fields_are ∙ sym (ap (λ (t : Told). t.name) told_is) in
+      name_given F (name_rva r.fields) r.name given.0 tells.0 of.1 tells.1.0 had same
 
-  pub system_found : (p : PartAt) (kind : StreamKind) (x : SystemItem) → item_at F 0 e k at o kind ≡ Ok (items.System x)
-      → HasNameIn x.entry x.index x.fields.csd_version_rva x.name limit (Ok p)
-      → FindsRecord F limit e k at o kind (Ok (record { wire = system_wire x; parts = p ∷ no_part ∷ no_part ∷ [] }))
-  system_found p = system_case
-      (λ kind x. HasNameIn x.entry x.index x.fields.csd_version_rva x.name limit (Ok p)
-      → FindsRecord F limit e k at o kind (Ok (record { wire = system_wire x; parts = p ∷ no_part ∷ no_part ∷ [] })))
-      (λ n given name.
-      let a = name F given in
-      (items.System (system_item e k (system_at F o) a.0), (system_under a.0 a.1.0, (a.1.1.0, seen_at F _ _ _ _ _ _ _ p no_part no_part a.1.1.1 (nothing_at F) (nothing_at F)))))
-
-  pub system_name : (fault : ReadFault) (kind : StreamKind) (x : SystemItem) → item_at F 0 e k at o kind ≡ Ok (items.System x)
-      → HasNameIn x.entry x.index x.fields.csd_version_rva x.name limit (Err fault) → FindsRecord F limit e k at o kind (Err fault)
-  system_name fault = system_case
-      (λ kind x. HasNameIn x.entry x.index x.fields.csd_version_rva x.name limit (Err fault) → FindsRecord F limit e k at o kind (Err fault))
-      (λ n given name.
-      let a = name F given in
-      (items.System (system_item e k (system_at F o) a.0), (system_under a.0 a.1.0, λ own. refused _ fault (a.1.1 own))))
-
-  -- ---- ranges of memory
-
-  -- what is found of the bytes of a range, by its location
-  abbrev pub HasBytes : RangeItem → Result PartAt ReadFault → Type 0
-  HasBytes x result = (file : List ℕ) (l : Location) → x.size ≡ l.size → x.offset ≡ l.rva → extent_of l (length file) ≡ x.extent → FindsPart file x.entry x.index Memory l result
-
-  -- or by its place in a 64-bit memory list
-  abbrev pub HasRange : RangeItem → Result PartAt ReadFault → Type 0
-  HasRange x result = (file : List ℕ) → FindsRange file x result
-
-  abbrev RangeCase : (StreamKind → RangeItem → Type 0) → StreamKind → Item → Type 0
-  RangeCase P kind (items.Range x) = P kind x
-  RangeCase P kind item = Unit {0}
-
-  range_case : (P : StreamKind → RangeItem → Type 0) → P kinds.Memory (range_item (length F) e k (descriptor_at F o)) → P kinds.Memory64 (range64_item (length F) e k (descriptor64_at F o) (range_offset F at k))
-      → (kind : StreamKind) (x : RangeItem) → item_at F 0 e k at o kind ≡ Ok (items.Range x) → P kind x
-  range_case P near far kind x is = item_case F e k at o kind (items.Range x) is (RangeCase P) (by kind) where
-    by : (other : StreamKind) (n : Name) → name_of F 0 (name_rva (record_at other F o)) ≡ Ok n → RangeCase P other (made other F 0 e k at o n)
-    by kinds.Memory n given = near
-    by kinds.Memory64 n given = far
-    by other n given = tt
-
-  pub range_refused : (fault : ReadFault) (kind : StreamKind) (x : RangeItem) → item_at F 0 e k at o kind ≡ Ok (items.Range x)
-      → HasBytes x (Err fault) → HasRange x (Err fault) → FindsRecord F limit e k at o kind (Err fault)
-  range_refused fault = range_case (λ kind x. HasBytes x (Err fault) → HasRange x (Err fault) → FindsRecord F limit e k at o kind (Err fault))
-      (λ bytes range. (items.Range (range_item (length F) e k (descriptor_at F o)), (refl, λ own. refused _ fault (bytes F (descriptor_at F o).memory refl refl refl own))))
-      (λ bytes range. (items.Range (range64_item (length F) e k (descriptor64_at F o) (range_offset F at k)), (refl, λ own. refused _ fault (range F refl own))))
-
-  pub memory_found : (p : PartAt) (kind : StreamKind) (x : RangeItem) → item_at F 0 e k at o kind ≡ Ok (items.Range x) → is_memory64 kind ≡ false → HasBytes x (Ok p)
-      → FindsRecord F limit e k at o kind (Ok (record { wire = any.Memory (record { start_of_memory_range = x.start; memory = nowhere }); parts = p ∷ no_part ∷ no_part ∷ [] }))
-  memory_found p = range_case
-      (λ kind x. is_memory64 kind ≡ false → HasBytes x (Ok p)
-      → FindsRecord F limit e k at o kind (Ok (record { wire = any.Memory (record { start_of_memory_range = x.start; memory = nowhere }); parts = p ∷ no_part ∷ no_part ∷ [] })))
-      (λ near bytes.
-      let a = bytes F (descriptor_at F o).memory refl refl refl in
-      (items.Range (range_item (length F) e k (descriptor_at F o)), (refl, (a.0, seen_at F _ _ _ _ _ _ _ p no_part no_part a.1 (nothing_at F) (nothing_at F)))))
-      (λ near bytes. absurd (cc near))
-
-  pub memory64_found : (p : PartAt) (kind : StreamKind) (x : RangeItem) → item_at F 0 e k at o kind ≡ Ok (items.Range x) → is_memory64 kind ≡ true → HasRange x (Ok p)
-      → FindsRecord F limit e k at o kind (Ok (record { wire = any.Memory64 (record { start_of_memory_range = x.start; data_size = x.size }); parts = p ∷ no_part ∷ no_part ∷ [] }))
-  memory64_found p = range_case
-      (λ kind x. is_memory64 kind ≡ true → HasRange x (Ok p)
-      → FindsRecord F limit e k at o kind (Ok (record { wire = any.Memory64 (record { start_of_memory_range = x.start; data_size = x.size }); parts = p ∷ no_part ∷ no_part ∷ [] })))
-      (λ far range. absurd (cc far))
-      (λ far range.
-      let d = descriptor64_at F o in
-      let offset = range_offset F at k in
-      let a = range F refl in
-      let inside = range_inside offset d.data_size (length F) (part_given e k Memory offset d.data_size (range_extent_of offset d.data_size (length F)) a.0) in
-      let size : length (array_at F offset d.data_size) ≡ d.data_size = length-array_at F offset d.data_size inside in (
-        items.Range (range64_item (length F) e k d offset),
+  -- what is found of the record is found of the one that stands there
+  pub record_found : (result : Result FoundRecord ReadFault) → IsFoundInside F limit r result → FindsRecord F limit e k at o kind result × IfErr result IsOfRecord
+  record_found result finds =
+      let found = finds tells.0 tells.1.0 name_is in
+      let under : item_at F limit e k at o kind ≡ Ok (made kind F limit e k at o found.0) =
+      ap (λ (x : Result Name Fault). named x (made kind F limit e k at o)) (sym (ap (λ (v : AnyRecord). name_of F limit (name_rva v)) fields_are) ∙ found.1.0) in
+      let steps : record_steps (length F) r.entry r.index r.offset r.fields found.0 ≡ item_steps (length F) (made kind F limit e k at o found.0) =
+      steps_by (length F) r.entry r.index r.offset r.fields found.0
+      ∙ ap (λ (t : Told). record_steps (length F) t.entry t.index t.offset t.fields found.0) told_is
+      ∙ sym (steps_by (length F) e k (offset_in F at k kind) w found.0) ∙ sym (item_asks (length F) e k (offset_in F at k kind) w found.0) in
+      let seen_are : seen_of F r.offset r.fields ≡ seen_in kind F at k o =
+      seen_by F r.offset r.fields ∙ ap (λ (t : Told). seen_of F t.offset t.fields) told_is ∙ sym (seen_by F (offset_in F at k kind) w) in (
         (
-          refl,
-          (
-            a.0,
-            subst (λ (n : ℕ). IsSeenAt F (seen_in kinds.Memory64 F at k o) (record { wire = any.Memory64 (record { start_of_memory_range = d.start_of_memory_range; data_size = n }); parts = p ∷ no_part ∷ no_part ∷ [] })) size
-                (seen_at F _ _ _ _ _ _ _ p no_part no_part a.1 (nothing_at F) (nothing_at F)),
-          ),
+          made kind F limit e k at o found.0,
+          (under, subst (λ (s : Seen). FindsSeen F (item_steps (length F) (made kind F limit e k at o found.0)) s result) seen_are (subst (λ (xs : List ReadStep). FindsSeen F xs (seen_of F r.offset r.fields) result) steps found.1.1.0)),
         ),
-      ))
-
--- ---- want of memory
-
--- an absent range has a size of 32 bits, since a 64-bit memory list has none
-pub range_fits : (F : List ℕ) (e k at o : ℕ) (kind : StreamKind) (x : RangeItem) → AreBytes F → item_at F 0 e k at o kind ≡ Ok (items.Range x) → x.extent ≡ Absent → x.size < 2 ^ 32
-range_fits F e k at o kind x fits = range_case F 0 e k at o (λ kind x. x.extent ≡ Absent → x.size < 2 ^ 32)
-    (λ absent. number_at-lt F (o + 8) 4 fits)
-    (λ absent. let d = descriptor64_at F o in range_absent F e k (range_offset F at k) d.data_size absent) kind x
-
--- a name of a thread that was read stands where 4 may be added
-pub thread_name_low : (F : List ℕ) (e k at o : ℕ) → length F < 2 ^ 64 → (kind : StreamKind) (x : ThreadNameItem) → item_at F 0 e k at o kind ≡ Ok (items.ThreadName x) → x.fields.rva_of_thread_name + 4 < 2 ^ 64
-thread_name_low F e k at o few = thread_name_case F 0 e k at o (λ kind x. x.fields.rva_of_thread_name + 4 < 2 ^ 64) (λ n given. name_low F (thread_name_at F o).rva_of_thread_name 0 n few given)
-
-NoStream : StreamKind → Item → Type 0
-NoStream kind (items.Stream x) = ⊥
-NoStream kind item = Unit {0}
-
--- no record makes a Stream item
-pub stream_never : (F : List ℕ) (e k at o : ℕ) (kind : StreamKind) (x : StreamItem) → item_at F 0 e k at o kind ≡ Ok (items.Stream x) → ⊥
-unfolding NoStream
-stream_never F e k at o kind x is = item_case F e k at o kind (items.Stream x) is NoStream (by kind) where
-  by : (other : StreamKind) (n : Name) → name_of F 0 (name_rva (record_at other F o)) ≡ Ok n → NoStream other (made other F 0 e k at o n)
-  by kinds.Threads n given = tt
-  by other n given = tt
+        found.1.1.1,
+      )

@@ -25,7 +25,7 @@ use Rattle.mdmp_lister.specs.Format.Listing.{Numbered, entry_body, chosen, entry
 use Rattle.mdmp_lister.specs.Format.Refusal.{directory_refusal}
 use Rattle.mdmp_lister.specs.Format.Shape.{location_fault, shape_of}
 use Rattle.mdmp_lister.proofs.Heads.{listed-inside}
-use Rattle.mdmp_dump.specs.declared.fault.PartName.TheVariants.{Stack, Context, CodeView, Misc, Memory}
+use Rattle.mdmp_wire.specs.declared.slot.PartName.TheVariants.{Stack, Context, CodeView, Misc, Memory}
 use Rattle.mdmp_dump.specs.Exception.{IsException}
 use Rattle.mdmp_dump.specs.FileRefusal.{opened_told, run_told, view_refusal}
 use Rattle.mdmp_dump.specs.InFile.{by_kind, by_type, dump_in, exception_in, memory_in, memory64_in, module_in, rows_in, shaped_in, stream_named, system_in, thread_in, thread_name_in, unloaded_in}

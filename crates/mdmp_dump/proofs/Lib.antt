@@ -31,6 +31,7 @@ pub mod Rooms
 pub mod Rows
 pub mod Selected
 pub mod Settled
+pub mod SlotsPlaced
 pub mod Streams
 pub mod Taken
 pub mod Taking

@@ -1,12 +1,12 @@
 -- The name at an RVA under one limit and under another.
 use Rattle.std.proofs.Common.{◌≡◌, ◌∙◌, ◌⊎◌, ◌+◌, ◌-◌, ◌*◌, ◌/◌, ◌%◌, ◌<◌, ◌≤◌, ◌^◌, ◌==◌, ℕ, Bool, true, false, List, [], length, Some, None, Result, Ok, Err, ap, arith, inl, inr, nat_lt, refl, subst, sym, take, drop, if◌then◌else◌, lt-ltb, le-ltb}
-use Rattle.std.specs.Prelude.{MatchResult, not, slice_index}
+use Rattle.std.specs.Prelude.{not, slice_index}
 use Rattle.std.proofs.lemmas.Bool.Decides.{nat_tests}
 use Rattle.std.proofs.lemmas.List.{get_or-drop, get_or-take, get_or_past, length-take, take_all}
 use Rattle.mdmp_source.specs.Range.{bytes_at, is_inside}
-use Rattle.mdmp_wire.specs.Number.{array_at, les, number_at, numbers_at}
+use Rattle.mdmp_wire.specs.Number.{array_at, les, number_at}
 use Rattle.mdmp_wire.specs.NumberLaws.{length-numbers_at}
-use Rattle.mdmp_wire.specs.Units.{units_in, units_of, units_over}
+use Rattle.mdmp_wire.specs.Units.{units_of, units_over}
 use Rattle.mdmp_wire.specs.UnitsLaws.{les_of_units}
 use Rattle.mdmp_wire.specs.declared.units_ref.UnitsRef.{UnitsRef}
 use Rattle.mdmp_lister.specs.declared.fault.Fault.{Fault}
@@ -27,10 +27,9 @@ use Rattle.mdmp_dump.specs.Finding.{IsFoundInFile, FindsName, FindsPart}
 use Rattle.mdmp_dump.specs.Part.{part_in}
 use Rattle.std.proofs.lemmas.Bool.{eqb-true}
 use Rattle.mdmp_lister.specs.Format.Item.{range_extent_of}
-use Rattle.mdmp_dump.specs.declared.fault.PartName.TheVariants.{Memory}
-use Rattle.mdmp_dump.specs.Reading.{IsOwn}
+use Rattle.mdmp_wire.specs.declared.slot.PartName.TheVariants.{Memory}
 use Rattle.mdmp_dump.specs.Refusal.{location_steps, part_steps}
-use Rattle.mdmp_dump.specs.declared.fault.PartName.{PartName}
+use Rattle.mdmp_wire.specs.declared.slot.PartName.{PartName}
 use Rattle.mdmp_dump.specs.declared.fault.ReadFault.{ReadFault}
 use Rattle.mdmp_dump.specs.declared.fault.ReadFault.TheVariants as faults
 use Rattle.mdmp_dump.specs.declared.found_record.PartAt.{PartAt}
@@ -154,9 +153,9 @@ module _ (F : List ℕ) (rva : ℕ) where
 
 -- ---- what is found of a name
 
-no_units : (F : List ℕ) (at : ℕ) → length (les 2 (units_of (array_at F at 0))) ≡ 0
-unfolding array_at numbers_at
-no_units F at = refl
+no_bytes : (F : List ℕ) (at : ℕ) → length (array_at F at 0) ≡ 0
+unfolding array_at
+no_bytes F at = refl
 
 module _ (F : List ℕ) (rva limit e k : ℕ) where
   pub none_found : name_at F rva 0 ≡ Ok names.None → FindsName F limit e k rva (Ok no_part)
@@ -168,12 +167,6 @@ module _ (F : List ℕ) (rva limit e k : ℕ) where
       none_under : (b : Bool) → names.None ≡ (if b then names.Long (number_at F rva 4) else names.Units (units_over (array_at F (rva + 4) (number_at F rva 4)))) → ⊥
       none_under true same = cc same
       none_under false same = cc same
-
-  -- or that there is no such place
-  pub own_found : (p : PartAt) (result : Result PartAt ReadFault) → MatchResult result (λ q. q ≡ p) (λ fault. (fault ≡ faults.Memory) × (2 ^ 64 ≤ rva + 4))
-      → FindsName F limit e k rva (Ok p) → FindsName F limit e k rva result
-  own_found p (Ok q) is found = subst (λ (x : PartAt). FindsName F limit e k rva (Ok x)) (sym is) found
-  own_found p (Err fault) is found = (found.0, (found.1.0, λ own. absurd (own (subst IsOwn (sym is.0) tt))))
 
   -- so many bytes behind its length
   some_found : (bytes : ℕ) → HasLength F rva bytes → (nat_lt limit bytes ≡ false) → FindsName F limit e k rva (Ok (record { size = Size bytes; at = rva + 4 }))
@@ -208,25 +201,25 @@ module _ (F : List ℕ) (rva limit e k : ℕ) where
         (names.Long bytes, (given ∙ (rw long refl), λ own. refl))
 
   -- units that were read with the limit 0 are none
-  pub units_found : (units : UnitsRef) (n : ℕ) → name_at F rva 0 ≡ Ok (names.Units (units_over units.bytes.now)) → n ≡ length (les 2 (units_in units))
-      → FindsName F limit e k rva (Ok (record { size = Size n; at = rva + 4 }))
-  units_found units n is size = by (limited F rva 0 (names.Units (units_over units.bytes.now)) is) where
+  pub units_found : (units : List ℕ) → name_at F rva 0 ≡ Ok (names.Units (units_over units))
+      → (length units ≡ 0) × FindsName F limit e k rva (Ok (record { size = Size (length units); at = rva + 4 }))
+  units_found units is = by (limited F rva 0 (names.Units (units_over units)) is) where
     units_under : (b : Bool) → nat_lt 0 (number_at F rva 4) ≡ b
-        → names.Units (units_over units.bytes.now) ≡ (if b then names.Long (number_at F rva 4) else names.Units (units_over (array_at F (rva + 4) (number_at F rva 4))))
-        → (number_at F rva 4 ≡ 0) × (units.bytes.now ≡ array_at F (rva + 4) (number_at F rva 4))
+        → names.Units (units_over units) ≡ (if b then names.Long (number_at F rva 4) else names.Units (units_over (array_at F (rva + 4) (number_at F rva 4))))
+        → (number_at F rva 4 ≡ 0) × (units ≡ array_at F (rva + 4) (number_at F rva 4))
     units_under true few same = absurd (cc same)
     units_under false few same =
-        let over : units_over units.bytes.now ≡ units_over (array_at F (rva + 4) (number_at F rva 4)) = cc same in
+        let over : units_over units ≡ units_over (array_at F (rva + 4) (number_at F rva 4)) = cc same in
         (grind (arith, nat_tests, few), ap (λ (u : UnitsRef). u.bytes.now) over)
 
-    by : IsLimited F rva 0 (names.Units (units_over units.bytes.now)) → FindsName F limit e k rva (Ok (record { size = Size n; at = rva + 4 }))
+    by : IsLimited F rva 0 (names.Units (units_over units)) → (length units ≡ 0) × FindsName F limit e k rva (Ok (record { size = Size (length units); at = rva + 4 }))
     by (inl none) = let other = none.0 in absurd (cc other)
     by (inr some) =
         let are = units_under (nat_lt 0 (number_at F rva 4)) refl some.1 in
         let has : HasLength F rva 0 = subst (λ (m : ℕ). HasLength F rva m) are.0 some.0 in
-        let empty : units.bytes.now ≡ array_at F (rva + 4) 0 = are.1 ∙ ap (array_at F (rva + 4)) are.0 in
-        let none : n ≡ 0 = size ∙ ap (λ (b : List ℕ). length (les 2 (units_of b))) empty ∙ no_units F (rva + 4) in
-        subst (λ (m : ℕ). FindsName F limit e k rva (Ok (record { size = Size m; at = rva + 4 }))) (sym none) (some_found 0 has (le-ltb limit 0 (omega arith)))
+        let empty : units ≡ array_at F (rva + 4) 0 = are.1 ∙ ap (array_at F (rva + 4)) are.0 in
+        let none : length units ≡ 0 = ap length empty ∙ no_bytes F (rva + 4) in
+        (none, subst (λ (m : ℕ). FindsName F limit e k rva (Ok (record { size = Size m; at = rva + 4 }))) (sym none) (some_found 0 has (le-ltb limit 0 (omega arith))))
 
 -- ---- what is found of a part
 

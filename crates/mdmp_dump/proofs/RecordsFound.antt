@@ -1,57 +1,58 @@
 -- The records of a stream, which a walker gives with their places.
-use Rattle.std.proofs.Common.{◌≡◌, ◌∙◌, ◌≤◌, ◌<◌, ◌+◌, ◌-◌, ◌*◌, ◌^◌, ◌⊎◌, ℕ, Bool, true, false, List, length, slice_get, Option, Some, None, Result, Ok, Err, arith, ap, refl, sym, subst, inl, inr, if◌then◌else◌}
+use Rattle.std.proofs.Common.{◌≡◌, ◌∙◌, ◌≤◌, ◌<◌, ◌+◌, ◌-◌, ◌*◌, ◌⊎◌, ℕ, Bool, true, false, List, length, slice_get, Option, Some, None, Result, Ok, Err, arith, ap, refl, sym, subst, inl, inr, if◌then◌else◌}
 use Rattle.std.specs.Prelude.{◌==◌, IfErr, IfOk, IfSome, MatchResult, option_map}
 use Rattle.mdmp_source.specs.Source.{FetchesSome, SourceState}
 use Rattle.mdmp_source.specs.Store.{AreBytes, IsGood, IsOfBytes, IsSizeOf}
 use Rattle.mdmp_source.specs.declared.fault.SourceFault.TheVariants.{Changed}
 use Rattle.mdmp_wire.specs.AnyRecord.{name_rva}
 use Rattle.mdmp_wire.specs.declared.any_record.AnyRecord.{AnyRecord}
-use Rattle.mdmp_wire.specs.declared.any_record.AnyRecord.TheVariants as any
 use Rattle.mdmp_wire.specs.declared.entry.Entry.{Entry}
 use Rattle.mdmp_lister.proofs.Bodies.{joined-with_item, records-faulted, records-given}
-use Rattle.mdmp_lister.proofs.Summary.{summary_of-plain}
 use Rattle.mdmp_lister.specs.Fault.{IsOfStore, IsUnobtained}
 use Rattle.mdmp_lister.specs.declared.fault.Fault.{Fault}
 use Rattle.mdmp_lister.specs.declared.fault.ListFault.{ListFault}
 use Rattle.mdmp_lister.specs.declared.item.Item.{Item}
-use Rattle.mdmp_lister.specs.declared.item.RangeItem.{RangeItem}
 use Rattle.mdmp_lister.specs.declared.item.StreamItem.{StreamItem}
 use Rattle.mdmp_lister.specs.declared.kind.StreamKind.{StreamKind}
 use Rattle.mdmp_lister.specs.declared.kind.StreamKind.TheVariants as kinds
 use Rattle.mdmp_lister.specs.declared.meter.Amount.{Amount}
 use Rattle.mdmp_lister.specs.declared.meter.MeterCounts.{MeterCounts}
 use Rattle.mdmp_lister.specs.declared.name.Name.{Name}
+use Rattle.mdmp_lister.specs.declared.step.RecordRead.{RecordRead}
+use Rattle.mdmp_lister.specs.declared.step.Step.{Step}
+use Rattle.mdmp_lister.specs.declared.step.Step.TheVariants as step
+use Rattle.mdmp_lister.specs.declared.item.Item.TheVariants as items
+use Rattle.mdmp_lister.specs.Step.{IsStepOf, TellsItem}
 use Rattle.mdmp_lister.specs.declared.shape.Shape.{Shape}
-use Rattle.mdmp_lister.specs.Format.Classes.{IsClassed, IsRecordOf, IsStream}
+use Rattle.mdmp_lister.specs.Format.Classes.{IsStream}
 use Rattle.mdmp_lister.specs.Format.Item.{item_at, item_of, kind_told, name_of, named, offset_in, plain, record_at}
-use Rattle.mdmp_lister.specs.Format.Kind.{HasNoNames, has_names, is_memory64, kind_of, type_of_kind}
+use Rattle.mdmp_lister.specs.Format.Kind.{HasNoNames, has_names, kind_of, type_of_kind}
 use Rattle.mdmp_lister.specs.Format.KindLaws.{type_of-kind}
 use Rattle.mdmp_lister.specs.Format.Listing.{Numbered, Run, items_from, joined, list_fault, only_fault, with_item}
-use Rattle.mdmp_lister.specs.Format.Ranges.{IsPlacedIn, IsRangeIn}
 use Rattle.mdmp_lister.specs.Format.Shape.{known_count, location_fault, record_count, records_in, shape_of}
-use Rattle.mdmp_lister.specs.Format.Summary.{Summary, number_behind, entry_begun, summary_of}
+use Rattle.mdmp_lister.specs.Format.Summary.{number_behind, entry_begun, summary_of}
 use Rattle.mdmp_lister.specs.FaultLaws.{next_fits}
-use Rattle.mdmp_lister.specs.Lister.{IsSameLister, tail}
+use Rattle.mdmp_lister.specs.Lister.{Gives, IsSameLister, tail}
 use Rattle.mdmp_lister.specs.Meter.{Moves}
 use Rattle.mdmp_lister.specs.Listed.{entry_cost}
 use Rattle.mdmp_lister.specs.Walk.Positions.{mark_by, position_by}
-use Rattle.mdmp_lister.specs.Walker.{IsSpentSince, WalkerLeaves, WalkerState, is_sought, seeks}
+use Rattle.mdmp_lister.specs.Walker.{IsSpentSince, StepLeaves, WalkerLeaves, WalkerState, is_sought, seeks}
 use Rattle.mdmp_dump.specs.declared.fault.ReadFault.{ReadFault}
 use Rattle.mdmp_dump.specs.declared.fault.ReadFault.TheVariants as faults
 use Rattle.mdmp_dump.specs.declared.found_record.FoundRecord.{FoundRecord}
 use Rattle.mdmp_dump.specs.declared.view.Kind.TheVariants as view
 use Rattle.mdmp_dump.specs.EntryWalk.{FindsNext, FindsRow, GivesNext, IsFoundIn, IsRowFound, Pays, ended_by, kind_by, name_cost, name_cost_by, row_told}
 use Rattle.mdmp_dump.specs.FileRefusal.{IsOfWalk, IsUnbudgeted}
-use Rattle.mdmp_dump.specs.Finding.{FindsRecord, FindsSeen, IsFittingOf, IsFoundInside, IsOfPlaces, IsOfRecord, kind_as, range_kind, record_kind, seen_in}
+use Rattle.mdmp_dump.specs.Finding.{FindsRecord, FindsSeen, IsFittingOf, IsFoundInside, IsOfPlaces, IsOfRecord, seen_in}
 use Rattle.mdmp_dump.specs.FoundRecord.{AreIn}
 use Rattle.mdmp_dump.specs.Left.{RowGiven, body_from, left_from, run_of}
 use Rattle.mdmp_dump.specs.Reading.{IsLastTold, IsReadRefusal, store_fault}
 use Rattle.mdmp_dump.specs.Refusal.{item_steps}
 use Rattle.mdmp_dump.specs.Seen.{Seen}
 use Rattle.mdmp_dump.specs.Shape.{type_told}
-use Rattle.mdmp_dump.specs.Walking.{NeverByBudget, HasLeft, IsFar, IsKept, current_entry, ended_with, left_by, lists_memory64, records_to_give, state_of}
+use Rattle.mdmp_dump.specs.Walking.{NeverByBudget, HasLeft, IsKept, current_entry, ended_with, left_by, records_to_give, state_of}
 use Rattle.mdmp_dump.proofs.EntryBegun.{last_told, left_begun, left_stopped, no_store_fault, own_store_fault, paid_by, plain_stream, walk_same, unbudgeted}
-use Rattle.mdmp_dump.proofs.Classed.{extent_in, range_in}
+use Rattle.mdmp_dump.proofs.Founding.{record_found}
 use Rattle.mdmp_dump.proofs.Left.{row_given}
 use Rattle.mdmp_dump.proofs.Limits.{refused_under}
 use Rattle.mdmp_dump.proofs.Taking.{Fetches_only}
@@ -75,30 +76,7 @@ known_by t w is = ap kind_by (type_of-kind t (kind_told w) is) ∙ of_kind (kind
   of_kind kinds.Threads = refl
   of_kind _ = refl
 
-pub far_by_type : (t : ℕ) (kind : StreamKind) → kind_of t ≡ Some kind → is_memory64 kind ≡ lists_memory64 (kind_of t)
-far_by_type t kind is = sym (ap lists_memory64 is)
-
 -- ---- an item, by the record that it tells
-
-plain_kind : (far : Bool) (item : Item) → record_kind far item ≡ record_kind far (plain item)
-plain_kind far item = sym (ap (λ (s : Summary). option_map (kind_as far) s.kind) (summary_of-plain item))
-
-told_kind : (far : Bool) (z e k offset : ℕ) (w : AnyRecord) (name : Name) → far ≡ is_memory64 (kind_told w) → record_kind far (item_of z e k offset w name) ≡ Some (kind_told w)
-told_kind far z e k offset (any.Memory r) name is = ap (λ (b : Bool). Some (range_kind b)) is
-told_kind far z e k offset (any.Memory64 r) name is = ap (λ (b : Bool). Some (range_kind b)) is
-told_kind far z e k offset w name is = refl
-
--- where a record is told in a file whose size has 64 bits, so are its places
-told_placed : (z : ℕ) → z ≤ 2 ^ 64 - 1 → (e k offset : ℕ) (w : AnyRecord) (name : Name) → IfSome (summary_of (item_of z e k offset w name)).range (IsRangeIn (2 ^ 64 - 1))
-told_placed z few e k offset (any.Memory r) name = λ is. let all = extent_in r.memory z is in (all.0, (omega (arith, all.1, few), omega (arith, all.1, few)))
-told_placed z few e k offset (any.Memory64 r) name = λ is. let all = range_in offset r.data_size z is in (all.0, (omega (arith, all.1, few), omega (arith, all.1, few)))
-told_placed z few e k offset w name = tt
-
-pub record_placed : (z : ℕ) (kind : Option StreamKind) (item : Item) → z ≤ 2 ^ 64 - 1 → IsRecordOf z kind (plain item) → IsPlacedIn (2 ^ 64 - 1) item
-record_placed z kind item few is =
-    let range : (summary_of (plain item)).range ≡ (summary_of item).range = ap (λ (s : Summary). s.range) (summary_of-plain item) in
-    subst (λ (r : Option RangeItem). IfSome r (IsRangeIn (2 ^ 64 - 1))) range
-    (subst (λ (x : Item). IfSome (summary_of x).range (IsRangeIn (2 ^ 64 - 1))) (sym is.same) (told_placed z few is.entry is.index is.offset is.fields is.name))
 
 no_stream : (item : Item) → (summary_of item).stream ≡ None → IsStream (plain item) → ⊥
 no_stream item none stream =
@@ -106,18 +84,9 @@ no_stream item none stream =
     let some : (summary_of item).stream ≡ Some stream.0 = ap (λ (x : Item). (summary_of x).stream) is in
     cc (none, some)
 
-pub record_classed : (z : ℕ) (e : Entry) (item : Item) → (summary_of item).stream ≡ None → IsClassed z e item → IsRecordOf z (kind_of e.stream_type) (plain item)
-record_classed z e item none (inl stream) = absurd (no_stream item none stream)
-record_classed z e item none (inr is) = is
-
 -- what is found of it is of its stream's kind
-pub found_in : (z t : ℕ) (far : Bool) (item : Item) (f : FoundRecord) → far ≡ lists_memory64 (kind_of t) → IsRecordOf z (kind_of t) (plain item) → IsFittingOf (record_kind far item) f → AreIn z f.parts → IsFoundIn z t f
-found_in z t far item f is_far is fits inside =
-    let by_kind : far ≡ is_memory64 (kind_told is.fields) = is_far ∙ sym (far_by_type t (kind_told is.fields) is.known) in
-    let told : record_kind far item ≡ Some (kind_told is.fields) =
-    plain_kind far item ∙ ap (record_kind far) is.same ∙ told_kind far z is.entry is.index is.offset is.fields is.name by_kind in
-    let wire : Some (kind_told is.fields) ≡ Some (kind_told f.wire) = sym told ∙ fits.0 in
-    record { kind_is = known_by t f.wire (is.known ∙ wire); inside = inside; bytes = fits.1 }
+pub found_in : (z t : ℕ) (w : AnyRecord) (f : FoundRecord) → kind_of t ≡ Some (kind_told w) → IsFittingOf w f → AreIn z f.parts → IsFoundIn z t f
+found_in z t w f known fits inside = record { kind_is = known_by t f.wire (known ∙ ap Some (sym fits.0)); inside = inside; bytes = fits.1 }
 
 -- ---- while records are left
 
@@ -135,10 +104,6 @@ none_given old new left leaves =
     let some = left_some old.list.passed old.list.stop old.list.records left in
     let none = leaves.list.places.records in
     omega (arith, left, some.1.0, none)
-
--- and behind a fault none are left
-pub far_fault : (old new : WalkerState) (f : ListFault) → WalkerLeaves old (Err f) new → (far : Bool) → IsFar new.list far
-far_fault old new f leaves far some = absurd (let none = ap (λ (stop : Option (Option ListFault)). left_by new.list.passed stop new.list.records) leaves.list.stands.stop in omega (arith, some, none))
 
 -- of a known file they have a shape
 pub record Counted (F : List ℕ) (e : Entry) (n : ℕ) : Type 0 where
@@ -320,7 +285,6 @@ record_fault fault is = absurd is
 -- it tells of the store that it has changed, or nothing
 places_told : (fault : ReadFault) (old new : SourceState) → IsOfPlaces fault → ((IsOfRecord fault → ⊥) → old.store.content ≡ None) → IfSome (store_fault fault) (λ of_store. IsLastTold of_store old new)
 places_told (faults.Source (Changed at)) old new is unknown = unknown (λ never. never)
-places_told faults.Memory old new is unknown = tt
 places_told (faults.NameTooLong e k n) old new is unknown = tt
 places_told (faults.PartOutside e k part offset n) old new is unknown = tt
 places_told fault old new is unknown = absurd is
@@ -356,9 +320,6 @@ module _ (old new : WalkerState) (kept : IsKept old) (left : 0 < records_to_give
       let now = left_begun new.list.passed new.list.stop new.list.records (λ fresh. some.1.1 (sym same ∙ fresh)) leaves.list.stands.stop in
       omega (arith, some.1.0, now, went.1)
 
-  pub record_is : IsRecordOf old.list.source.size (kind_of old.list.current.stream_type) (plain item)
-  record_is = record_classed old.list.source.size old.list.current item went.0 (subst (λ (e : Entry). IsClassed old.list.source.size e item) stays.current leaves.list.places.classed)
-
   -- of a known file it is the next of those that are left
   module _ (gives : (left : Run) → old.list.left ≡ Some left → slice_get left.items 0 ≡ Some (plain item)) (F : List ℕ) (known : old.list.source.store.content ≡ Some F) where
     had : HasLeft F old.list
@@ -382,12 +343,15 @@ module _ (old new : WalkerState) (kept : IsKept old) (left : 0 < records_to_give
           ),
         )
 
-    module _ (limit : ℕ) (far : Bool) (is_far : far ≡ lists_memory64 (kind_of old.list.current.stream_type)) (result : Result FoundRecord ReadFault) (finds : IsFoundInside F far (plain item) limit result) where
+    module _ (r : RecordRead) (tells : TellsItem new.list.source.size (step.Record r) item) (of : IsStepOf (kind_of new.list.current.stream_type) (step.Record r)) (limit : ℕ) (result : Result FoundRecord ReadFault) (finds : IsFoundInside F limit r result) where
       abbrev offset : ℕ
       offset = old.list.current.location.rva + given.shape.first + had.0 * given.shape.stride
 
       found : FindsRecord F limit (current_entry old.list).number had.0 old.list.current.location.rva offset shaped.kind result × IfErr result IsOfRecord
-      found = finds (current_entry old.list).number had.0 old.list.current.location.rva offset shaped.kind (far_by_type old.list.current.stream_type shaped.kind shaped.known ∙ sym is_far) given.is_item
+      found =
+          let kind_is : kind_of new.list.current.stream_type ≡ Some shaped.kind = ap (λ (e : Entry). kind_of e.stream_type) stays.current ∙ shaped.known in
+          record_found F limit (current_entry old.list).number had.0 old.list.current.location.rva offset shaped.kind r item new.list.source.size given.is_item tells
+          (subst (λ (kind : Option StreamKind). IsStepOf kind (step.Record r)) kind_is of) result finds
 
       found_next : FindsNext F limit (state_of old) result
       found_next = (
@@ -408,34 +372,32 @@ module _ (old new : WalkerState) (kept : IsKept old) (left : 0 < records_to_give
   pub kept_record : ((left : Run) → old.list.left ≡ Some left → slice_get left.items 0 ≡ Some (plain item)) → IsKept new
   kept_record gives = kept_by old new kept stays (λ f is. absurd (let none = leaves.list.stands.stop in cc (is, none))) (λ F known some. left_behind gives F (sym stays.fetches.fetches.same_content ∙ known))
 
-  pub far_record : (far : Bool) → IsFar old.list far → IsFar new.list far
-  far_record far is some = is left ∙ ap (λ (e : Entry). lists_memory64 (kind_of e.stream_type)) (sym stays.current)
-
-  module _ (gives : (left : Run) → old.list.left ≡ Some left → slice_get left.items 0 ≡ Some (plain item)) (far : Bool) (is_far : IsFar old.list far) (limit size : ℕ) (size_is : size ≡ old.list.source.size)
+  module _ (gives : (left : Run) → old.list.left ≡ Some left → slice_get left.items 0 ≡ Some (plain item)) (r : RecordRead) (tells : TellsItem new.list.source.size (step.Record r) item)
+      (of : IsStepOf (kind_of new.list.current.stream_type) (step.Record r)) (limit size : ℕ) (size_is : size ≡ old.list.source.size)
       (sized : IsSizeOf old.list.source.store.content size) (bytes : IsOfBytes old.list.source.store.content) where
     abbrev Finds : Result FoundRecord ReadFault → Type 0
-    Finds result = (F : List ℕ) → length F ≡ size → AreBytes F → IsFoundInside F far (plain item) limit result
+    Finds result = (F : List ℕ) → length F ≡ size → AreBytes F → IsFoundInside F limit r result
 
-    inside_of : (result : Result FoundRecord ReadFault) → Finds result → (F : List ℕ) → old.list.source.store.content ≡ Some F → IsFoundInside F far (plain item) limit result
+    inside_of : (result : Result FoundRecord ReadFault) → Finds result → (F : List ℕ) → old.list.source.store.content ≡ Some F → IsFoundInside F limit r result
     inside_of result finds F known =
         let length_is : size ≡ length F = subst (λ (c : Option (List ℕ)). IsSizeOf c size) known sized in
         finds F (sym length_is) (bytes F known)
 
     of_known : (result : Result FoundRecord ReadFault) → Finds result → (F : List ℕ) → old.list.source.store.content ≡ Some F → FindsNext F limit (state_of old) result
-    of_known result finds F known = found_next gives F known limit far (is_far left) result (inside_of result finds F known)
+    of_known result finds F known = found_next gives F known r tells of limit result (inside_of result finds F known)
 
     refused_known : (fault : ReadFault) → Finds (Err fault) → (F : List ℕ) → old.list.source.store.content ≡ Some F → IsOfRecord fault
-    refused_known fault finds F known = (found gives F known limit far (is_far left) (Err fault) (inside_of (Err fault) finds F known)).1
+    refused_known fault finds F known = (found gives F known r tells of limit (Err fault) (inside_of (Err fault) finds F known)).1
 
     unknown : (fault : ReadFault) → Finds (Err fault) → (IsOfRecord fault → ⊥) → (content : Option (List ℕ)) → old.list.source.store.content ≡ content → old.list.source.store.content ≡ None
     unknown fault finds not None is = is
     unknown fault finds not (Some F) is = absurd (not (refused_known fault finds F is))
 
-    gives_found : (f : FoundRecord) → Finds (Ok f) → IsFittingOf (record_kind far item) f → AreIn size f.parts → GivesNext (state_of old) limit (Ok f) (state_of new)
+    gives_found : (f : FoundRecord) → Finds (Ok f) → IsFittingOf r.fields f → AreIn size f.parts → GivesNext (state_of old) limit (Ok f) (state_of new)
     gives_found f finds fits inside = record {
       pays = pays old new kept stays;
       goes = (current_same old new kept stays, fewer_left);
-      found = found_in old.list.source.size old.list.current.stream_type far item f (is_far left) record_is fits (subst (λ (z : ℕ). AreIn z f.parts) size_is inside);
+      found = found_in old.list.source.size old.list.current.stream_type r.fields f (sym (ap (λ (e : Entry). kind_of e.stream_type) stays.current) ∙ of.0) fits (subst (λ (z : ℕ). AreIn z f.parts) size_is inside);
       of_file = of_known (Ok f) finds;
       told = tt;
       able = λ F known. tt;
@@ -460,7 +422,7 @@ module _ (old new : WalkerState) (kept : IsKept old) (left : 0 < records_to_give
       failed = ap ended_with leaves.list.stands.stop ∙ sym (ends_not fault of_places);
     }
 
-    pub gives_next : (result : Result FoundRecord ReadFault) → Finds result → MatchResult result (IsFittingOf (record_kind far item)) IsOfPlaces → IfOk result (λ f. AreIn size f.parts)
+    pub gives_next : (result : Result FoundRecord ReadFault) → Finds result → MatchResult result (IsFittingOf r.fields) IsOfPlaces → IfOk result (λ f. AreIn size f.parts)
         → GivesNext (state_of old) limit result (state_of new)
     gives_next (Ok f) finds fits inside = gives_found f finds fits inside
     gives_next (Err fault) finds fits inside = gives_refused fault finds fits
@@ -510,3 +472,49 @@ module _ (old new : WalkerState) (kept : IsKept old) (left : 0 < records_to_give
         };
         failed = ap ended_with leaves.list.stands.stop;
       }
+
+-- ---- a record as it was read
+
+module _ (old new : WalkerState) (kept : IsKept old) (left : 0 < records_to_give old.list) where
+  -- while records are left one is given
+  pub never_none : StepLeaves old (Ok None) new → ⊥
+  never_none leaves = none_given old new left (subst (λ (answer : Result (Option Item) ListFault). WalkerLeaves old answer new) leaves.told leaves.leaves)
+
+  module _ (s : Step) (leaves : StepLeaves old (Ok (Some s)) new) where
+    item_leaves : WalkerLeaves old (Ok (Some leaves.told.0)) new
+    item_leaves = subst (λ (answer : Result (Option Item) ListFault). WalkerLeaves old answer new) leaves.told.1.0 leaves.leaves
+
+    item_gives : (run : Run) → old.list.left ≡ Some run → slice_get run.items 0 ≡ Some (plain leaves.told.0)
+    item_gives run is = subst (λ (answer : Result (Option Item) ListFault). Gives run answer) leaves.told.1.0 (leaves.gives run is)
+
+    pub step_kept : IsKept new
+    step_kept = kept_record old new kept left leaves.told.0 item_leaves item_gives
+
+    pub step_same : IsSameLister old.list new.list
+    step_same = item_leaves.list.same
+
+  pub never_stream : (x : StreamItem) → StepLeaves old (Ok (Some (step.Stream x))) new → ⊥
+  never_stream x leaves =
+      let went = went old new kept left leaves.told.0 (item_leaves (step.Stream x) leaves) in
+      let none : (summary_of (items.Stream x)).stream ≡ None = sym (ap (λ (item : Item). (summary_of item).stream) leaves.told.1.1) ∙ went.0 in
+      cc none
+
+  pub step_gives : (r : RecordRead) (leaves : StepLeaves old (Ok (Some (step.Record r))) new) → IsStepOf (kind_of new.list.current.stream_type) (step.Record r) → (limit size : ℕ) → size ≡ old.list.source.size
+      → IsSizeOf old.list.source.store.content size → IsOfBytes old.list.source.store.content → (result : Result FoundRecord ReadFault)
+      → ((F : List ℕ) → length F ≡ size → AreBytes F → IsFoundInside F limit r result) → MatchResult result (IsFittingOf r.fields) IsOfPlaces → IfOk result (λ f. AreIn size f.parts)
+      → GivesNext (state_of old) limit result (state_of new)
+  step_gives r leaves of limit size size_is sized bytes =
+      gives_next old new kept left leaves.told.0 (item_leaves (step.Record r) leaves) (item_gives (step.Record r) leaves) r leaves.told.1.1 of limit size size_is sized bytes
+
+  module _ (f : ListFault) (leaves : StepLeaves old (Err f) new) where
+    fault_leaves : WalkerLeaves old (Err f) new
+    fault_leaves = subst (λ (answer : Result (Option Item) ListFault). WalkerLeaves old answer new) leaves.told leaves.leaves
+
+    pub step_refused : ((file : List ℕ) → IsGood old.list.source.store file → IsOfStore f.kind → ⊥) → (limit : ℕ) → GivesNext (state_of old) limit (Err (faults.List f)) (state_of new)
+    step_refused good limit = gives_fault old new kept left f fault_leaves (λ run is. subst (λ (answer : Result (Option Item) ListFault). Gives run answer) leaves.told (leaves.gives run is)) good limit
+
+    pub refused_kept : IsKept new
+    refused_kept = kept_fault old new kept left f fault_leaves
+
+    pub refused_same : IsSameLister old.list new.list
+    refused_same = fault_leaves.list.same

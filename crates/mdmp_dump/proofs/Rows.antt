@@ -9,7 +9,7 @@ use Rattle.mdmp_lister.specs.Format.Shape.{shape_of}
 use Rattle.mdmp_lister.specs.Format.Item.{sizes_before}
 use Rattle.mdmp_lister.specs.Format.Listing.{entries_from, only_chosen}
 use Rattle.mdmp_lister.proofs.Files.{head, entry, location, absent_stack_file, crash_file, faulty_file, memory64_file, misc_file, named_file, opaque_file, system_file}
-use Rattle.mdmp_dump.specs.declared.fault.PartName.TheVariants.{Stack, Context, CodeView, Misc, Memory}
+use Rattle.mdmp_wire.specs.declared.slot.PartName.TheVariants.{Stack, Context, CodeView, Misc, Memory}
 use Rattle.mdmp_dump.specs.declared.fault.ReadFault.TheVariants as faults
 use Rattle.mdmp_dump.specs.Refusal.{read_refusal, first_refusal}
 

@@ -15,7 +15,7 @@ use Rattle.mdmp_lister.specs.declared.shape.Shape.{Shape}
 use Rattle.mdmp_lister.specs.Format.Item.{item_at, name_of, record_at}
 use Rattle.mdmp_lister.specs.Format.Listing.{Run, item_then, items_from, joined, list_fault, only_fault, with_item}
 use Rattle.mdmp_lister.specs.Format.Name.{name_at}
-use Rattle.mdmp_dump.specs.declared.fault.PartName.{PartName}
+use Rattle.mdmp_wire.specs.declared.slot.PartName.{PartName}
 use Rattle.mdmp_dump.specs.declared.fault.ReadFault.{ReadFault}
 use Rattle.mdmp_dump.specs.declared.fault.ReadFault.TheVariants as faults
 use Rattle.mdmp_dump.specs.FileRefusal.{first_told, run_told}

@@ -11,7 +11,7 @@ use Rattle.mdmp_lister.specs.declared.item.Item.TheVariants as items
 use Rattle.mdmp_dump.specs.declared.module.ToldModule.{ToldModule}
 use Rattle.mdmp_dump.specs.declared.row.ToldRecord.{ToldRecord}
 use Rattle.mdmp_dump.specs.Refusal.{ReadStep, location_steps}
-use Rattle.mdmp_dump.specs.declared.fault.PartName.TheVariants.{CodeView, Misc}
+use Rattle.mdmp_wire.specs.declared.slot.PartName.TheVariants.{CodeView, Misc}
 use Rattle.mdmp_wire.specs.declared.any_record.AnyRecord.TheVariants as any
 use Rattle.mdmp_dump.specs.Seen.{Seen, seen, nowhere, size_of, bytes_of, name_size, unit_bytes}
 use Rattle.mdmp_wire.specs.declared.version.VersionInfo.{VersionInfo}

@@ -1,12 +1,11 @@
 -- A record that a view gives, as it is written: one rule for all kinds.
 use Rattle.std.specs.Prelude.{ℕ, ◌+◌, List, [], ◌∷◌, ◌++◌, get_or}
 use Rattle.mdmp_source.specs.declared.location.Location.{Location}
-use Rattle.mdmp_wire.specs.AnyRecord.{any_bytes, slot_at}
+use Rattle.mdmp_wire.specs.AnyRecord.{any_bytes, slot_at, with_slots}
 use Rattle.mdmp_wire.specs.Number.{le, zeros}
 use Rattle.mdmp_dump.specs.declared.view.PartSize.{PartSize}
 use Rattle.mdmp_dump.specs.declared.view.PartSize.TheVariants.{NoPart, Size, Absent}
 use Rattle.mdmp_wire.specs.declared.any_record.AnyRecord.{AnyRecord}
-use Rattle.mdmp_wire.specs.declared.any_record.AnyRecord.TheVariants as any
 use Rattle.mdmp_wire.specs.declared.slot.Slot.{Slot}
 use Rattle.mdmp_wire.specs.declared.slot.Slot.TheVariants as slots
 use Rattle.mdmp_dump.specs.declared.view.Fields.{Fields}
@@ -56,26 +55,28 @@ abbrev pub name_around : PartSize → List ℕ → List ℕ
 name_around (Size n) bytes = le 4 n ++ bytes ++ zeros 2
 name_around _ bytes = []
 
--- the record with its locations, where its parts begin at a place
-abbrev pub placed_by : AnyRecord → Fields → ℕ → AnyRecord
-placed_by (any.Thread r) f at = any.Thread (record r {
-  stack = record r.stack { memory = location_of (size_at f 0) at };
-  thread_context = location_of (size_at f 1) (at + part_room (size_at f 0));
-})
-placed_by (any.Module r) f at = any.Module (record r {
-  module_name_rva = address_of (size_at f 0) at;
-  cv_record = location_of (size_at f 1) (at + name_room (size_at f 0));
-  misc_record = location_of (size_at f 2) (at + name_room (size_at f 0) + part_room (size_at f 1));
-})
-placed_by (any.Memory r) f at = any.Memory (record r { memory = location_of (size_at f 0) at })
-placed_by (any.Exception r) f at = any.Exception (record r { thread_context = location_of (size_at f 0) at })
-placed_by (any.System r) f at = any.System (record r { csd_version_rva = address_of (size_at f 0) at })
-placed_by (any.Unloaded r) f at = any.Unloaded (record r { module_name_rva = address_of (size_at f 0) at })
-placed_by (any.ThreadName r) f at = any.ThreadName (record r { rva_of_thread_name = address_of (size_at f 0) at })
-placed_by w f at = w
+-- the room that a slot takes
+abbrev pub slot_room : Slot → PartSize → ℕ
+slot_room (slots.Name rva) size = name_room size
+slot_room (slots.Part name at) size = part_room size
+slot_room slot size = 0
 
+-- a slot whose name or part is written at a place
+abbrev pub slot_placed : Slot → PartSize → ℕ → Slot
+slot_placed (slots.Name rva) size at = slots.Name (address_of size at)
+slot_placed (slots.Part name location) size at = slots.Part name (location_of size at)
+slot_placed slot size at = slot
+
+-- the slots of a record, where its parts begin at a place
+abbrev pub slots_placed : AnyRecord → Fields → ℕ → List Slot
+slots_placed w f at =
+    slot_placed (slot_at w 0) (size_at f 0) at
+    ∷ slot_placed (slot_at w 1) (size_at f 1) (at + slot_room (slot_at w 0) (size_at f 0))
+    ∷ slot_placed (slot_at w 2) (size_at f 2) (at + slot_room (slot_at w 0) (size_at f 0) + slot_room (slot_at w 1) (size_at f 1)) ∷ []
+
+-- the record with its locations
 abbrev pub placed : Fields → ℕ → AnyRecord
-placed f at = placed_by f.wire f at
+placed f at = with_slots f.wire (slots_placed f.wire f at)
 
 -- its row, and the parts that are written behind the stream's body
 abbrev pub seen_row : Seen → ℕ → List ℕ
@@ -83,9 +84,9 @@ seen_row s at = any_bytes (placed s.fields at)
 
 -- what is written of a slot
 abbrev pub slot_text : Slot → PartSize → List ℕ → List ℕ
-slot_text slots.Empty size bytes = []
 slot_text (slots.Name rva) size bytes = name_around size bytes
-slot_text (slots.Part at) size bytes = bytes
+slot_text (slots.Part name at) size bytes = bytes
+slot_text slot size bytes = []
 
 abbrev pub parts_by : AnyRecord → Seen → List (List ℕ)
 parts_by w s =
@@ -96,12 +97,6 @@ parts_by w s =
 abbrev pub seen_parts : Seen → List (List ℕ)
 seen_parts s = parts_by s.fields.wire s
 
--- the room that a slot takes
-abbrev pub slot_room : Slot → PartSize → ℕ
-slot_room slots.Empty size = 0
-slot_room (slots.Name rva) size = name_room size
-slot_room (slots.Part at) size = part_room size
-
 -- the room that the name and parts of a record take
 abbrev pub room_by : AnyRecord → Fields → ℕ
 room_by w f = slot_room (slot_at w 0) (size_at f 0) + slot_room (slot_at w 1) (size_at f 1) + slot_room (slot_at w 2) (size_at f 2)
@@ -110,9 +105,12 @@ abbrev pub fields_room : Fields → ℕ
 fields_room f = room_by f.wire f
 
 -- the bytes of 64-bit memory that a record has, which stand elsewhere
+abbrev pub slot_far : Slot → PartSize → ℕ
+slot_far (slots.Behind n) size = size_in size
+slot_far slot size = 0
+
 abbrev pub far_by : AnyRecord → Fields → ℕ
-far_by (any.Memory64 r) f = size_in (size_at f 0)
-far_by _ f = 0
+far_by w f = slot_far (slot_at w 0) (size_at f 0)
 
 abbrev pub far_room : Fields → ℕ
 far_room f = far_by f.wire f

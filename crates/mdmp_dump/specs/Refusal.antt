@@ -13,8 +13,8 @@ use Rattle.mdmp_lister.specs.declared.item.Item.TheVariants as items
 use Rattle.mdmp_lister.specs.Format.Kind.{is_known}
 use Rattle.mdmp_lister.specs.Format.Listing.{Run, listing}
 use Rattle.mdmp_lister.specs.Format.Refusal.{opening_fault}
-use Rattle.mdmp_dump.specs.declared.fault.PartName.{PartName}
-use Rattle.mdmp_dump.specs.declared.fault.PartName.TheVariants.{Stack, Context, CodeView, Misc, Memory}
+use Rattle.mdmp_wire.specs.declared.slot.PartName.{PartName}
+use Rattle.mdmp_wire.specs.declared.slot.PartName.TheVariants.{Stack, Context, CodeView, Misc, Memory}
 use Rattle.mdmp_dump.specs.declared.fault.ReadFault.{ReadFault}
 use Rattle.mdmp_dump.specs.declared.fault.ReadFault.TheVariants as faults
 

@@ -10,7 +10,7 @@ use Rattle.mdmp_lister.specs.declared.item.ThreadItem.{ThreadItem}
 use Rattle.mdmp_lister.specs.declared.item.Item.TheVariants as items
 use Rattle.mdmp_dump.specs.declared.row.ToldRecord.{ToldRecord}
 use Rattle.mdmp_dump.specs.Refusal.{ReadStep, location_steps}
-use Rattle.mdmp_dump.specs.declared.fault.PartName.TheVariants.{Stack, Context}
+use Rattle.mdmp_wire.specs.declared.slot.PartName.TheVariants.{Stack, Context}
 use Rattle.mdmp_wire.specs.declared.any_record.AnyRecord.TheVariants as any
 use Rattle.mdmp_dump.specs.Seen.{Seen, seen, nowhere, size_of, bytes_of}
 use Rattle.mdmp_dump.specs.declared.view.PartSize.TheVariants.{NoPart}

@@ -1,12 +1,10 @@
 -- How a walk over the entries of a file stands, by the walker under it.
-use Rattle.std.specs.Prelude.{◌≡◌, ◌≤◌, ◌<◌, ◌+◌, ◌-◌, ◌*◌, ◌^◌, ◌==◌, ℕ, Bool, false, List, Option, Some, None, Ok, drop, get_or, length, slice_get, if◌then◌else◌}
+use Rattle.std.specs.Prelude.{◌≡◌, ◌≤◌, ◌<◌, ◌+◌, ◌-◌, ◌*◌, ◌^◌, ◌==◌, ℕ, false, List, Option, Some, None, Ok, drop, get_or, length, slice_get, if◌then◌else◌}
 use Rattle.mdmp_source.specs.declared.fault.SourceFault.{SourceFault}
 use Rattle.mdmp_wire.specs.declared.entry.Entry.{Entry}
 use Rattle.mdmp_lister.specs.Counts.{numbers_of}
 use Rattle.mdmp_lister.specs.declared.choice.Choice.{Choice}
 use Rattle.mdmp_lister.specs.declared.fault.ListFault.{ListFault}
-use Rattle.mdmp_lister.specs.declared.kind.StreamKind.{StreamKind}
-use Rattle.mdmp_lister.specs.Format.Kind.{is_memory64, kind_of}
 use Rattle.mdmp_lister.specs.Format.Listing.{Numbered, only_chosen}
 use Rattle.mdmp_lister.specs.Format.Shape.{record_count}
 use Rattle.mdmp_lister.specs.Lister.{ListerState}
@@ -97,16 +95,6 @@ pub record IsPlaceOf (v : ListerState) (stream : ℕ) (place : EntryPlace) : Typ
   pub within : place.number < length v.entries
   pub entry : (e : Entry) → slice_get v.entries place.number ≡ Some e → get_or (chosen_of v) stream no_entry ≡ record { number = place.number; entry = e }
 
--- a stream of this kind is a list of 64-bit memory
-abbrev pub lists_memory64 : Option StreamKind → Bool
-lists_memory64 (Some kind) = is_memory64 kind
-lists_memory64 None = false
-
--- it is told whether the stream that was begun last is one
-abbrev pub IsFar : ListerState → Bool → Type 0
-IsFar v far = 0 < records_to_give v → far ≡ lists_memory64 (kind_of v.current.stream_type)
-
-pub record IsStanding (w : WalkerState) (place : EntryPlace) (far : Bool) : Type 0 where
+pub record IsStanding (w : WalkerState) (place : EntryPlace) : Type 0 where
   pub kept : IsKept w
   pub stands : IsPlace w.list place
-  pub told : IsFar w.list far

@@ -8,7 +8,7 @@ ghost use Rattle.mdmp_dump.specs.EntryWalk.{Begins, GivesNext, IsOpenedWalk, Wal
 ghost use Rattle.mdmp_lister.specs.Format.Kind.{kind_of};
 ghost use Rattle.mdmp_lister.specs.Format.Listing.{entry_of};
 ghost use Rattle.mdmp_lister.specs.Lister.{IsSameLister};
-ghost use Rattle.mdmp_dump.specs.Walking.{IsFar, IsKept, IsPlace, IsPlaceOf, chosen_of, lists_memory64, records_to_give, state_of};
+ghost use Rattle.mdmp_dump.specs.Walking.{IsKept, IsPlace, IsPlaceOf, chosen_of, records_to_give, state_of};
 ghost use Rattle.mdmp_dump.specs.FileRefusal.{view_refusal};
 ghost use Rattle.mdmp_lister.specs.Meter.{KeepsTo};
 ghost use Rattle.mdmp_dump.specs.Opened.{HandsSourceBack, RefusesView};
@@ -17,10 +17,10 @@ ghost use Rattle.mdmp_lister.specs.Memory.{is_within};
 ghost use Rattle.mdmp_dump.specs.Reading.{IsWanting, refusal_of};
 
 use crate::fault::ReadFault;
-use crate::found_record::{FoundRecord, found_item};
+use crate::found_record::{FoundRecord, found_record};
 use crate::given::nowhere;
 use crate::read::refusal;
-use mdmp_lister::{Choice, Limits, OpenFault, StreamKind, Walker};
+use mdmp_lister::{Choice, Limits, OpenFault, Step, Walker};
 use mdmp_source::{Source, SourceFault, Store};
 use mdmp_wire::{Entry, Header};
 use std::alloc::Allocator;
@@ -55,13 +55,13 @@ pub(crate) struct EntryWalk<S: Store + Drop, A: Allocator + Copy> {
 impl<S: Store + Drop, A: Allocator + Copy> Model for EntryWalk<S, A> {
     ghost use Rattle.mdmp_lister.specs.Format.Kind.{kind_of};
     ghost use Rattle.mdmp_dump.specs.EntryWalk.{WalkState};
-    ghost use Rattle.mdmp_dump.specs.Walking.{IsStanding, lists_memory64, state_of};
+    ghost use Rattle.mdmp_dump.specs.Walking.{IsStanding, state_of};
 
     ghost Value = { WalkState };
 
     ghost view = { λ w. state_of w.walker };
 
-    ghost invariant = { λ w. IsStanding w.walker w.place (lists_memory64 (kind_of w.begun.stream_type)) };
+    ghost invariant = { λ w. IsStanding w.walker w.place };
 }
 
 impl<S: Store + Drop, A: Allocator + Copy> EntryWalk<S, A> {
@@ -234,16 +234,6 @@ fn copy_refusal(fault: OpenFault) -> ReadFault
     }
 }
 
-/// Whether a stream of this type is a list of 64-bit memory.
-fn lists_memory64(stream_type: u32) -> bool
-    ensures { result ≡ lists_memory64 (kind_of stream_type) }
-{
-    match StreamKind::of_type(stream_type) {
-        Some(kind) => kind.is_memory64(),
-        None => false,
-    }
-}
-
 /// The place of the entry of a stream, found from one that is known.
 fn place_of<S: Store + Drop, A: Allocator + Copy>(
     walker: &Walker<S, A>,
@@ -287,7 +277,6 @@ fn begin_entry<S: Store + Drop, A: Allocator + Copy>(
     ensures begins { (stream : ℕ) (e : Entry) → slice_get walker.old.list.entries number ≡ Some e
         → chosen_entry (state_of walker.old) stream ≡ record { number = number; entry = e } → Begins (state_of walker.old) stream result (state_of walker.new) }
     ensures kept { IsKept walker.new }
-    ensures far { (e : Entry) → slice_get walker.old.list.entries number ≡ Some e → IsFar walker.new.list (lists_memory64 (kind_of e.stream_type)) }
     ensures same { IsSameLister walker.old.list walker.new.list }
 {
     walker.seek_entry(number);
@@ -308,24 +297,17 @@ fn found_next<S: Store + Drop, A: Allocator + Copy>(
     limit: u32,
 ) -> Result<FoundRecord, ReadFault>
     requires left { 0 < records_to_give walker.old.list }
-    requires far { IsFar walker.old.list (lists_memory64 (kind_of begun.stream_type)) }
     requires kept { IsKept walker.old }
     ensures gives { GivesNext (state_of walker.old) limit result (state_of walker.new) }
     ensures kept { IsKept walker.new }
-    ensures far { IsFar walker.new.list (lists_memory64 (kind_of begun.stream_type)) }
     ensures same { IsSameLister walker.old.list walker.new.list }
 {
     let size = walker.size();
-    match walker.next() {
-        Ok(Some(item)) => found_item(
-            &item,
-            lists_memory64(begun.stream_type),
-            begun.location.rva,
-            limit,
-            size,
-        ),
+    match walker.next_step() {
+        Ok(Some(Step::Record(read))) => found_record(&read, begun.location.rva, limit, size),
         // Records are left.
-        Ok(None) => Err(ReadFault::Memory),
+        Ok(Some(Step::Stream(_))) => unreachable!(),
+        Ok(None) => unreachable!(),
         Err(fault) => Err(ReadFault::List(fault)),
     }
 }

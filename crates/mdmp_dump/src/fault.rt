@@ -2,21 +2,7 @@
 
 use mdmp_lister::{ListFault, OpenFault};
 use mdmp_source::SourceFault;
-
-/// A part that records have.
-#[derive(Clone, Copy, Debug, PartialEq, Eq)]
-pub enum PartName {
-    /// The stack of a thread.
-    Stack,
-    /// The registers of a thread, or of an exception's thread.
-    Context,
-    /// The CodeView record of a module.
-    CodeView,
-    /// The miscellaneous debug record of a module.
-    Misc,
-    /// The bytes of a range of memory.
-    Memory,
-}
+pub use mdmp_wire::PartName;
 
 /// Why a file gives no dump: the first reason in the order of its listing. Of one record the name
 /// comes first, and then its parts in the order of its fields.

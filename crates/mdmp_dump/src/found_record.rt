@@ -1,32 +1,24 @@
 //! A record of a file, with the places of its name and parts.
 
-ghost use Rattle.std.specs.Prelude.{◌≡◌, ◌≤◌, ◌↔◌, ◌<◌, ◌+◌, ◌^◌, ◌-◌, ℕ, List, Ok, Some, IfErr, IfOk, IsTrue, MatchResult, length};
+ghost use Rattle.std.specs.Prelude.{◌≡◌, ◌≤◌, ◌↔◌, ◌<◌, ◌+◌, ◌^◌, ℕ, List, Ok, IfErr, IfOk, IsTrue, MatchResult, length};
 ghost use Rattle.mdmp_source.specs.Extent.{extent_of};
-ghost use Rattle.mdmp_lister.specs.Format.Name.{name_at, plain_name};
-ghost use Rattle.mdmp_lister.specs.declared.item.Item.TheVariants as items;
-ghost use Rattle.mdmp_lister.specs.Format.Item.{plain};
-ghost use Rattle.mdmp_source.specs.declared.location.Location.{Location};
-ghost use Rattle.mdmp_source.specs.declared.location.Extent.TheVariants.{Absent};
-ghost use Rattle.mdmp_lister.specs.Format.Ranges.{IsRangeIn};
-ghost use Rattle.mdmp_lister.specs.Format.Ranges.{IsPlacedIn};
-ghost use Rattle.mdmp_lister.specs.declared.kind.StreamKind.TheVariants as kinds;
 ghost use Rattle.mdmp_source.specs.Store.{AreBytes};
-ghost use Rattle.mdmp_dump.specs.Finding.{FindsName, FindsPart, FindsRange, IsAbleOf, IsFittingOf, IsFoundAs, IsFoundInside, IsFoundOf, IsOfPlaces, IsOfRecord, range_kind, record_kind};
+ghost use Rattle.mdmp_wire.specs.Number.{array_at};
+ghost use Rattle.mdmp_lister.specs.declared.name.Name.{Name};
+ghost use Rattle.mdmp_lister.specs.Format.Item.{range_extent_of};
+ghost use Rattle.mdmp_lister.specs.Format.Name.{name_at};
+ghost use Rattle.mdmp_lister.specs.Step.{IsNameTold};
+ghost use Rattle.mdmp_dump.specs.Finding.{FindsName, FindsPart, FindsSlot, FindsStep, IsCountedName, IsFittingOf, IsFoundInFile, IsFoundInside, IsOfPlaces, IsOfRecord};
 ghost use Rattle.mdmp_dump.specs.FoundRecord.{AreIn, IsPartIn, fields_of};
+ghost use Rattle.mdmp_dump.specs.Placed.{size_in, slot_far, slot_room};
+ghost use Rattle.mdmp_dump.specs.Refusal.{part_steps};
 ghost use Rattle.mdmp_dump.specs.declared.view.PartSize.TheVariants.{Size};
 
 use crate::fault::{PartName, ReadFault};
-use crate::given::nowhere;
 use crate::view::{Fields, PartSize};
-use mdmp_lister::{
-    ExceptionItem, Item, MemoryInfoItem, ModuleItem, Name, RangeItem, SystemItem, ThreadItem,
-    ThreadNameItem, UnloadedItem,
-};
+use mdmp_lister::{NameRead, RecordRead, range_extent};
 use mdmp_source::{Extent, Location, SourceFault, inside};
-use mdmp_wire::{
-    AnyRecord, Descriptor, Descriptor64, ExceptionRecord, ModuleRecord, SystemRecord,
-    ThreadNameRecord, ThreadRecord, UnloadedRecord,
-};
+use mdmp_wire::{AnyRecord, Slot};
 
 /// A name or a part of a record, and where its bytes stand in the file; a name's are its units.
 #[derive(Clone, Copy)]
@@ -82,48 +74,46 @@ impl FoundRecord {
     }
 }
 
-/// So many bytes of units, behind the length that stands at `rva`. Behind the last length that a file
-/// can have there is no such place, which is refused as want of memory is.
-fn units_part(rva: u64, bytes: u64) -> Result<PartAt, ReadFault>
-    ensures { MatchResult result (λ part. part ≡ record { size = Size bytes; at = rva + 4 }) (λ fault. (fault ≡ ReadFault.Memory) × (2 ^ 64 ≤ rva + 4)) }
-{
-    let Some(at) = rva.checked_add(4) else {
-        return Err(ReadFault::Memory);
-    };
-    Ok(PartAt {
-        size: PartSize::Size(bytes),
-        at,
-    })
-}
-
 /// The name of a record, that stands at `rva` and was read with the limit 0; or that it has more than
 /// `limit` bytes.
 fn name_part(
     entry: u32,
     index: u64,
     rva: u64,
-    name: &Name<'_>,
+    name: NameRead,
     limit: u32,
 ) -> Result<PartAt, ReadFault>
-    ensures finds { (file : List ℕ) → name_at file rva 0 ≡ Ok (plain_name name.now) → FindsName file limit entry index rva result }
-    ensures refuses { IfErr result IsOfPlaces }
-    ensures able { rva + 4 < 2 ^ 64 → IfErr result IsOfRecord }
+    ensures finds { (file : List ℕ) (told : Name) → length file < 2 ^ 64 → IsNameTold name told → name_at file rva 0 ≡ Ok told → FindsName file limit entry index rva result }
+    ensures refuses { IfErr result IsOfRecord }
 {
     match name {
-        Name::None => Ok(NO_PART),
-        Name::Units(units) => units_part(rva, units.bytes().len() as u64),
-        Name::Long(length) => {
-            let length = *length;
-            if limit < length {
-                return Err(ReadFault::NameTooLong {
-                    entry,
-                    index,
-                    length,
-                });
-            }
-            units_part(rva, u64::from(length))
-        }
+        NameRead::None => Ok(NO_PART),
+        NameRead::Units(length) => counted_name(entry, index, rva, length, limit),
+        NameRead::Long(length) => counted_name(entry, index, rva, length, limit),
     }
+}
+
+/// A name of so many bytes, which stand behind their length.
+fn counted_name(
+    entry: u32,
+    index: u64,
+    rva: u64,
+    length: u32,
+    limit: u32,
+) -> Result<PartAt, ReadFault>
+    ensures { IsCountedName limit entry index rva length result }
+{
+    if limit < length {
+        return Err(ReadFault::NameTooLong {
+            entry,
+            index,
+            length,
+        });
+    }
+    Ok(PartAt {
+        size: PartSize::Size(u64::from(length)),
+        at: rva.saturating_add(4),
+    })
 }
 
 /// The part that a location of this class names.
@@ -160,270 +150,82 @@ fn location_part(
     }
 }
 
-fn found_thread(x: &ThreadItem, limit: u32) -> Result<FoundRecord, ReadFault>
-    ensures finds { IsFoundOf (items.Thread x.now) limit result }
-    ensures fits { MatchResult result (IsFittingOf (Some kinds.Threads)) IsOfRecord }
+/// So many bytes of a 64-bit memory list, which stand behind those of the ranges before them.
+fn range_part(read: &RecordRead, bytes: u64, size: u64) -> Result<PartAt, ReadFault>
+    ensures finds { (file : List ℕ) → length file ≡ size
+        → IsFoundInFile file (part_steps read.now.entry read.now.index PartName.Memory read.now.offset bytes (range_extent_of read.now.offset bytes size))
+        (Size (length (array_at file read.now.offset bytes))) (array_at file read.now.offset bytes) result }
+    ensures refuses { IfErr result IsOfRecord }
 {
-    let stack = location_part(
-        x.entry,
-        x.index,
-        PartName::Stack,
-        x.fields.stack.memory,
-        x.stack,
-    )?;
-    let context = location_part(
-        x.entry,
-        x.index,
-        PartName::Context,
-        x.fields.thread_context,
-        x.context,
-    )?;
-    let wire = AnyRecord::Thread(ThreadRecord {
-        stack: Descriptor {
-            memory: nowhere(),
-            ..x.fields.stack
-        },
-        thread_context: nowhere(),
-        ..x.fields
-    });
-    Ok(FoundRecord {
-        wire,
-        parts: [stack, context, NO_PART],
-    })
-}
-
-fn found_exception(x: &ExceptionItem, limit: u32) -> Result<FoundRecord, ReadFault>
-    ensures finds { IsFoundOf (items.Exception x.now) limit result }
-    ensures fits { MatchResult result (IsFittingOf (Some kinds.Exception)) IsOfRecord }
-{
-    let context = location_part(
-        x.entry,
-        x.index,
-        PartName::Context,
-        x.fields.thread_context,
-        x.context,
-    )?;
-    let wire = AnyRecord::Exception(ExceptionRecord {
-        thread_context: nowhere(),
-        ..x.fields
-    });
-    Ok(FoundRecord {
-        wire,
-        parts: [context, NO_PART, NO_PART],
-    })
-}
-
-fn found_memory_info(x: &MemoryInfoItem, limit: u32) -> Result<FoundRecord, ReadFault>
-    ensures finds { IsFoundOf (items.MemoryInfo x.now) limit result }
-    ensures fits { MatchResult result (IsFittingOf (Some kinds.MemoryInfo)) IsOfRecord }
-{
-    Ok(FoundRecord {
-        wire: AnyRecord::MemoryInfo(x.fields),
-        parts: [NO_PART, NO_PART, NO_PART],
-    })
-}
-
-fn found_module(x: &ModuleItem<'_>, limit: u32) -> Result<FoundRecord, ReadFault>
-    ensures finds { IsFoundOf (plain (items.Module x.now)) limit result }
-    ensures fits { MatchResult result (IsFittingOf (Some kinds.Modules)) IsOfRecord }
-{
-    let name = name_part(
-        x.entry,
-        x.index,
-        u64::from(x.fields.module_name_rva),
-        &x.name,
-        limit,
-    )?;
-    let codeview = location_part(
-        x.entry,
-        x.index,
-        PartName::CodeView,
-        x.fields.cv_record,
-        x.codeview,
-    )?;
-    let misc = location_part(
-        x.entry,
-        x.index,
-        PartName::Misc,
-        x.fields.misc_record,
-        x.misc,
-    )?;
-    let wire = AnyRecord::Module(ModuleRecord {
-        module_name_rva: 0,
-        cv_record: nowhere(),
-        misc_record: nowhere(),
-        ..x.fields
-    });
-    Ok(FoundRecord {
-        wire,
-        parts: [name, codeview, misc],
-    })
-}
-
-fn found_unloaded(x: &UnloadedItem<'_>, limit: u32) -> Result<FoundRecord, ReadFault>
-    ensures finds { IsFoundOf (plain (items.Unloaded x.now)) limit result }
-    ensures fits { MatchResult result (IsFittingOf (Some kinds.Unloaded)) IsOfRecord }
-{
-    let name = name_part(
-        x.entry,
-        x.index,
-        u64::from(x.fields.module_name_rva),
-        &x.name,
-        limit,
-    )?;
-    let wire = AnyRecord::Unloaded(UnloadedRecord {
-        module_name_rva: 0,
-        ..x.fields
-    });
-    Ok(FoundRecord {
-        wire,
-        parts: [name, NO_PART, NO_PART],
-    })
-}
-
-fn found_system(x: &SystemItem<'_>, limit: u32) -> Result<FoundRecord, ReadFault>
-    ensures finds { IsFoundOf (plain (items.System x.now)) limit result }
-    ensures fits { MatchResult result (IsFittingOf (Some kinds.System)) IsOfRecord }
-{
-    let name = name_part(
-        x.entry,
-        x.index,
-        u64::from(x.fields.csd_version_rva),
-        &x.name,
-        limit,
-    )?;
-    let wire = AnyRecord::System(SystemRecord {
-        csd_version_rva: 0,
-        ..x.fields
-    });
-    Ok(FoundRecord {
-        wire,
-        parts: [name, NO_PART, NO_PART],
-    })
-}
-
-fn found_thread_name(x: &ThreadNameItem<'_>, limit: u32) -> Result<FoundRecord, ReadFault>
-    ensures finds { IsFoundOf (plain (items.ThreadName x.now)) limit result }
-    ensures fits { MatchResult result (IsFittingOf (Some kinds.ThreadNames)) IsOfPlaces }
-    ensures able { IsAbleOf (plain (items.ThreadName x.now)) result }
-{
-    let name = name_part(
-        x.entry,
-        x.index,
-        x.fields.rva_of_thread_name,
-        &x.name,
-        limit,
-    )?;
-    let wire = AnyRecord::ThreadName(ThreadNameRecord {
-        rva_of_thread_name: 0,
-        ..x.fields
-    });
-    Ok(FoundRecord {
-        wire,
-        parts: [name, NO_PART, NO_PART],
-    })
-}
-
-/// The bytes of a range. An absent one has a size of 32 bits: another is refused as want of memory is.
-fn range_part(x: &RangeItem) -> Result<PartAt, ReadFault>
-    requires placed { IsRangeIn (2 ^ 64 - 1) x.now }
-    ensures named { (file : List ℕ) (at : Location) → x.now.size ≡ at.size → x.now.offset ≡ at.rva → extent_of at (length file) ≡ x.now.extent
-        → FindsPart file x.now.entry x.now.index PartName.Memory at result }
-    ensures listed { (file : List ℕ) → FindsRange file x.now result }
-    ensures refuses { IfErr result IsOfPlaces }
-    ensures able { (x.now.extent ≡ Absent → x.now.size < 2 ^ 32) → IfErr result IsOfRecord }
-{
-    match x.extent {
+    match range_extent(read.offset, bytes, size) {
         Extent::Empty => Ok(PartAt {
             size: PartSize::Size(0),
             at: 0,
         }),
-        Extent::Absent => {
-            let Ok(size) = u32::try_from(x.size) else {
-                return Err(ReadFault::Memory);
-            };
-            Ok(PartAt {
-                size: PartSize::Absent(size),
-                at: 0,
-            })
-        }
         Extent::Inside => Ok(PartAt {
-            size: PartSize::Size(x.size),
-            at: x.offset as u64,
+            size: PartSize::Size(bytes),
+            at: read.offset as u64,
         }),
         Extent::Outside => Err(ReadFault::PartOutside {
-            entry: x.entry,
-            index: x.index,
+            entry: read.entry,
+            index: read.index,
             part: PartName::Memory,
-            offset: x.offset,
-            size: x.size,
+            offset: read.offset,
+            size: bytes,
         }),
+        Extent::Absent => unreachable!(),
     }
 }
 
-fn found_range(x: &RangeItem, far: bool, limit: u32) -> Result<FoundRecord, ReadFault>
-    requires placed { IsRangeIn (2 ^ 64 - 1) x.now }
-    ensures finds { IsFoundAs far (items.Range x.now) limit result }
-    ensures fits { MatchResult result (IsFittingOf (Some (range_kind far))) IsOfPlaces }
-    ensures able { IsAbleOf (items.Range x.now) result }
+/// What stands behind a slot of a record.
+fn found_slot(read: &RecordRead, slot: Slot, limit: u32, size: u64) -> Result<PartAt, ReadFault>
+    ensures finds { (file : List ℕ) → length file ≡ size → FindsSlot file limit read.now slot result }
+    ensures fits { MatchResult result (λ p. size_in p.size ≤ slot_room slot p.size + slot_far slot p.size) IsOfRecord }
 {
-    let bytes = range_part(x)?;
-    if far {
-        return Ok(FoundRecord {
-            wire: AnyRecord::Memory64(Descriptor64 {
-                start_of_memory_range: x.start,
-                data_size: x.size,
-            }),
-            parts: [bytes, NO_PART, NO_PART],
-        });
+    match slot {
+        Slot::Empty => Ok(NO_PART),
+        Slot::Name(rva) => name_part(read.entry, read.index, rva, read.name, limit),
+        Slot::Part(part, location) => location_part(
+            read.entry,
+            read.index,
+            part,
+            location,
+            location.classify(size),
+        ),
+        Slot::Behind(bytes) => range_part(read, bytes, size),
     }
+}
+
+/// The record that was read, with the places of its name and parts, wherever they lie.
+fn found_parts(read: &RecordRead, limit: u32, size: u64) -> Result<FoundRecord, ReadFault>
+    ensures finds { (file : List ℕ) → length file ≡ size → FindsStep file limit read.now result }
+    ensures fits { MatchResult result (IsFittingOf read.now.fields) IsOfRecord }
+{
+    let [one, two, three] = read.fields.slots();
+    let first = found_slot(read, one, limit, size)?;
+    let second = found_slot(read, two, limit, size)?;
+    let third = found_slot(read, three, limit, size)?;
     Ok(FoundRecord {
-        wire: AnyRecord::Memory(Descriptor {
-            start_of_memory_range: x.start,
-            memory: nowhere(),
-        }),
-        parts: [bytes, NO_PART, NO_PART],
+        wire: read.fields.bare(),
+        parts: [first, second, third],
     })
 }
 
-/// The record of an item, with the places of its name and parts, which lie inside a file of `size` bytes;
-/// or why it is refused. `is_far` says that the item is one of a list of 64-bit memory, and its stream
-/// stands at `rva`.
-pub(crate) fn found_item(
-    item: &Item<'_>,
-    is_far: bool,
+/// The record that was read, with the places of its name and parts, which lie inside a file of `size`
+/// bytes; or why it is refused. Its stream stands at `rva`.
+pub(crate) fn found_record(
+    read: &RecordRead,
     rva: u32,
     limit: u32,
     size: u64,
 ) -> Result<FoundRecord, ReadFault>
-    requires placed { IsPlacedIn (2 ^ 64 - 1) item.now }
-    ensures finds { (file : List ℕ) → length file ≡ size → AreBytes file → IsFoundInside file is_far (plain item.now) limit result }
-    ensures fits { MatchResult result (IsFittingOf (record_kind is_far item.now)) IsOfPlaces }
+    ensures finds { (file : List ℕ) → length file ≡ size → AreBytes file → IsFoundInside file limit read.now result }
+    ensures fits { MatchResult result (IsFittingOf read.now.fields) IsOfPlaces }
     ensures inside { IfOk result (λ f. AreIn size f.parts) }
 {
-    let found = found_by_kind(item, is_far, limit)?;
+    let found = found_parts(read, limit, size)?;
     if !found.lies_inside(size) {
         return Err(ReadFault::Source(SourceFault::Changed { at: u64::from(rva) }));
     }
     Ok(found)
-}
-
-/// The same, wherever its name and parts lie. A Stream item, which is never asked for, is refused.
-fn found_by_kind(item: &Item<'_>, is_far: bool, limit: u32) -> Result<FoundRecord, ReadFault>
-    requires placed { IsPlacedIn (2 ^ 64 - 1) item.now }
-    ensures finds { IsFoundAs is_far (plain item.now) limit result }
-    ensures fits { MatchResult result (IsFittingOf (record_kind is_far item.now)) IsOfPlaces }
-    ensures able { IsAbleOf (plain item.now) result }
-{
-    match item {
-        Item::Thread(x) => found_thread(x, limit),
-        Item::Module(x) => found_module(x, limit),
-        Item::Unloaded(x) => found_unloaded(x, limit),
-        Item::Exception(x) => found_exception(x, limit),
-        Item::System(x) => found_system(x, limit),
-        Item::MemoryInfo(x) => found_memory_info(x, limit),
-        Item::ThreadName(x) => found_thread_name(x, limit),
-        Item::Range(x) => found_range(x, is_far, limit),
-        Item::Stream(_) => Err(ReadFault::Memory),
-    }
 }

@@ -1,13 +1,10 @@
 //! A record as it is written, with the places of its name and parts.
 ghost use Rattle.std.specs.Prelude.{◌≡◌, ◌+◌, ◌<◌, ◌≤◌, ◌^◌};
-ghost use Rattle.mdmp_dump.specs.Placed.{address_of, far_room, fields_bytes, fields_room, location_of, name_room, part_room, placed, size_in, slot_room};
+ghost use Rattle.mdmp_dump.specs.Placed.{address_of, far_room, fields_bytes, fields_room, location_of, name_room, part_room, placed, size_in, slot_placed, slot_room};
 
 use crate::view::{Fields, PartSize};
 use mdmp_source::Location;
-use mdmp_wire::{
-    AnyRecord, Descriptor, ExceptionRecord, ModuleRecord, Slot, SystemRecord, ThreadNameRecord,
-    ThreadRecord, UnloadedRecord,
-};
+use mdmp_wire::{AnyRecord, Slot};
 
 impl PartSize {
     /// How many bytes it has: none where there is no part, or where that is absent.
@@ -42,46 +39,26 @@ impl Fields {
         ensures { result ≡ placed self.now at }
     {
         let [first, second, third] = self.parts;
-        match self.wire {
-            AnyRecord::Thread(thread) => AnyRecord::Thread(ThreadRecord {
-                stack: Descriptor {
-                    memory: location(first, at),
-                    ..thread.stack
-                },
-                thread_context: location(second, at + part_room(first) as u64),
-                ..thread
-            }),
-            AnyRecord::Module(module) => {
-                let codeview = at + name_room(first) as u64;
-                AnyRecord::Module(ModuleRecord {
-                    module_name_rva: address(first, at),
-                    cv_record: location(second, codeview),
-                    misc_record: location(third, codeview + part_room(second) as u64),
-                    ..module
-                })
-            },
-            AnyRecord::Memory(range) => AnyRecord::Memory(Descriptor {
-                memory: location(first, at),
-                ..range
-            }),
-            AnyRecord::Exception(exception) => AnyRecord::Exception(ExceptionRecord {
-                thread_context: location(first, at),
-                ..exception
-            }),
-            AnyRecord::System(system) => AnyRecord::System(SystemRecord {
-                csd_version_rva: address(first, at),
-                ..system
-            }),
-            AnyRecord::Unloaded(module) => AnyRecord::Unloaded(UnloadedRecord {
-                module_name_rva: address(first, at),
-                ..module
-            }),
-            AnyRecord::ThreadName(thread) => AnyRecord::ThreadName(ThreadNameRecord {
-                rva_of_thread_name: u64::from(address(first, at)),
-                ..thread
-            }),
-            _ => self.wire,
-        }
+        let [one, two, three] = self.wire.slots();
+        let behind_first = at + slot_room(one, first) as u64;
+        let behind_second = behind_first + slot_room(two, second) as u64;
+        self.wire.with_slots([
+            slot_placed(one, first, at),
+            slot_placed(two, second, behind_first),
+            slot_placed(three, third, behind_second),
+        ])
+    }
+}
+
+/// A slot of a record whose name or part is written at a place.
+fn slot_placed(slot: Slot, part: PartSize, at: u64) -> Slot
+    requires { at + slot_room slot part < 2 ^ 32 }
+    ensures { result ≡ slot_placed slot part at }
+{
+    match slot {
+        Slot::Name(_) => Slot::Name(u64::from(address(part, at))),
+        Slot::Part(name, _) => Slot::Part(name, location(part, at)),
+        Slot::Empty | Slot::Behind(_) => slot,
     }
 }
 
@@ -154,9 +131,9 @@ fn slot_room(slot: Slot, part: PartSize) -> u128
     ensures bound { result ≤ 2 ^ 64 + 8 }
 {
     match slot {
-        Slot::Empty => 0,
+        Slot::Empty | Slot::Behind(_) => 0,
         Slot::Name(_) => name_room(part),
-        Slot::Part(_) => part_room(part),
+        Slot::Part(_, _) => part_room(part),
     }
 }
 
@@ -166,8 +143,9 @@ pub(crate) fn far_room(fields: &Fields) -> u128
     ensures bound { result ≤ 2 ^ 70 }
 {
     let [first, _, _] = fields.parts;
-    match fields.wire {
-        AnyRecord::Memory64(_) => u128::from(first.size()),
-        _ => 0,
+    let [slot, _, _] = fields.wire.slots();
+    match slot {
+        Slot::Behind(_) => u128::from(first.size()),
+        Slot::Empty | Slot::Name(_) | Slot::Part(_, _) => 0,
     }
 }

@@ -3,12 +3,12 @@ use Rattle.std.proofs.Common.{◌≡◌, ◌≤◌, ◌+◌, ◌-◌, ◌++◌, 
 use Rattle.std.proofs.Math.Seq.{drop-append_seam, take-append_seam}
 use Rattle.mdmp_source.specs.SourceLaws.{fetches_then}
 use Rattle.mdmp_source.specs.declared.location.Location.{Location}
-use Rattle.mdmp_wire.specs.CodeView.{codeview_in, codeview_of}
+use Rattle.mdmp_wire.specs.CodeView.{codeview_in}
 use Rattle.mdmp_wire.specs.Number.{array_at}
 use Rattle.std.proofs.lemmas.Grind.{common_steps}
 use Rattle.mdmp_lister.specs.declared.codeview.CodeViewBytes.{CodeViewBytes}
 use Rattle.mdmp_lister.specs.declared.codeview.CodeViewRead.{CodeViewRead}
-use Rattle.mdmp_lister.specs.CodeView.{AreFetched, codeview_read, codeview_told, fetched_behind}
+use Rattle.mdmp_lister.specs.CodeView.{AreFetched, IsCodeViewOf, codeview_head, codeview_read, codeview_told, fetched_behind}
 use Rattle.mdmp_lister.specs.Meter.{MeterState, BooksAside}
 use Rattle.mdmp_lister.proofs.Fetches.{FetchesAtMost-within}
 
@@ -43,17 +43,23 @@ fetched_within head size room = grind (arith, common_steps)
 
 -- what a record tells by its first bytes and the fetched ones behind them
 pub codeview-fetched : (F head buffer : List ℕ) (at : Location) (limit count : ℕ) → head ≡ take (length head) (drop at.rva F) → length head ≡ min at.size 24
-    → take count buffer ≡ take count (drop (at.rva + 24) F) → count ≡ min (at.size - 24) limit → codeview_in head (take count buffer) at.size ≡ codeview_of F at limit
+    → take count buffer ≡ take count (drop (at.rva + 24) F) → count ≡ min (at.size - 24) limit → IsCodeViewOf F at limit head (take count buffer) at.size
 unfolding array_at
 codeview-fetched F head buffer at limit count first size behind fits =
     let front : head ≡ array_at F at.rva (min at.size 24) = subst (λ n. head ≡ take n (drop at.rva F)) size first in
     let rest : take count buffer ≡ array_at F (at.rva + 24) (min (at.size - 24) limit) = subst (λ n. take count buffer ≡ take n (drop (at.rva + 24) F)) fits behind in
-    ap (λ bytes. codeview_in bytes (take count buffer) at.size) front ∙ ap (λ bytes. codeview_in (array_at F at.rva (min at.size 24)) bytes at.size) rest
+    record {
+      head_is = front;
+      told = ap (λ bytes. codeview_in bytes (take count buffer) at.size) front ∙ ap (λ bytes. codeview_in (array_at F at.rva (min at.size 24)) bytes at.size) rest;
+    }
 
 -- bytes that are lent tell what was read
 module _ (bytes : CodeViewBytes) (read : CodeViewRead) (head : bytes.head ≡ read.head) (size : bytes.size ≡ read.size) where
   pub lent_told : (buffer : List ℕ) → bytes.rest.now ≡ take read.rest buffer → codeview_told bytes ≡ codeview_read buffer read
   lent_told buffer rest = rw (head, size, rest) refl
+
+  pub lent_head : codeview_head bytes ≡ take (min read.size 24) read.head
+  lent_head = rw (head, size) refl
 
   pub lent_fetched : (at : Location) (room : ℕ) → length bytes.rest.now ≡ read.rest → AreFetched at room read.head read.rest read.size
       → AreFetched at room bytes.head (length bytes.rest.now) bytes.size

@@ -32,7 +32,7 @@ use Rattle.mdmp_lister.specs.Format.Summary.{entry_begun}
 use Rattle.mdmp_lister.specs.Lister.{AnswersNext, Gives, NextLeaves, ListerState, ReadsAside, tail}
 use Rattle.mdmp_lister.specs.Meter.{BooksAside, MeterState, counts_of, IsUnmade}
 use Rattle.mdmp_lister.specs.Stage.{IsCounted, IsOverAt, IsUnended, StaysUnchanged, failure_of, records_left_in, stage_by, standing_of, stop_after, stop_of}
-use Rattle.mdmp_lister.specs.Step.{CurrentAfter, IsNameHeld, step_item, stream_told}
+use Rattle.mdmp_lister.specs.Step.{CurrentAfter, IsNameHeld, IsStepOf, step_item, stream_told}
 use Rattle.mdmp_lister.specs.Walk.{IsListing, IsPastHead, IsSound, IsStageCounted, IsStaged, left_of}
 use Rattle.mdmp_lister.specs.Walk.Paying.{IsWithinSince, unread_bytes}
 use Rattle.mdmp_lister.specs.Listed.{entry_cost, entry_cost_by}
@@ -601,6 +601,15 @@ module _ {S A : Type 0} (w n : Walk S A) (mark : MeterCounts) where
   pub step_good : (p : Position) (r : Result (Option Step) ListFault) → AnsweredFrom p w r n → (file : List ℕ) → IsGood w.meter.source.store file → IfErr r (λ f. IsOfStore f.kind → ⊥)
   step_good p (Ok given) e file good = tt
   step_good p (Err f) e file good = fault_good w n p f e file good
+
+  pub step_kinded : (p : Position) (r : Result (Option Step) ListFault) → AnsweredFrom p w r n → IfOk r (λ given. IfSome given (IsStepOf (kind_of n.current.stream_type)))
+  step_kinded p (Err f) e = tt
+  step_kinded p (Ok None) e = tt
+  step_kinded (Sought at) (Ok (Some s)) e =
+      let is : e.step ≡ s = let same = e.answer in cc in
+      subst (λ (t : Step). IsStepOf (kind_of n.current.stream_type) t) is (rw e.taken.step_is tt)
+  step_kinded Begun (Ok (Some s)) e = e.given.held.1
+  step_kinded Within (Ok (Some s)) e = e.given.held.1
 
   pub step_refused : (p : Position) (r : Result (Option Step) ListFault) → AnsweredFrom p w r n
       → IfErr r (λ f. IsUnmade (max n.window.room n.name.limit) f.kind f.offset f.size (counts_of n.meter) n.meter.source.size)

@@ -1,5 +1,6 @@
 -- What is read of a CodeView record.
 use Rattle.std.specs.Prelude.{◌≡◌, ◌≤◌, ◌+◌, ◌-◌, ◌==◌, ℕ, List, Result, Ok, Err, IfOk, drop, length, min, replicate, take, if◌then◌else◌}
+use Rattle.mdmp_source.specs.Range.{bytes_at}
 use Rattle.mdmp_source.specs.declared.fault.SourceFault.{SourceFault}
 use Rattle.mdmp_source.specs.declared.location.Location.{Location}
 use Rattle.mdmp_wire.specs.CodeView.{CodeViewValue, codeview_in, codeview_of, rsds_signature}
@@ -9,13 +10,26 @@ use Rattle.mdmp_lister.specs.declared.codeview.CodeViewRead.{CodeViewRead}
 use Rattle.mdmp_lister.specs.Fetching.{ReadsBeside}
 use Rattle.mdmp_lister.specs.Meter.{BooksAside, MeterState}
 
+-- the first 24 bytes of a record, or all of them if it has fewer
+abbrev pub codeview_head : CodeViewBytes → List ℕ
+codeview_head bytes = take (min bytes.size 24) bytes.head
+
 -- what the fetched bytes of a record tell
 abbrev pub codeview_told : CodeViewBytes → CodeViewValue
-codeview_told bytes = codeview_in (take (min bytes.size 24) bytes.head) bytes.rest.now bytes.size
+codeview_told bytes = codeview_in (codeview_head bytes) bytes.rest.now bytes.size
 
 -- the same, where those behind its first 24 stand at the front of a buffer
 abbrev pub codeview_read : List ℕ → CodeViewRead → CodeViewValue
 codeview_read buffer read = codeview_in (take (min read.size 24) read.head) (take read.rest buffer) read.size
+
+-- the first bytes of the record at a location of F
+abbrev pub codeview_head_of : List ℕ → Location → List ℕ
+codeview_head_of F at = bytes_at F at.rva (min at.size 24)
+
+-- the bytes `head` are the first of the record at a location of F, and with those behind them they tell what the record does
+pub record IsCodeViewOf (F : List ℕ) (at : Location) (room : ℕ) (head behind : List ℕ) (size : ℕ) : Type 0 where
+  pub head_is : head ≡ codeview_head_of F at
+  pub told : codeview_in head behind size ≡ codeview_of F at room
 
 -- how many bytes behind the first 24 of a record of so many are fetched: of one that begins with `RSDS` as many as there are,
 -- and as there is room for; of another none
@@ -53,7 +67,7 @@ codeview_calls (Err fault) = 2
 
 -- the record at a location was read, its end into a buffer of so many bytes
 pub record ReadsCodeView (at : Location) (room : ℕ) (buffer : List ℕ) (result : Result CodeViewRead SourceFault) (old new : MeterState) : Type 0 where
-  pub reads : ReadsBeside 2 (codeview_most at room) (λ file read. codeview_read buffer read ≡ codeview_of file at room) result old new
+  pub reads : ReadsBeside 2 (codeview_most at room) (λ file read. IsCodeViewOf file at room (take (min read.size 24) read.head) (take read.rest buffer) read.size) result old new
   pub held : IfOk result (λ read. read.rest ≤ room)
   pub lent : IfOk result (λ read. read.rest ≤ length buffer)
   pub fetches : IfOk result (λ read. FetchesCodeView at room read old new)

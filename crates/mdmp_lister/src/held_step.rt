@@ -19,10 +19,7 @@ use crate::item::{
 use crate::kind::StreamKind;
 use crate::name::Name;
 use crate::step::{RecordRead, Step};
-use mdmp_wire::{
-    AnyRecord, Descriptor64, ModuleRecord, SystemRecord, ThreadNameRecord, UnitsRef,
-    UnloadedRecord, get_at,
-};
+use mdmp_wire::{AnyRecord, Descriptor64, ModuleRecord, UnitsRef, get_at};
 
 /// A record whose bytes stand at the front of a window.
 #[derive(Clone, Copy)]
@@ -66,28 +63,14 @@ fn record_of(kind: StreamKind, bytes: &[u8]) -> AnyRecord
 
 /// Where the name of the record of the first of these bytes stands, if records of its kind have one.
 #[inline(always)]
+#[tactic(auto, using(crate::specs::Format::KindLaws::field_within, crate::specs::Format::KindLaws::named_by_field))]
 pub(crate) fn held_name_rva(kind: StreamKind, bytes: &[u8]) -> Option<u64>
     requires { record_size kind ≤ length bytes.now }
     ensures { result ≡ name_rva (record_at kind bytes.now 0) }
 {
-    match kind {
-        StreamKind::Modules => {
-            let module: ModuleRecord = get_at(bytes, 0);
-            Some(u64::from(module.module_name_rva))
-        }
-        StreamKind::System => {
-            let system: SystemRecord = get_at(bytes, 0);
-            Some(u64::from(system.csd_version_rva))
-        }
-        StreamKind::Unloaded => {
-            let module: UnloadedRecord = get_at(bytes, 0);
-            Some(u64::from(module.module_name_rva))
-        }
-        StreamKind::ThreadNames => {
-            let thread: ThreadNameRecord = get_at(bytes, 0);
-            Some(thread.rva_of_thread_name)
-        }
-        _ => None,
+    match kind.name_field() {
+        Some(field) => Some(field.rva(bytes)),
+        None => None,
     }
 }
 

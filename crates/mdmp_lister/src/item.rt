@@ -197,14 +197,14 @@ impl RangeItem {
             index,
             start: fields.start_of_memory_range,
             size: fields.data_size,
-            extent: classify(offset, fields.data_size, size),
+            extent: range_extent(offset, fields.data_size, size),
             offset,
         }
     }
 }
 
 /// What `len` bytes at an offset are in a file of `size` bytes. They are never absent.
-fn classify(offset: u128, len: u64, size: u64) -> Extent
+pub fn range_extent(offset: u128, len: u64, size: u64) -> Extent
     ensures { result ≡ range_extent_of offset len size }
 {
     if len == 0 {

@@ -1,9 +1,10 @@
 //! Which streams have records here: the type, the form and the records of each.
 ghost use Rattle.std.specs.Prelude.{◌≡◌, ◌≤◌, ◌<◌};
-ghost use Rattle.mdmp_lister.specs.Format.Kind.{form_of, greatest_record, has_names, is_memory64, kind_of, kind_row, lists_ranges, record_size, type_of_kind};
+ghost use Rattle.mdmp_lister.specs.Format.Kind.{form_of, greatest_record, has_names, is_memory64, kind_of, kind_row, name_field, lists_ranges, record_size, type_of_kind};
 ghost use Rattle.mdmp_lister.specs.Walk.Owing.{ranges_by};
 
 use crate::form::Form;
+use crate::name_field::NameField;
 use mdmp_wire::{
     Descriptor, Descriptor64, ExceptionRecord, MemoryInfoRecord, ModuleRecord, Record,
     SystemRecord, ThreadNameRecord, ThreadRecord, UnloadedRecord,
@@ -42,8 +43,8 @@ pub(crate) struct KindRow {
     pub(crate) form: Form,
     /// How many bytes a record has.
     pub(crate) record_size: u32,
-    /// Whether its records have names.
-    pub(crate) has_names: bool,
+    /// The field of a record that says where its name stands, if records of its kind have names.
+    pub(crate) name: Option<NameField>,
     /// Whether its records are ranges of memory.
     pub(crate) lists_ranges: bool,
 }
@@ -58,63 +59,63 @@ impl StreamKind {
                 stream_type: 3,
                 form: Form::Counted,
                 record_size: ThreadRecord::SIZE as u32,
-                has_names: false,
+                name: None,
                 lists_ranges: false,
             },
             StreamKind::Modules => KindRow {
                 stream_type: 4,
                 form: Form::Counted,
                 record_size: ModuleRecord::SIZE as u32,
-                has_names: true,
+                name: Some(NameField::Rva(20)),
                 lists_ranges: false,
             },
             StreamKind::Memory => KindRow {
                 stream_type: 5,
                 form: Form::Counted,
                 record_size: Descriptor::SIZE as u32,
-                has_names: false,
+                name: None,
                 lists_ranges: true,
             },
             StreamKind::Exception => KindRow {
                 stream_type: 6,
                 form: Form::Single,
                 record_size: ExceptionRecord::SIZE as u32,
-                has_names: false,
+                name: None,
                 lists_ranges: false,
             },
             StreamKind::System => KindRow {
                 stream_type: 7,
                 form: Form::Single,
                 record_size: SystemRecord::SIZE as u32,
-                has_names: true,
+                name: Some(NameField::Rva(24)),
                 lists_ranges: false,
             },
             StreamKind::Memory64 => KindRow {
                 stream_type: 9,
                 form: Form::Ranges64,
                 record_size: Descriptor64::SIZE as u32,
-                has_names: false,
+                name: None,
                 lists_ranges: true,
             },
             StreamKind::Unloaded => KindRow {
                 stream_type: 14,
                 form: Form::Sized32,
                 record_size: UnloadedRecord::SIZE as u32,
-                has_names: true,
+                name: Some(NameField::Rva(20)),
                 lists_ranges: false,
             },
             StreamKind::MemoryInfo => KindRow {
                 stream_type: 16,
                 form: Form::Sized64,
                 record_size: MemoryInfoRecord::SIZE as u32,
-                has_names: false,
+                name: None,
                 lists_ranges: false,
             },
             StreamKind::ThreadNames => KindRow {
                 stream_type: 24,
                 form: Form::Counted,
                 record_size: ThreadNameRecord::SIZE as u32,
-                has_names: true,
+                name: Some(NameField::Rva64(4)),
                 lists_ranges: false,
             },
         }
@@ -166,7 +167,15 @@ impl StreamKind {
     pub fn has_names(self) -> bool
         ensures { result ≡ has_names self }
     {
-        self.row().has_names
+        self.row().name.is_some()
+    }
+
+    /// The field of its records that says where their names stand.
+    #[inline(always)]
+    pub(crate) fn name_field(self) -> Option<NameField>
+        ensures { result ≡ name_field self }
+    {
+        self.row().name
     }
 
     /// Whether the bytes of its ranges follow one another, and no record says where its own stand.

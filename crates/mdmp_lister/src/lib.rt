@@ -52,6 +52,7 @@ mod lister;
 mod meter;
 mod name;
 mod name_buffer;
+mod name_field;
 mod opening;
 mod position;
 mod range_map;
@@ -75,7 +76,7 @@ pub use crate::fetching::NameRead;
 pub use crate::form::Form;
 pub use crate::item::{
     ExceptionItem, Item, MemoryInfoItem, ModuleItem, RangeItem, StreamItem, SystemItem, ThreadItem,
-    ThreadNameItem, UnloadedItem,
+    ThreadNameItem, UnloadedItem, range_extent,
 };
 pub use crate::kind::StreamKind;
 pub use crate::laws::{listing_ends_at_the_first_bad_verdict, listing_of_a_choice};

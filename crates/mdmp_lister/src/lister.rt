@@ -5,7 +5,7 @@ ghost use Rattle.std.specs.Io.BufRead.{Rests};
 ghost use Rattle.mdmp_source.specs.Range.{IsInside, bytes_at};
 ghost use Rattle.mdmp_source.specs.Store.{IsGood, IsSizeOf};
 ghost use Rattle.mdmp_wire.specs.CodeView.{codeview_of};
-ghost use Rattle.mdmp_lister.specs.CodeView.{AreFetched, codeview_calls, codeview_cost, codeview_told};
+ghost use Rattle.mdmp_lister.specs.CodeView.{AreFetched, codeview_calls, codeview_cost, codeview_head, codeview_told, codeview_head_of};
 ghost use Rattle.mdmp_lister.specs.Opening.{IsRefusalOf};
 ghost use Rattle.mdmp_lister.specs.Refused.{IsRefusedLister};
 ghost use Rattle.mdmp_lister.specs.Format.Refusal.{opening_fault};
@@ -401,6 +401,7 @@ impl<S: Store + Drop, A: Allocator + Copy> Lister<S, A> {
     pub fn codeview(&mut self, location: Location) -> Result<CodeViewBytes<'_>, SourceFault>
         requires { IsInside location.rva location.size self.old.source.size }
         ensures value { (file : List ℕ) → self.old.source.store.content ≡ Some file → IfOk result (λ bytes. codeview_told bytes ≡ codeview_of file location self.old.limit) }
+        ensures head { (file : List ℕ) → self.old.source.store.content ≡ Some file → IfOk result (λ bytes. codeview_head bytes ≡ codeview_head_of file location) }
         ensures fetched { IfOk result (λ bytes. AreFetched location self.old.limit bytes.head (length bytes.rest.now) bytes.size) }
         ensures* reads { sem 𝓛 (Rests (the_row S.row A.row S.Store A.Allocator) self.entry (ReadsAside (codeview_calls result) (codeview_cost location self.old.limit result) result self.old)) }
         ensures good { (file : List ℕ) → IsGood self.old.source.store file → IsOk result }

@@ -1,5 +1,5 @@
 //! The walker.
-ghost use Rattle.std.specs.Prelude.{◌≡◌, ◌≤◌, ◌<◌, ◌+◌, ℕ, List, None, Some, IfOk, IfErr, IsTrue, OnOk, length, slice_get, false, MatchResult};
+ghost use Rattle.std.specs.Prelude.{◌≡◌, ◌≤◌, ◌<◌, ◌+◌, ℕ, List, None, Some, IfOk, IfErr, IfSome, IsTrue, OnOk, length, slice_get, false, MatchResult};
 ghost use Rattle.std.specs.Borrow.{sem};
 ghost use Rattle.std.specs.Io.BufRead.{Rests};
 ghost use Rattle.mdmp_source.specs.Range.{IsInside, bytes_at};
@@ -16,6 +16,7 @@ ghost use Rattle.mdmp_lister.specs.Meter.{IsBooked, counts_of};
 ghost use Rattle.mdmp_lister.specs.Opening.{IsDirectoryRefusal};
 ghost use Rattle.mdmp_lister.specs.Refused.{IsRefusedWalker};
 ghost use Rattle.mdmp_lister.specs.Stage.{StaysUnchanged, stop_after};
+ghost use Rattle.mdmp_lister.specs.Step.{IsStepOf};
 ghost use Rattle.mdmp_lister.specs.Walk.{IsSound};
 ghost use Rattle.mdmp_lister.specs.Walk.Positions.{AnsweredFrom, IsPositioned, IsWalked, mark_by, position_by};
 
@@ -195,6 +196,7 @@ impl<S: Store + Drop, A: Allocator + Copy> Walker<S, A> {
         ensures repeats { (stop : _) → self.old.list.stop ≡ Some stop → stop_after result ≡ Some stop }
         ensures good { (file : List ℕ) → IsGood self.old.list.source.store file → IfErr result (λ fault. IsOfStore fault.kind → ⊥) }
         ensures refused { IfErr result (λ fault. IsRefusedIn fault self.new.list) }
+        ensures kind { IfOk result (λ given. IfSome given (IsStepOf (kind_of self.new.list.current.stream_type))) }
     {
         let answer = advance_from(&mut self.walk, &mut self.position, &mut self.mark);
         self.walk.told(answer)

@@ -1,7 +1,7 @@
 //! Where the records of a stream stand.
 use crate::same::assert_same;
-use mdmp_lister::{Fault, FaultKind, Shape, StreamKind, shape_of};
-use mdmp_source::Location;
+use mdmp_lister::{Fault, FaultKind, Shape, StreamKind, range_extent, shape_of};
+use mdmp_source::{Extent, Location};
 
 /// The shape of a stream of so many bytes at 4, whose head is these bytes.
 fn shape(kind: StreamKind, size: u32, head: [u8; 16]) -> Result<Shape, Fault> {
@@ -186,5 +186,17 @@ fn counts_are_compared_without_wrapping(rt: HostRuntime) {
         ),
     ] {
         assert_same(&rt, shape(kind, size, head), expected);
+    }
+}
+
+#[test]
+fn range_lies_inside_up_to_the_end_of_the_file(rt: HostRuntime) {
+    for (offset, len, size, extent) in [
+        (44, 4, 48, Extent::Inside),
+        (44, 5, 48, Extent::Outside),
+        (49, 0, 48, Extent::Empty),
+        (1 << 64, 1, u64::MAX, Extent::Outside),
+    ] {
+        assert_same(&rt, range_extent(offset, len, size), extent);
     }
 }

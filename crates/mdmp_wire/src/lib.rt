@@ -61,7 +61,7 @@ pub use crate::memory_info_list::MemoryInfoList;
 pub use crate::memory64_list::Memory64List;
 pub use crate::module::ModuleRecord;
 pub use crate::record::{Record, get_at, put_at};
-pub use crate::slot::Slot;
+pub use crate::slot::{PartName, Slot};
 pub use crate::system::SystemRecord;
 pub use crate::thread::ThreadRecord;
 pub use crate::thread_name::ThreadNameRecord;

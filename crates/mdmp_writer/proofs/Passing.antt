@@ -4,7 +4,6 @@ use Rattle.std.proofs.lemmas.Bool.Decides.{nat_tests}
 use Rattle.std.proofs.lemmas.List.{nil_from_length}
 use Rattle.std.proofs.lemmas.List.Sums.{sum_by-cons}
 use Rattle.mdmp_wire.specs.declared.any_record.AnyRecord.{AnyRecord}
-use Rattle.mdmp_wire.specs.declared.any_record.AnyRecord.TheVariants as any
 use Rattle.mdmp_wire.specs.AnyRecord.{slot_at}
 use Rattle.mdmp_wire.specs.declared.slot.Slot.{Slot}
 use Rattle.mdmp_wire.specs.declared.slot.Slot.TheVariants as slots
@@ -17,6 +16,7 @@ use Rattle.mdmp_dump.specs.Places.{up}
 use Rattle.mdmp_dump.specs.Seen.{Seen}
 use Rattle.mdmp_dump.specs.Shape.{AreOf, IsSized, ViewShape, asks_of, cost_at, fars, is_far, room_of, rooms, seen_at, shape_seen, stream_at, type_told, unused_shape}
 use Rattle.mdmp_dump.specs.View.{DumpSeen}
+use Rattle.mdmp_dump.proofs.Values.{HasOneRoom, one_room}
 use Rattle.mdmp_writer.specs.Passes.{all_asks, all_block_asks, all_block_passes, all_costs, all_far_asks, all_far_passes, block_asks, block_passes, far_asks, far_passes, parts_asks, parts_passes, sum_below}
 use Rattle.mdmp_writer.specs.Written.{all_padded, padded, parts_of}
 use Rattle.mdmp_writer.proofs.Blocks.{known_stream}
@@ -124,7 +124,8 @@ three_empty a b d e f h = rw (e, f, h) refl
 slot_empty : (s : Slot) (p : PartSize) (b : List ℕ) → length b ≡ size_in p → slot_room s p ≡ 0 → padded (slot_text s p b) ≡ []
 slot_empty slots.Empty p b sized none = refl
 slot_empty (slots.Name rva) p b sized none = name_empty p b none
-slot_empty (slots.Part at) p b sized none = part_empty p b sized none
+slot_empty (slots.Part name at) p b sized none = part_empty p b sized none
+slot_empty (slots.Behind n) p b sized none = refl
 
 -- of a record
 parts_empty : (w : AnyRecord) (x : Seen) → IsSized x → room_by w x.fields ≡ 0 → all_padded (parts_by w x) ≡ []
@@ -147,15 +148,7 @@ all_empty kind (x ∷ xs) of none =
 
 -- records of 64-bit memory take no room behind their stream
 nine_room : (w : AnyRecord) (x : Seen) → type_told w ≡ 9 → room_by w x.fields ≡ 0
-nine_room (any.Thread r) x e = absurd (let h : 3 ≡ 9 = e in omega (arith, h))
-nine_room (any.Module r) x e = absurd (let h : 4 ≡ 9 = e in omega (arith, h))
-nine_room (any.Memory r) x e = absurd (let h : 5 ≡ 9 = e in omega (arith, h))
-nine_room (any.Exception r) x e = absurd (let h : 6 ≡ 9 = e in omega (arith, h))
-nine_room (any.System r) x e = absurd (let h : 7 ≡ 9 = e in omega (arith, h))
-nine_room (any.Memory64 r) x e = refl
-nine_room (any.Unloaded r) x e = absurd (let h : 14 ≡ 9 = e in omega (arith, h))
-nine_room (any.MemoryInfo r) x e = absurd (let h : 16 ≡ 9 = e in omega (arith, h))
-nine_room (any.ThreadName r) x e = absurd (let h : 24 ≡ 9 = e in omega (arith, h))
+nine_room w x e = subst (λ (far : Bool). HasOneRoom far w x.fields) (ap (λ (t : ℕ). is_far (kinds.Known t)) e) (one_room w x.fields)
 
 type_of_known : Kind → ℕ
 type_of_known (kinds.Known t) = t

@@ -53,8 +53,9 @@ slot_length : (s : Slot) (p : PartSize) (b : List ℕ) → length b ≡ size_in 
 slot_length slots.Empty p b sized = refl
 slot_length (slots.Name rva) (Size n) b sized = ap up (length-around n b sized)
 slot_length (slots.Name rva) p b sized = refl
-slot_length (slots.Part at) (Size n) b sized = ap up sized
-slot_length (slots.Part at) p b sized = ap up sized
+slot_length (slots.Part name at) (Size n) b sized = ap up sized
+slot_length (slots.Part name at) p b sized = ap up sized
+slot_length (slots.Behind n) p b sized = refl
 
 -- and so do the name and parts of a record
 pub sized_room : (s : Seen) → IsSized s → length (all_padded (seen_parts s)) ≡ fields_room s.fields

@@ -91,9 +91,9 @@ fn write_slot<V: DumpView, O: Out>(
     ensures moves { V.Moves view.old view.new }
 {
     match slot {
-        Slot::Empty => Ok(()),
+        Slot::Empty | Slot::Behind(_) => Ok(()),
         Slot::Name(_) => write_name(view, out, gather, which, part),
-        Slot::Part(_) => write_padded(view, out, gather, which, part),
+        Slot::Part(_, _) => write_padded(view, out, gather, which, part),
     }
 }
 

@@ -37,15 +37,7 @@ pub(crate) fn write_any<O: Out>(
     ensures some { OnOk result (PutsSome (gathered (O.state out.old) gather.old) (row_of (type_told row.now)) (gathered (O.state out.new) gather.new)) }
     ensures cause { StopsAtOutput result (O.state out.old) (O.state out.new) }
 {
-    match row {
-        AnyRecord::Thread(thread) => write_record(out, gather, thread),
-        AnyRecord::Module(module) => write_record(out, gather, module),
-        AnyRecord::Memory(range) => write_record(out, gather, range),
-        AnyRecord::Exception(exception) => write_record(out, gather, exception),
-        AnyRecord::System(system) => write_record(out, gather, system),
-        AnyRecord::Memory64(range) => write_record(out, gather, range),
-        AnyRecord::Unloaded(module) => write_record(out, gather, module),
-        AnyRecord::MemoryInfo(region) => write_record(out, gather, region),
-        AnyRecord::ThreadName(thread) => write_record(out, gather, thread),
-    }
+    let mut buffer = [0; 168];
+    let size = row.write(&mut buffer);
+    gather.write(out, &buffer[..size])
 }

@@ -2,8 +2,8 @@
 use crate::same::assert_same_at;
 use mdmp_source::Location;
 use mdmp_wire::{
-    AnyRecord, Descriptor, Descriptor64, ModuleRecord, Slot, SystemRecord, ThreadNameRecord,
-    ThreadRecord, VersionInfo,
+    AnyRecord, Descriptor, Descriptor64, ModuleRecord, PartName, Slot, SystemRecord,
+    ThreadNameRecord, ThreadRecord, VersionInfo,
 };
 
 /// A place of nothing.
@@ -113,17 +113,31 @@ const THREAD_NAME: ThreadNameRecord = ThreadNameRecord {
     rva_of_thread_name: u64::MAX,
 };
 
+/// A range of five bytes in the list of 64-bit memory.
+const FIVE_BYTES: Descriptor64 = Descriptor64 {
+    start_of_memory_range: 0,
+    data_size: 5,
+};
+
 /// A record, where its name stands, and its slots, in the order of its fields.
 const RECORDS: [(AnyRecord, Option<u64>, [Slot; 3]); 6] = [
     (
         AnyRecord::Thread(THREAD),
         None,
-        [Slot::Part(FIRST), Slot::Part(SECOND), Slot::Empty],
+        [
+            Slot::Part(PartName::Stack, FIRST),
+            Slot::Part(PartName::Context, SECOND),
+            Slot::Empty,
+        ],
     ),
     (
         AnyRecord::Module(MODULE),
         Some(7),
-        [Slot::Name(7), Slot::Part(FIRST), Slot::Part(SECOND)],
+        [
+            Slot::Name(7),
+            Slot::Part(PartName::CodeView, FIRST),
+            Slot::Part(PartName::Misc, SECOND),
+        ],
     ),
     (
         AnyRecord::System(SYSTEM),
@@ -138,12 +152,20 @@ const RECORDS: [(AnyRecord, Option<u64>, [Slot; 3]); 6] = [
     (
         AnyRecord::Memory(NO_RANGE),
         None,
-        [Slot::Part(NOWHERE), Slot::Empty, Slot::Empty],
+        [
+            Slot::Part(PartName::Memory, NOWHERE),
+            Slot::Empty,
+            Slot::Empty,
+        ],
     ),
     (
         AnyRecord::Memory64(NO_RANGE_64),
         None,
-        [Slot::Empty, Slot::Empty, Slot::Empty],
+        [
+            Slot::Behind(NO_RANGE_64.data_size),
+            Slot::Empty,
+            Slot::Empty,
+        ],
     ),
 ];
 
@@ -154,4 +176,73 @@ fn slots_of_a_record_are_in_the_order_of_its_fields(rt: HostRuntime) {
         let found = (record.name_rva(), record.slots());
         assert_same_at(&rt, record, found, (*name, *slots));
     }
+}
+
+/// A record, other slots for it, and the record with them.
+const PUT: [(AnyRecord, [Slot; 3], AnyRecord); 4] = [
+    (
+        AnyRecord::Module(NO_MODULE),
+        [
+            Slot::Name(7),
+            Slot::Part(PartName::CodeView, FIRST),
+            Slot::Part(PartName::Misc, SECOND),
+        ],
+        AnyRecord::Module(MODULE),
+    ),
+    (
+        AnyRecord::System(NO_SYSTEM),
+        [Slot::Name(8), Slot::Empty, Slot::Empty],
+        AnyRecord::System(SYSTEM),
+    ),
+    (
+        AnyRecord::Memory(NO_RANGE),
+        [
+            Slot::Part(PartName::Memory, FIRST),
+            Slot::Empty,
+            Slot::Empty,
+        ],
+        AnyRecord::Memory(Descriptor {
+            start_of_memory_range: 0,
+            memory: FIRST,
+        }),
+    ),
+    (
+        AnyRecord::Memory64(NO_RANGE_64),
+        [Slot::Behind(5), Slot::Empty, Slot::Empty],
+        AnyRecord::Memory64(FIVE_BYTES),
+    ),
+];
+
+#[test]
+fn slots_are_put_into_a_record(rt: HostRuntime) {
+    let records = PUT;
+    for (record, slots, put) in &records {
+        assert_same_at(&rt, record, record.with_slots(*slots), *put);
+    }
+}
+
+#[test]
+fn bare_record_has_no_place_in_it(rt: HostRuntime) {
+    let records = [
+        (AnyRecord::Module(MODULE), AnyRecord::Module(NO_MODULE)),
+        (AnyRecord::System(SYSTEM), AnyRecord::System(NO_SYSTEM)),
+        (
+            AnyRecord::Memory64(FIVE_BYTES),
+            AnyRecord::Memory64(FIVE_BYTES),
+        ),
+    ];
+    for (record, bare) in &records {
+        assert_same_at(&rt, record, record.bare(), *bare);
+    }
+}
+
+#[test]
+fn record_is_written_at_the_front(rt: HostRuntime) {
+    let mut buffer = [0xff; 170];
+    let size = AnyRecord::Memory64(FIVE_BYTES).write(&mut buffer);
+    let written = b"\0\0\0\0\0\0\0\0\x05\0\0\0\0\0\0\0".as_slice();
+    assert_same_at(&rt, &size, &buffer[..size], written);
+    let size = AnyRecord::ThreadName(THREAD_NAME).write(&mut buffer);
+    let written = b"\x09\0\0\0\xff\xff\xff\xff\xff\xff\xff\xff".as_slice();
+    assert_same_at(&rt, &size, &buffer[..size], written);
 }

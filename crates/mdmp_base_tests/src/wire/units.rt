@@ -250,19 +250,20 @@ fn units_are_compared_and_printed(rt: HostRuntime) {
 }
 
 /// The size of a heap, whether it has memory for nine units, however they are made, and whether for their text. The
-/// smallest heap has 16 bytes, so 9 units do not fit; in 32 bytes they do, and no text beside them.
-const HEAPS: [(usize, bool); 2] = [(0, false), (32, true)];
+/// smallest heap has 16 bytes, so 9 units do not fit; in 32 bytes they do, and no text beside them. A text is made
+/// of its units as numbers, in 48 bytes with both: it takes no more.
+const HEAPS: [(usize, bool, bool); 3] = [(0, false, false), (32, true, false), (48, true, true)];
 
 #[test]
 fn refused_memory_is_told(rt: HostRuntime) {
-    for (size, holds) in &HEAPS {
+    for (size, holds, holds_text_too) in &HEAPS {
         let heap = LocalHeap::new(rt.alloc(), *size).expect(&rt, "a heap");
         let found = [
             holds_bytes(&rt, &heap, &[0; 18]),
             holds_units(&rt, &heap, NINE),
             holds_text_of(&rt, &heap, NINE),
         ];
-        assert_same_at(&rt, size, found, [*holds, *holds, false]);
+        assert_same_at(&rt, size, found, [*holds, *holds, *holds_text_too]);
     }
     let heap = LocalHeap::new(rt.alloc(), 0).expect(&rt, "a heap");
     assert_same(&rt, holds_text(&heap, "symbol.db"), false);

@@ -4,7 +4,7 @@ use Rattle.mdmp_wire.specs.Exception.{exception_at}
 use Rattle.mdmp_lister.specs.declared.item.Item.TheVariants as items
 use Rattle.mdmp_lister.specs.declared.kind.StreamKind.TheVariants as kinds
 use Rattle.mdmp_lister.specs.Format.Item.{exception_item}
-use Rattle.mdmp_dump.specs.declared.fault.PartName.TheVariants.{Context}
+use Rattle.mdmp_wire.specs.declared.slot.PartName.TheVariants.{Context}
 use Rattle.mdmp_dump.specs.Exception.{IsException}
 use Rattle.mdmp_dump.specs.Within.{part_size}
 use Rattle.mdmp_dump.proofs.Within.Part.{location_taken}

@@ -5,7 +5,7 @@ use Rattle.mdmp_wire.specs.declared.descriptor64.Descriptor64.{Descriptor64}
 use Rattle.mdmp_lister.specs.declared.item.Item.TheVariants as items
 use Rattle.mdmp_lister.specs.declared.kind.StreamKind.TheVariants as kinds
 use Rattle.mdmp_lister.specs.Format.Item.{range64_item, range_offset}
-use Rattle.mdmp_dump.specs.declared.fault.PartName.TheVariants.{Memory}
+use Rattle.mdmp_wire.specs.declared.slot.PartName.TheVariants.{Memory}
 use Rattle.mdmp_dump.specs.Memory64.{IsMemory64}
 use Rattle.mdmp_dump.proofs.Within.Part.{range_taken}
 use Rattle.mdmp_dump.proofs.Within.Records.{AreTaken}

@@ -4,7 +4,7 @@ use Rattle.mdmp_wire.specs.Module.{module_at}
 use Rattle.mdmp_lister.specs.declared.item.Item.TheVariants as items
 use Rattle.mdmp_lister.specs.declared.kind.StreamKind.TheVariants as kinds
 use Rattle.mdmp_lister.specs.Format.Item.{module_item}
-use Rattle.mdmp_dump.specs.declared.fault.PartName.TheVariants.{CodeView, Misc}
+use Rattle.mdmp_wire.specs.declared.slot.PartName.TheVariants.{CodeView, Misc}
 use Rattle.mdmp_dump.specs.Module.{IsModule}
 use Rattle.mdmp_dump.specs.Within.{IsNameWithin, part_size}
 use Rattle.mdmp_dump.proofs.Within.Name.{name_short}

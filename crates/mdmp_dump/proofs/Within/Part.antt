@@ -9,7 +9,7 @@ use Rattle.mdmp_source.specs.declared.location.Extent.{Extent}
 use Rattle.mdmp_source.specs.declared.location.Extent.TheVariants as classes
 use Rattle.mdmp_wire.specs.Number.{array_at}
 use Rattle.mdmp_lister.specs.Format.Item.{range_extent_of}
-use Rattle.mdmp_dump.specs.declared.fault.PartName.{PartName}
+use Rattle.mdmp_wire.specs.declared.slot.PartName.{PartName}
 use Rattle.mdmp_dump.specs.declared.part.Part.{Part}
 use Rattle.mdmp_dump.specs.declared.part.Part.TheVariants as parts
 use Rattle.mdmp_dump.specs.Part.{IsPart, part_in}

@@ -4,7 +4,7 @@ use Rattle.mdmp_wire.specs.Thread.{thread_at}
 use Rattle.mdmp_lister.specs.declared.item.Item.TheVariants as items
 use Rattle.mdmp_lister.specs.declared.kind.StreamKind.TheVariants as kinds
 use Rattle.mdmp_lister.specs.Format.Item.{thread_item}
-use Rattle.mdmp_dump.specs.declared.fault.PartName.TheVariants.{Stack, Context}
+use Rattle.mdmp_wire.specs.declared.slot.PartName.TheVariants.{Stack, Context}
 use Rattle.mdmp_dump.specs.Thread.{IsThread}
 use Rattle.mdmp_dump.specs.Within.{part_size}
 use Rattle.mdmp_dump.proofs.Within.Part.{location_taken}

@@ -1,12 +1,15 @@
 -- Laws of the table of kinds: of the type of each, of the sizes of records and heads, at least and at most.
-use Rattle.std.specs.Prelude.{◌≡◌, ◌≤◌, ◌<◌, ℕ, Option, Some, None, Bool, true, false, ◌==◌, if◌then◌else◌}
+use Rattle.std.specs.Option.{option_map}
+use Rattle.std.specs.Prelude.{◌≡◌, ◌≤◌, ◌<◌, ℕ, List, IfSome, Option, Some, None, Bool, true, false, ◌==◌, if◌then◌else◌}
 use Rattle.std.proofs.Common.{◌∙◌, ap, arith, refl}
 use Rattle.std.proofs.lemmas.Bool.{eqb-true}
 use Rattle.mdmp_lister.specs.declared.form.Form.{Form}
 use Rattle.mdmp_lister.specs.declared.form.Form.TheVariants as forms
 use Rattle.mdmp_lister.specs.declared.kind.StreamKind.{StreamKind}
 use Rattle.mdmp_lister.specs.declared.kind.StreamKind.TheVariants as kinds
-use Rattle.mdmp_lister.specs.Format.Kind.{greatest_record, kind_of, record_size, type_of_kind}
+use Rattle.mdmp_wire.specs.AnyRecord.{name_rva}
+use Rattle.mdmp_lister.specs.Format.Item.{record_at}
+use Rattle.mdmp_lister.specs.Format.Kind.{field_end, field_rva, greatest_record, kind_of, name_field, record_size, type_of_kind}
 use Rattle.mdmp_lister.specs.Format.Shape.{head_cost}
 
 -- the kind of its type is that kind
@@ -36,6 +39,18 @@ least_record _ = omega arith
 pub most_record : (kind : StreamKind) → record_size kind ≤ greatest_record
 most_record kinds.Threads = omega arith
 most_record _ = omega arith
+
+-- the field of its name lies in a record, and has what the record says
+pub field_within : (kind : StreamKind) → IfSome (name_field kind) (λ field. field_end field ≤ record_size kind)
+field_within kinds.Modules = omega arith
+field_within kinds.System = omega arith
+field_within kinds.Unloaded = omega arith
+field_within kinds.ThreadNames = omega arith
+field_within _ = tt
+
+pub named_by_field : (kind : StreamKind) (F : List ℕ) → option_map (field_rva F) (name_field kind) ≡ name_rva (record_at kind F 0)
+named_by_field kinds.Threads F = refl
+named_by_field _ F = refl
 
 pub most_head : (form : Form) → head_cost form ≤ 16
 most_head forms.Single = omega arith

@@ -1,12 +1,10 @@
-use Rattle.std.proofs.Common.{Ok, refl, Some, subst, sym}
+use Rattle.std.proofs.Common.{Ok, refl, subst, sym}
 use Rattle.std.specs.Prelude.{IsTrue}
-use Rattle.mdmp_lister.specs.Format.Kind.{kind_of}
-use Rattle.mdmp_dump.specs.Walking.{lists_memory64}
 use Rattle.std.proofs.lemmas.Option.{slice_get-get_or}
 use Rattle.mdmp_lister.specs.declared.position.Position.{Position}
 use Rattle.mdmp_lister.specs.Walker.{begins}
 use Rattle.mdmp_dump.specs.EntryWalk.{no_entry}
-use Rattle.mdmp_dump.proofs.EntryBegun.{begins_counted, begins_err, begins_refused, far_counted, far_stopped, kept_counted, kept_err, kept_refused, left_stopped, step_fresh, step_stopped, stream_begun}
+use Rattle.mdmp_dump.proofs.EntryBegun.{begins_counted, begins_err, begins_refused, kept_counted, kept_err, kept_refused, step_fresh, stream_begun}
 use Rattle.mdmp_dump.proofs.entry_walk.begin_entry.Goals as goal
 
 pub returns-in-Err-clause-begins : goal.returns-in-Err-clause-begins
@@ -61,19 +59,3 @@ returns-in-Err-records-clause-begins g c = λ stream e at is.
     let fresh = step_fresh c.args.number e old mid c.next_step.new.self at c.requires.kept c.seek_entry.ensures c.in-Ok.field-0 c.in-Ok.ensures.leaves c.in-Ok.ensures.repeats in
     let begun = stream_begun c.args.number e old mid c.next_step.new.self at c.requires.kept c.seek_entry.ensures (Ok c.in-Ok.field-0) c.in-Ok.ensures.leaves fresh in
     begins_refused _ old c.next_step.new.self c.records.new.self c.requires.kept begun c.in-Err-records.fault c.in-Err-records.ensures.counts c.in-Err-records.ensures.of_file stream is fresh
-
-pub returns-in-Err-clause-far : goal.returns-in-Err-clause-far
-returns-in-Err-clause-far g c = λ e at. far_stopped c.next_step.new.self.list (lists_memory64 (kind_of e.stream_type)) (step_stopped c.seek_entry.new.self c.next_step.new.self c.in-Err.fault c.in-Err.ensures.leaves)
-
-pub returns-in-Ok-records-clause-far : goal.returns-in-Ok-records-clause-far
-returns-in-Ok-records-clause-far g c = λ e at.
-    let old = c.args.walker.now in
-    let mid = c.seek_entry.new.self in
-    let fresh = step_fresh c.args.number e old mid c.next_step.new.self at c.requires.kept c.seek_entry.ensures c.in-Ok.field-0 c.in-Ok.ensures.leaves c.in-Ok.ensures.repeats in
-    let begun = stream_begun c.args.number e old mid c.next_step.new.self at c.requires.kept c.seek_entry.ensures (Ok c.in-Ok.field-0) c.in-Ok.ensures.leaves fresh in
-    far_counted _ old c.next_step.new.self c.records.new.self c.requires.kept begun (Ok c.in-Ok-records.count) c.in-Ok-records.ensures.counts
-
-pub returns-in-Err-records-clause-far : goal.returns-in-Err-records-clause-far
-returns-in-Err-records-clause-far g c = λ e at.
-    let new = c.records.new.self.list in
-    far_stopped new (lists_memory64 (kind_of e.stream_type)) (left_stopped new.passed new.stop (Some c.in-Err-records.fault) new.records c.in-Err-records.ensures.counts.stop)

@@ -14,7 +14,7 @@ returns-then-is_full-clause-reads g c =
     let ranges = c.args.map.now.ranges in
     let i : ℕ = c.loop-number.number in
     let same : length c.loop-number.known ≡ length c.loop-number.out = omega (arith, c.loop-number.auto.out, c.loop-number.auto.known, c.requires.same) in
-    let full : (place : ℕ) → place < c.loop-number.paint.count → is_painted c.loop-number.paint place ≡ true = c.is_full.ensures.full (search rules) in
+    let full : (place : ℕ) → place < c.loop-number.paint.count → is_painted c.loop-number.paint place ≡ true = c.is_full.ensures.full.0 (search rules) in
     let are = cells_full content (take i ranges) (drop i ranges) c.loop-number.paint c.loop-number.out c.loop-number.known same before.painted full
     (subst (λ a. AreCells content (take i ranges) a c.loop-number.out c.loop-number.known) (sym before.start) before.cells) in
     block_read ranges c.args.address c.loop-number.out c.loop-number.known c.args.meter.now c.loop-number.meter same

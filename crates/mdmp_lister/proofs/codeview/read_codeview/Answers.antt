@@ -15,8 +15,12 @@ returns-clause-reads g c =
     let kept : take (min size 24) (front ++ past) ≡ front = front-kept front past (min size 24) fetched in
     record {
       reads = record {
-        of_file = λ file known.
-            ap (λ (head : List ℕ). codeview_in head (take c.in_ok-rest.rest c.fetch_codeview.new.rest.items) size) kept ∙ read.reads.of_file file known;
+        of_file = λ file known. record {
+          head_is = kept ∙ (read.reads.of_file file known).head_is;
+          told =
+              ap (λ (head : List ℕ). codeview_in head (take c.in_ok-rest.rest c.fetch_codeview.new.rest.items) size) kept
+              ∙ (read.reads.of_file file known).told;
+        };
         books = read.reads.books;
         caused = read.reads.caused;
       };

@@ -5,7 +5,6 @@ pub invariant_of-self : goal.invariant_of-self
 invariant_of-self g c = record {
   kept = c.begin_entry.ensures.kept;
   stands = place_stays c.self.inside.walker.list c.begin_entry.new.walker.list c.place_of-self-inside.result c.begin_entry.ensures.same c.place_of-self-inside.ensures.is;
-  told = c.begin_entry.ensures.far _ c.entry-self-inside.ensures.value;
 }
 
 pub returns : goal.returns

@@ -1,6 +1,5 @@
 use Rattle.std.proofs.Common.{◌≡◌, ◌∙◌, ◌+◌, ◌*◌, ℕ, Err, Option, None, true, ap, arith, subst, sym}
 use Rattle.mdmp_lister.specs.Memory.{is_within}
-use Rattle.mdmp_lister.specs.Format.Kind.{kind_of}
 use Rattle.mdmp_lister.specs.Format.Listing.{entry_count}
 use Rattle.mdmp_lister.specs.Meter.{KeepsTo}
 use Rattle.mdmp_lister.proofs.Refusals.{open_refusal}
@@ -8,7 +7,7 @@ use Rattle.mdmp_dump.specs.EntryWalk.{IsOpenedWalk}
 use Rattle.mdmp_dump.specs.FileView.{IsShortAt}
 use Rattle.mdmp_dump.specs.Opening.{FetchesWithin, TellsOpeningEnd, copy_fault, copy_held, opening_bound}
 use Rattle.mdmp_dump.specs.Reading.{Fetches, refusal_of}
-use Rattle.mdmp_dump.specs.Walking.{lists_memory64, state_of}
+use Rattle.mdmp_dump.specs.Walking.{state_of}
 use Rattle.mdmp_dump.proofs.EntryWalks.{lifted_fetched, lifted_header, lifted_opened, lifted_stands, walker_within}
 use Rattle.mdmp_dump.proofs.Opened.{copied_bare, copied_good, copied_none, copied_open, copied_refusal, copied_unread, copy_within, directory-settles, kept_fetches, limited, opening-fetches, opening_ends, opening_short, tells_none, tells_of, wants_bare}
 use Rattle.mdmp_dump.proofs.OpenedViews.{head_spent}
@@ -18,7 +17,6 @@ use Rattle.mdmp_dump.proofs.entry_walk.EntryWalk.open.Goals as goal
 pub invariant_of-result : goal.invariant_of-result
 invariant_of-result g c =
     lifted_stands c.args.source c.args.choice c.nameless.result c.in-Ok.walker c.lift_budget.new.self c.in-Ok.ensures.new c.nameless.ensures.name c.lift_budget.ensures.lifts c.lift_budget.ensures.within
-    (lists_memory64 (kind_of 0))
 
 pub returns-in-Ok-clause-opened : goal.returns-in-Ok-clause-opened
 returns-in-Ok-clause-opened g c =

@@ -1,5 +1,6 @@
-use Rattle.std.proofs.Common.{refl}
+use Rattle.mdmp_dump.proofs.SlotsPlaced.{placed_fit}
 use Rattle.mdmp_dump.proofs.view.Fields.placed.Goals as goal
 
-pub returns-in-Thread : goal.returns-in-Thread
-returns-in-Thread c = rw (c.in-Thread.is, c.location.ensures, c.location-in-Thread.ensures, c.part_room.ensures.same) refl
+pub with_slots-requires : goal.with_slots-requires
+with_slots-requires c =
+    rw (c.slot_placed.ensures, c.slot_placed-2.ensures, c.slot_placed-3.ensures, c.slot_room-2.ensures.same, c.slot_room.ensures.same, c.slots.ensures) (placed_fit c.args.self.now c.args.at c.requires)

@@ -2,7 +2,7 @@ use Rattle.std.proofs.Common.{◌≡◌, ◌+◌, ◌∙◌, Err, ap, length, mi
 use Rattle.std.proofs.lemmas.List.{length-take-le}
 use Rattle.mdmp_lister.specs.CodeView.{codeview_fetches}
 use Rattle.mdmp_lister.specs.Meter.{BooksAside}
-use Rattle.mdmp_lister.proofs.CodeViews.{lent_fetched, lent_told}
+use Rattle.mdmp_lister.proofs.CodeViews.{lent_fetched, lent_head, lent_told}
 use Rattle.mdmp_lister.proofs.Asides.{codeview_unread, codeview_left, codeview_mapped, state_aside, viewed}
 use Rattle.mdmp_lister.proofs.Fetches.{good_caused}
 use Rattle.mdmp_lister.proofs.lister.Lister.codeview.Goals as goal
@@ -30,6 +30,7 @@ returns-in_err-read g c =
       ),
       record {
         value = λ file known. tt;
+        head = λ file known. tt;
         fetched = tt;
         reads = tt;
         good = λ file good. good_caused {T = Unit {0}} w.meter.source n.meter.source (Err f) file e.read.reads.caused good;
@@ -60,7 +61,8 @@ returns g c =
         },
       ),
       record {
-        value = λ file known. lent_told bytes read of.head of.size n.name.items of.rest ∙ e.read.reads.of_file file known;
+        value = λ file known. lent_told bytes read of.head of.size n.name.items of.rest ∙ (e.read.reads.of_file file known).told;
+        head = λ file known. lent_head bytes read of.head of.size ∙ (e.read.reads.of_file file known).head_is;
         fetched = lent_fetched bytes read of.head of.size c.args.location w.name.limit long e.read.fetches.fetched;
         reads = tt;
         good = λ file good. refl;

@@ -1,5 +1,5 @@
 use Rattle.mdmp_lister.specs.HeldStep.{answer_told}
-use Rattle.mdmp_lister.proofs.Walked.{step_good, step_leaves, stop_again, step_refused}
+use Rattle.mdmp_lister.proofs.Walked.{step_good, step_kinded, step_leaves, stop_again, step_refused}
 use Rattle.mdmp_lister.proofs.walker.Walker.next_step.Goals as goal
 
 pub returns-clause-leaves : goal.returns-clause-leaves
@@ -21,3 +21,8 @@ returns-clause-repeats g c =
 pub returns-clause-refused : goal.returns-clause-refused
 returns-clause-refused g c =
     rw c.told.ensures (step_refused c.self.inside.walk c.advance_from-answer.new.walk c.self.inside.mark c.self.inside.position (answer_told c.advance_from-answer.new.walk.window.held c.advance_from-answer.result) c.advance_from-answer.ensures.answered)
+
+pub returns-clause-kind : goal.returns-clause-kind
+returns-clause-kind g c =
+    rw c.told.ensures
+    (step_kinded c.self.inside.walk c.advance_from-answer.new.walk c.self.inside.mark c.self.inside.position (answer_told c.advance_from-answer.new.walk.window.held c.advance_from-answer.result) c.advance_from-answer.ensures.answered)
