@@ -1,6 +1,6 @@
 //! Names of numbers. Each table's first and last rows, and numbers beside them, are read off the headers.
 use crate::same::assert_same_at;
-use mdmp_names::{architecture_words, exception_name, flags_name, platform_words};
+use mdmp_names::{architecture_words, exception_name, flags_name, platform_words, stream_name};
 
 #[test]
 fn exceptions_have_the_names_of_their_platform(rt: HostRuntime) {
@@ -68,5 +68,25 @@ fn systems_and_processors_have_words(rt: HostRuntime) {
         (15, None),
     ] {
         assert_same_at(&rt, &architecture, architecture_words(architecture), words);
+    }
+}
+
+#[test]
+fn types_of_streams_have_names(rt: HostRuntime) {
+    for (number, name) in [
+        (0, Some("UnusedStream")),
+        (3, Some("ThreadListStream")),
+        (24, Some("ThreadNamesStream")),
+        (25, None),
+        (0x8006, Some("ceStreamThreadContextList")),
+        (0x8007, Some("ceStreamThreadCallStackList")),
+        (0xFFF0, None),
+        (0xFFFF, Some("LastReservedStream")),
+        (0x4350_0001, Some("MD_CRASHPAD_INFO_STREAM")),
+        (0x4767_0001, Some("MD_BREAKPAD_INFO_STREAM")),
+        (0x4767_000D, Some("LinuxProcFD")),
+        (0x4767_000E, None),
+    ] {
+        assert_same_at(&rt, &number, stream_name(number), name);
     }
 }

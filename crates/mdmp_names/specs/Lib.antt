@@ -8,4 +8,5 @@ pub mod MachExceptions
 pub mod MachX86Codes
 pub mod Platforms
 pub mod SiCodes
+pub mod StreamTypes
 pub mod WindowsExceptions

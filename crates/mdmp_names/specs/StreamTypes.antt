@@ -1,0 +1,68 @@
+-- Types of streams. Made by bindings/generate from bindings/names.toml.
+use Rattle.std.specs.Prelude.{ℕ, ◌==◌, nat_lt, if◌then◌else◌, List, Option, Some, None, codes}
+
+abbrev pub stream_name_1 : ℕ → Option (List ℕ)
+stream_name_1 n =
+    if n == 0 then Some (codes "UnusedStream")
+    else if n == 1 then Some (codes "ReservedStream0")
+    else if n == 2 then Some (codes "ReservedStream1")
+    else if n == 3 then Some (codes "ThreadListStream")
+    else if n == 4 then Some (codes "ModuleListStream")
+    else if n == 5 then Some (codes "MemoryListStream")
+    else if n == 6 then Some (codes "ExceptionStream")
+    else if n == 7 then Some (codes "SystemInfoStream")
+    else if n == 8 then Some (codes "ThreadExListStream")
+    else if n == 9 then Some (codes "Memory64ListStream")
+    else if n == 10 then Some (codes "CommentStreamA")
+    else if n == 11 then Some (codes "CommentStreamW")
+    else if n == 12 then Some (codes "HandleDataStream")
+    else if n == 13 then Some (codes "FunctionTableStream")
+    else if n == 14 then Some (codes "UnloadedModuleListStream")
+    else if n == 15 then Some (codes "MiscInfoStream")
+    else if n == 16 then Some (codes "MemoryInfoListStream")
+    else if n == 17 then Some (codes "ThreadInfoListStream")
+    else if n == 18 then Some (codes "HandleOperationListStream")
+    else if n == 19 then Some (codes "TokenStream")
+    else if n == 20 then Some (codes "JavaScriptDataStream")
+    else if n == 21 then Some (codes "SystemMemoryInfoStream")
+    else if n == 22 then Some (codes "ProcessVmCountersStream")
+    else if n == 23 then Some (codes "IptTraceStream")
+    else if n == 24 then Some (codes "ThreadNamesStream")
+    else if n == 0x8000 then Some (codes "ceStreamNull")
+    else if n == 0x8001 then Some (codes "ceStreamSystemInfo")
+    else if n == 0x8002 then Some (codes "ceStreamException")
+    else if n == 0x8003 then Some (codes "ceStreamModuleList")
+    else if n == 0x8004 then Some (codes "ceStreamProcessList")
+    else if n == 0x8005 then Some (codes "ceStreamThreadList")
+    else if n == 0x8006 then Some (codes "ceStreamThreadContextList")
+    else None
+
+abbrev pub stream_name_2 : ℕ → Option (List ℕ)
+stream_name_2 n =
+    if n == 0x8007 then Some (codes "ceStreamThreadCallStackList")
+    else if n == 0x8008 then Some (codes "ceStreamMemoryVirtualList")
+    else if n == 0x8009 then Some (codes "ceStreamMemoryPhysicalList")
+    else if n == 0x800A then Some (codes "ceStreamBucketParameters")
+    else if n == 0x800B then Some (codes "ceStreamProcessModuleMap")
+    else if n == 0x800C then Some (codes "ceStreamDiagnosisList")
+    else if n == 0xFFFF then Some (codes "LastReservedStream")
+    else if n == 0x43500001 then Some (codes "MD_CRASHPAD_INFO_STREAM")
+    else if n == 0x47670001 then Some (codes "MD_BREAKPAD_INFO_STREAM")
+    else if n == 0x47670002 then Some (codes "MD_ASSERTION_INFO_STREAM")
+    else if n == 0x47670003 then Some (codes "MD_LINUX_CPU_INFO")
+    else if n == 0x47670004 then Some (codes "MD_LINUX_PROC_STATUS")
+    else if n == 0x47670005 then Some (codes "MD_LINUX_LSB_RELEASE")
+    else if n == 0x47670006 then Some (codes "MD_LINUX_CMD_LINE")
+    else if n == 0x47670007 then Some (codes "MD_LINUX_ENVIRON")
+    else if n == 0x47670008 then Some (codes "MD_LINUX_AUXV")
+    else if n == 0x47670009 then Some (codes "MD_LINUX_MAPS")
+    else if n == 0x4767000A then Some (codes "MD_LINUX_DSO_DEBUG")
+    else if n == 0x4767000B then Some (codes "LinuxProcStat")
+    else if n == 0x4767000C then Some (codes "LinuxProcUptime")
+    else if n == 0x4767000D then Some (codes "LinuxProcFD")
+    else None
+
+abbrev pub stream_name : ℕ → Option (List ℕ)
+stream_name n =
+    if nat_lt n 0x8007 then stream_name_1 n
+    else stream_name_2 n
