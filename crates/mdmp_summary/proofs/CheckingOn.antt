@@ -1,8 +1,8 @@
 -- A check so far over a file that is known: its rows, and how many names were reached.
-use Rattle.std.proofs.Common.{◌≡◌, ◌≤◌, ◌+◌, ◌∙◌, ℕ, List, [], ◌∷◌, ◌++◌, Option, Some, None, ap, sym, refl, append_assoc, append-nil, arith, length, length-append}
-use Rattle.std.specs.Prelude.{flat_map, sum_by}
+use Rattle.std.proofs.Common.{◌≡◌, ◌≤◌, ◌+◌, ◌-◌, ◌∙◌, ℕ, List, [], ◌∷◌, ◌++◌, Option, Some, None, ap, sym, refl, append_assoc, append-nil, arith, length, length-append}
+use Rattle.std.specs.Prelude.{Result, flat_map, sum_by}
 use Rattle.std.proofs.lemmas.List.Sums.{sum_by-append, sum_by-cons}
-use Rattle.mdmp_source.specs.Source.{FetchesSome, SourceState}
+use Rattle.mdmp_source.specs.Source.{FetchesAtMost}
 use Rattle.mdmp_source.specs.SourceLaws.{fetches_then}
 use Rattle.mdmp_lister.specs.declared.choice.Choice.TheVariants.{All}
 use Rattle.mdmp_lister.specs.declared.fault.ListFault.{ListFault}
@@ -11,15 +11,17 @@ use Rattle.mdmp_lister.specs.declared.sink.RunFault.{RunFault}
 use Rattle.mdmp_lister.specs.declared.sink.RunFault.TheVariants as run
 use Rattle.mdmp_lister.specs.declared.verdict.Verdict.{Verdict}
 use Rattle.mdmp_lister.specs.Check.{items_of, names_at, names_judged}
+use Rattle.mdmp_lister.specs.Costs.{end_cost}
 use Rattle.mdmp_lister.specs.Fault.{IsToldIn, IsUnobtained}
 use Rattle.mdmp_lister.specs.Format.Listing.{Run, chosen, entry_count, listing, listing_from, verdicts}
 use Rattle.mdmp_lister.specs.Format.Numbers.{faulty_name, names_of}
 use Rattle.mdmp_lister.specs.Lister.{ListerState}
 use Rattle.mdmp_lister.specs.Sink.{names_of_all}
-use Rattle.mdmp_lister.proofs.Fetches.{told_in_later}
+use Rattle.mdmp_lister.proofs.Fetches.{FetchesAtMost-within, told_in_later}
+use Rattle.mdmp_lister.proofs.Spending.{items_cost-append}
 use Rattle.mdmp_summary.specs.BadEntries.{all_items, entry_fault, entry_faults}
 use Rattle.mdmp_summary.specs.CheckRows.{check_rows, run_rows}
-use Rattle.mdmp_summary.specs.Checking.{EndsEarly, EndsRun, MeetsBad}
+use Rattle.mdmp_summary.specs.Checking.{EndsEarly, EndsRun, MeetsBad, row_cost, rows_cost}
 use Rattle.mdmp_summary.specs.declared.check_row.CheckRow.{CheckRow}
 use Rattle.mdmp_summary.proofs.Counting.{CountsOn, counts_begin, counts_more, faults_end, items_end}
 use Rattle.mdmp_summary.proofs.Entries.{all_left, faults_behind, goes_on_behind, items_behind}
@@ -71,44 +73,41 @@ begins_with F limit k (Some f) few same = record {
 
 -- ---- a check so far
 
--- in so many runs these rows were told
-pub record ChecksOn (F : List ℕ) (limit : ℕ) (old now : ListerState) (rows : List CheckRow) (runs : ℕ) : Type 0 where
+-- in so many runs these items were read, and these rows told
+pub record ChecksOn (F : List ℕ) (limit : ℕ) (old now : ListerState) (rows : List CheckRow) (items : List Item) (runs : ℕ) : Type 0 where
   pub met : List ListFault
-  pub items : List Item
   pub counts : CountsOn F limit now met items
   pub runs_are : length met ≡ runs
   pub rows_are : rows ++ rows_behind F limit counts.at ≡ check_rows F limit
   pub names : now.counts.names ≤ old.counts.names + (names_of_all items + names_met met)
 
-pub checks_begin : (F : List ℕ) (limit : ℕ) (old : ListerState) → old.left ≡ Some (listing F All limit) → ChecksOn F limit old old [] 0
+pub checks_begin : (F : List ℕ) (limit : ℕ) (old : ListerState) → old.left ≡ Some (listing F All limit) → ChecksOn F limit old old [] [] 0
 unfolding counts_begin
 checks_begin F limit old left = record {
   met = [];
-  items = [];
   counts = counts_begin F limit old left;
   runs_are = refl;
   rows_are = sym (rows_from_first F limit);
   names = omega arith;
 }
 
-module _ (F : List ℕ) (limit : ℕ) (old now new : ListerState) (rows : List CheckRow) (runs : ℕ) (so_far : ChecksOn F limit old now rows runs) (items : List Item) (more : List CheckRow) where
+module _ (F : List ℕ) (limit : ℕ) (old now new : ListerState) (rows : List CheckRow) (before : List Item) (runs : ℕ) (so_far : ChecksOn F limit old now rows before runs) (items : List Item) (more : List CheckRow) where
   abbrev pub left_now : Run
   left_now = listing_from F All limit so_far.counts.at
 
   -- and the bad entry at which a run ended was dropped
-  pub checks_more : (bad : MeetsBad now left_now items more new) → new.left ≡ Some (listing_from F All limit new.passed) → ChecksOn F limit old new (rows ++ more) (runs + 1)
+  pub checks_more : (bad : MeetsBad now left_now items more new) → new.left ≡ Some (listing_from F All limit new.passed) → ChecksOn F limit old new (rows ++ more) (before ++ items) (runs + 1)
   unfolding counts_more
   checks_more bad left =
       let f = bad.fault in
       let longer = length-append so_far.met (f ∷ []) in
       let same : left_now.fault ≡ Some f = ap (λ (run : Run). run.fault) bad.all in
-      let sum_items = sum_by-append names_of so_far.items items in
+      let sum_items = sum_by-append names_of before items in
       let sum_met = sum_by-append (λ (g : ListFault). faulty_name g.kind) so_far.met (f ∷ []) in
       let one = sum_by-cons (λ (g : ListFault). faulty_name g.kind) f [] in
       record {
         met = so_far.met ++ f ∷ [];
-        items = so_far.items ++ items;
-        counts = counts_more F limit now new so_far.met so_far.items items f so_far.counts
+        counts = counts_more F limit now new so_far.met before items f so_far.counts
             (λ run is. let here : run ≡ left_now = let e = so_far.counts.left in cc in here ∙ bad.all)
             (left ∙ ap (λ k. Some (listing_from F All limit k)) (sym bad.entry));
         runs_are = omega (arith, longer, so_far.runs_are);
@@ -128,9 +127,14 @@ module _ (F : List ℕ) (limit : ℕ) (old now new : ListerState) (rows : List C
   pub names_end : EndsRun now left_now items more new → new.counts.names ≤ old.counts.names + names_judged (items_of F limit (chosen F All)) (verdicts F All limit) + 1
   names_end end =
       let is : (run : Run) → now.left ≡ Some run → run ≡ record { items = items; fault = None } = λ run is. let here : run ≡ left_now = let e = so_far.counts.left in cc in here ∙ end.all in
-      let given = ap names_of_all (items_end F limit now so_far.met so_far.items items so_far.counts is) in
-      let met = ap names_met (faults_end F limit now so_far.met so_far.items items so_far.counts is) in
-      omega (arith, names_of_entries F limit, given, met, sum_by-append names_of so_far.items items, so_far.names, end.names)
+      let given = ap names_of_all (items_end F limit now so_far.met before items so_far.counts is) in
+      let met = ap names_met (faults_end F limit now so_far.met before items so_far.counts is) in
+      omega (arith, names_of_entries F limit, given, met, sum_by-append names_of before items, so_far.names, end.names)
+
+  pub read_end : EndsRun now left_now items more new → (rest : List Item) × (all_items F limit ≡ (before ++ items) ++ rest)
+  read_end end =
+      let is : (run : Run) → now.left ≡ Some run → run ≡ record { items = items; fault = None } = λ run is. let here : run ≡ left_now = let e = so_far.counts.left in cc in here ∙ end.all in
+      ([], sym (items_end F limit now so_far.met before items so_far.counts is) ∙ sym (append-nil (before ++ items)))
 
   -- or it ended early
   pub rows_early : EndsEarly now left_now items more new → (rest : List CheckRow) × (check_rows F limit ≡ rows ++ more ++ rest)
@@ -142,11 +146,20 @@ module _ (F : List ℕ) (limit : ℕ) (old now new : ListerState) (rows : List C
             ∙ sym (append_assoc rows more (end.rest ++ begins.rows)),
       )
 
+  pub read_early : EndsEarly now left_now items more new → (rest : List Item) × (all_items F limit ≡ (before ++ items) ++ rest)
+  read_early end =
+      let begins = begins_with F limit so_far.counts.at left_now.fault so_far.counts.within refl in (
+        end.more ++ begins.items,
+        sym so_far.counts.given
+            ∙ ap (λ (xs : List Item). before ++ xs) (begins.items_are ∙ ap (λ (xs : List Item). xs ++ begins.items) end.items_first ∙ append_assoc items end.more begins.items)
+            ∙ sym (append_assoc before items (end.more ++ begins.items)),
+      )
+
   pub names_early : EndsEarly now left_now items more new → new.counts.names ≤ old.counts.names + names_judged (items_of F limit (chosen F All)) (verdicts F All limit) + 1
   names_early end =
       let begins = begins_with F limit so_far.counts.at left_now.fault so_far.counts.within refl in
-      let all : all_items F limit ≡ so_far.items ++ (items ++ end.more ++ begins.items) =
-      sym so_far.counts.given ∙ ap (λ (xs : List Item). so_far.items ++ xs) (begins.items_are ∙ ap (λ (xs : List Item). xs ++ begins.items) end.items_first) in
+      let all : all_items F limit ≡ before ++ (items ++ end.more ++ begins.items) =
+      sym so_far.counts.given ∙ ap (λ (xs : List Item). before ++ xs) (begins.items_are ∙ ap (λ (xs : List Item). xs ++ begins.items) end.items_first) in
       let given = ap names_of_all all in
       let met = ap names_met (sym so_far.counts.faults) in
       omega (
@@ -154,7 +167,7 @@ module _ (F : List ℕ) (limit : ℕ) (old now new : ListerState) (rows : List C
         names_of_entries F limit,
         given,
         met,
-        sum_by-append names_of so_far.items (items ++ end.more ++ begins.items),
+        sum_by-append names_of before (items ++ end.more ++ begins.items),
         sum_by-append names_of (items ++ end.more) begins.items,
         sum_by-append names_of items end.more,
         sum_by-append (λ (g : ListFault). faulty_name g.kind) so_far.met (faults_behind F limit so_far.counts.at),
@@ -164,13 +177,28 @@ module _ (F : List ℕ) (limit : ℕ) (old now new : ListerState) (rows : List C
 
 -- ---- one run behind others
 
-pub some_both : (a b c : SourceState) → FetchesSome a b → FetchesSome b c → FetchesSome a c
-some_both a b c first then = record { count = first.count + then.count; fetches = fetches_then first.count then.count a b c first.fetches then.fetches }
+cost_then : (z limit : ℕ) (xs ys : List Item) (rs ss : List CheckRow) → rows_cost z limit (xs ++ ys) (rs ++ ss) ≡ rows_cost z limit xs rs + rows_cost z limit ys ss
+cost_then z limit xs ys rs ss =
+    let items = items_cost-append z xs ys in
+    let rows = sum_by-append (row_cost limit) rs ss in
+    omega (arith, items, rows)
+
+pub fetches_on : (old now new : ListerState) (result : Result (Unit {0}) RunFault) (xs ys : List Item) (rs ss : List CheckRow)
+    → FetchesAtMost (old.unread + rows_cost old.source.size old.limit xs rs - now.unread) old.source now.source → now.unread ≤ old.unread + rows_cost old.source.size old.limit xs rs → now.limit ≡ old.limit
+    → FetchesAtMost (now.unread + rows_cost now.source.size now.limit ys ss + end_cost now.limit result) now.source new.source
+    → FetchesAtMost (old.unread + rows_cost old.source.size old.limit (xs ++ ys) (rs ++ ss) + end_cost old.limit result) old.source new.source
+fetches_on old now new result xs ys rs ss so_far within limit then =
+    let size : rows_cost now.source.size now.limit ys ss ≡ rows_cost old.source.size old.limit ys ss =
+    ap (λ z. rows_cost z now.limit ys ss) so_far.same_size ∙ ap (λ n. rows_cost old.source.size n ys ss) limit in
+    let end : end_cost now.limit result ≡ end_cost old.limit result = ap (λ n. end_cost n result) limit in
+    let sum = cost_then old.source.size old.limit xs ys rs ss in
+    FetchesAtMost-within _ (old.unread + rows_cost old.source.size old.limit (xs ++ ys) (rs ++ ss) + end_cost old.limit result) old.source new.source (omega (arith, size, end, sum, within))
+    (fetches_then (old.unread + rows_cost old.source.size old.limit xs rs - now.unread) (now.unread + rows_cost now.source.size now.limit ys ss + end_cost now.limit result) old.source now.source new.source so_far then)
 
 -- the error that ends a run is one of all runs before it too
-pub told_later : (a b c : ListerState) (r : RunFault) → FetchesSome a.source b.source
+pub told_later : (n : ℕ) (a b c : ListerState) (r : RunFault) → FetchesAtMost n a.source b.source
     → ((f : ListFault) → r ≡ run.At f → IsUnobtained f.kind × IsToldIn c.current f b.source c.source)
     → (f : ListFault) → r ≡ run.At f → IsUnobtained f.kind × IsToldIn c.current f a.source c.source
-told_later a b c r before told = λ f is.
+told_later n a b c r before told = λ f is.
     let of = told f is in
-    (of.0, told_in_later c.current f before.count a.source b.source c.source before.fetches of.1)
+    (of.0, told_in_later c.current f n a.source b.source c.source before of.1)

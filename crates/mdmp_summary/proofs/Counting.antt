@@ -1,14 +1,13 @@
 -- A pass so far over a file that is known: its items, and the errors of entries.
-use Rattle.std.proofs.Common.{◌≡◌, ◌≤◌, ◌+◌, ◌∙◌, ℕ, List, [], ◌∷◌, ◌++◌, Some, None, ap, sym, refl, append_assoc, arith, length, length-append}
+use Rattle.std.proofs.Common.{◌≡◌, ◌≤◌, ◌+◌, ◌∙◌, ℕ, List, [], ◌∷◌, ◌++◌, Option, Some, None, ap, sym, refl, append_assoc, arith, length, length-append}
 use Rattle.std.specs.Option.{option_map}
-use Rattle.std.specs.Prelude.{fold}
 use Rattle.std.proofs.lemmas.List.{append-nil}
-use Rattle.std.proofs.lemmas.List.Sums.{fold-append}
 use Rattle.mdmp_lister.specs.declared.choice.Choice.TheVariants.{All}
 use Rattle.mdmp_lister.specs.declared.fault.ListFault.{ListFault}
 use Rattle.mdmp_lister.specs.declared.item.Item.{Item}
 use Rattle.mdmp_lister.specs.Format.Listing.{Run, entry_count, listing, listing_from}
 use Rattle.mdmp_lister.specs.Lister.{ListerState, listing_behind}
+use Rattle.mdmp_lister.specs.Sink.{give_all}
 use Rattle.mdmp_summary.specs.BadEntries.{all_items, entry_faults, told_bad}
 use Rattle.mdmp_summary.specs.Keeping.{first, kept}
 use Rattle.mdmp_summary.specs.declared.bad_entries.BadEntries.{BadEntries}
@@ -70,9 +69,26 @@ pub skipped_left : (F : List ℕ) (v : ListerState) (limit k : ℕ) → v.source
 skipped_left F v limit k known all same passed =
     ap (option_map (λ G. listing_from G v.choice v.limit v.passed)) known ∙ (λ i. Some (listing_from F (all i) (same i) (sym passed i)))
 
--- a look went over more items
-pub folds_on : {K : Type 0} (next : K → Item → K) (old now new : K) (before items : List Item) → now ≡ fold next old before → new ≡ fold next now items → new ≡ fold next old (before ++ items)
-folds_on next old now new before items so_far more = more ∙ ap (λ k. fold next k items) so_far ∙ sym (fold-append next old before items)
+-- ---- the first items
+
+-- the items up to the first error are the first of all
+first_behind : (F : List ℕ) (limit k : ℕ) (fault : Option ListFault) → k ≤ entry_count F → (listing_from F All limit k).fault ≡ fault
+    → (more : List Item) × (items_behind F limit k ≡ (listing_from F All limit k).items ++ more)
+first_behind F limit k None few same = ([], all_left F limit k same ∙ sym (append-nil (listing_from F All limit k).items))
+first_behind F limit k (Some f) few same = (items_behind F limit (f.entry + 1), (goes_on_behind F limit k f few same).items)
+
+-- a look was ended
+pub items_first : (F : List ℕ) (limit : ℕ) (now : ListerState) (met : List ListFault) (before items : List Item) → CountsOn F limit now met before
+    → ((left : Run) → now.left ≡ Some left → (rest : Run) × (left ≡ give_all items rest)) → (more : List Item) × (all_items F limit ≡ (before ++ items) ++ more)
+items_first F limit now met before items so_far first =
+    let at = so_far.at in
+    let one = first (listing_from F All limit at) so_far.left in
+    let behind = first_behind F limit at (listing_from F All limit at).fault so_far.within refl in
+    let given : (listing_from F All limit at).items ≡ items ++ one.0.items = ap (λ (run : Run). run.items) one.1 in (
+      one.0.items ++ behind.0,
+      sym so_far.given ∙ ap (λ (ys : List Item). before ++ ys) (behind.1 ∙ ap (λ (ys : List Item). ys ++ behind.0) given ∙ append_assoc items one.0.items behind.0)
+          ∙ sym (append_assoc before items (one.0.items ++ behind.0)),
+    )
 
 -- an error more
 first_on : {X : Type 0} (xs : List X) (x : X) → kept (first xs) (x ∷ []) ≡ first (xs ++ x ∷ [])

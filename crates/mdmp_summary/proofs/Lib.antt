@@ -4,7 +4,6 @@ pub mod Contexts
 pub mod Counting
 mod CrashRows
 pub mod Entries
-pub mod Folded
 pub mod Folds
 mod IdentityRows
 pub mod Padding
@@ -16,4 +15,5 @@ pub mod RunTold
 pub mod Sought
 mod SummaryRows
 pub mod Told
+pub mod Visited
 mod WholeRows

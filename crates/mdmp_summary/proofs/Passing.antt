@@ -1,17 +1,17 @@
 -- What a pass over all entries fetches, a look at a time.
-use Rattle.std.proofs.Common.{◌≡◌, ◌≤◌, ◌+◌, ◌*◌, ◌∙◌, ℕ, Option, Result, Ok, Err, ap, arith, drop, refl, subst, sym, false}
-use Rattle.std.proofs.Math.Nat.{mul-le-mul_right}
-use Rattle.mdmp_lister.specs.declared.fault.ListFault.{ListFault}
-use Rattle.mdmp_lister.specs.declared.meter.Amount.{Amount}
+use Rattle.std.proofs.Common.{◌≡◌, ◌≤◌, ◌+◌, ◌*◌, ◌∙◌, ℕ, List, [], ◌∷◌, Option, Result, Ok, Err, ap, arith, drop, refl, subst, sym, false}
+use Rattle.std.proofs.lemmas.List.Sums.{sum_by-cons}
+use Rattle.std.specs.Prelude.{sum_by}
+use Rattle.mdmp_lister.specs.declared.item.Item.{Item}
 use Rattle.mdmp_lister.specs.declared.meter.MeterCounts.{MeterCounts}
 use Rattle.mdmp_lister.specs.declared.position.Position.{Position}
 use Rattle.mdmp_lister.specs.declared.position.Position.TheVariants.{Begun, Sought, Within}
 use Rattle.mdmp_lister.specs.Listed.{cost_of, entry_cost}
 use Rattle.mdmp_lister.specs.Lister.{IsSameLister, ListerState}
 use Rattle.mdmp_lister.specs.Walker.{WalkerState, is_sought, seeks}
-use Rattle.mdmp_summary.specs.Spending.{CountsNames, KeepsSettled, LookPaid, PassPaid, PaysLook, ReadsContext, RisesByNames, SpendsPasses, ahead, ahead_after, all_listed, room_for_name, next_number, settled}
-use Rattle.mdmp_summary.specs.SpendingLaws.{spends_more}
+use Rattle.mdmp_summary.specs.Spending.{CountsNames, KeepsSettled, LookPaid, PassPaid, PaysLook, PaysPasses, ReadsContext, RisesByNames, SpendsPasses, ahead, ahead_after, all_listed, room_for_name, next_number, settled}
 use Rattle.mdmp_summary.specs.Summing.{SpendsSummary, contexts_for, passes_for}
+use Rattle.mdmp_summary.specs.Visiting.{RisesOutside, nothing_read}
 use Rattle.mdmp_summary.specs.Walking.{IsSameListing}
 use Rattle.mdmp_summary.specs.declared.summary.Crash.{Crash}
 use Rattle.mdmp_summary.specs.declared.summary.FileSummary.{FileSummary}
@@ -28,7 +28,6 @@ pub record HasPassed (old now : WalkerState) : Type 0 where
   pub more_names : old.list.counts.names ≤ now.list.counts.names
   pub asked : CountsNames now → PassedBy (λ c. c.asked) old now
   pub fetched : CountsNames now → PassedBy (λ c. c.fetched) old now
-  pub aside : now.list.counts.aside ≡ old.list.counts.aside
 
 -- the first entry was sought
 module _ (old new : WalkerState) (stays : new.list ≡ record old.list { left = new.list.left; stop = new.list.stop; unread = new.list.unread; standing = new.list.standing; records = new.list.records; work = new.list.work })
@@ -49,47 +48,41 @@ module _ (old new : WalkerState) (stays : new.list ≡ record old.list { left = 
     more_names = let same = ap (λ (l : ListerState). l.counts.names) stays in omega (arith, same);
     asked = λ few. sought_by (λ c. c.asked);
     fetched = λ few. sought_by (λ c. c.fetched);
-    aside = λ i. (stays i).counts.aside;
   }
 
 -- ---- a look more
 
 module _ (old now mid : WalkerState) (same : now.list.limit ≡ old.list.limit) where
-  look_then : (count : MeterCounts → ℕ) (result : Result (Unit {0}) ListFault) → PassedBy count old now → LookPaid count now result mid
+  look_then : {E : Type 0} (count : MeterCounts → ℕ) (result : Result (Unit {0}) E) → PassedBy count old now → LookPaid count now result mid
       → RisesByNames (room_for_name old) (settled count old + 1 * all_listed old) old.mark.names (settled count mid + ahead_after result mid) mid.mark.names
   look_then count result so_far look =
       rises_then (room_for_name old) (settled count old + 1 * all_listed old) old.mark.names (settled count now + ahead now) now.mark.names (settled count mid + ahead_after result mid) mid.mark.names so_far.rises
       (subst (λ l. RisesByNames (l + 4) (settled count now + ahead now) now.mark.names (settled count mid + ahead_after result mid) mid.mark.names) same look.rises)
 
-  end_by : (count : MeterCounts → ℕ) (result : Result (Unit {0}) ListFault) → PassedBy count old now → LookPaid count now result mid → PassPaid count 1 old mid
+  end_by : {E : Type 0} (count : MeterCounts → ℕ) (result : Result (Unit {0}) E) → PassedBy count old now → LookPaid count now result mid → PassPaid count 1 old mid
   end_by count result so_far look =
       let rises = look_then count result so_far look in
       record { rises = omega (arith, rises); kept = λ kept. look.kept }
 
-  pub passed_end : (result : Result (Unit {0}) ListFault) → HasPassed old now → PaysLook now result mid → SpendsPasses 1 0 old mid
+  pub passed_end : {E : Type 0} (result : Result (Unit {0}) E) → HasPassed old now → PaysLook now result mid → PaysPasses 1 old mid
   passed_end result so_far look =
-      let same_aside : mid.list.counts.aside ≡ old.list.counts.aside = look.aside ∙ so_far.aside in
-      let bytes = ap (λ (a : Amount). a.bytes) same_aside in
-      let calls = ap (λ (a : Amount). a.calls) same_aside in
       record {
         more_names = omega (arith, so_far.more_names, look.more_names);
         asked = λ few. end_by (λ c. c.asked) result (so_far.asked (few_names now.list.counts.names mid.list.counts.names look.more_names few)) (look.asked few);
         fetched = λ few. end_by (λ c. c.fetched) result (so_far.fetched (few_names now.list.counts.names mid.list.counts.names look.more_names few)) (look.fetched few);
-        aside = omega (arith, bytes);
-        aside_calls = omega (arith, calls);
       }
 
   -- an entry that is skipped
-  module _ (f : ListFault) (new : WalkerState) (skips : IsSameLister mid.list new.list) (source : new.list.source ≡ mid.list.source) (counts : new.list.counts ≡ mid.list.counts)
+  module _ {E : Type 0} (e : E) (new : WalkerState) (skips : IsSameLister mid.list new.list) (source : new.list.source ≡ mid.list.source) (counts : new.list.counts ≡ mid.list.counts)
       (passed : new.list.passed ≡ mid.list.passed) (current : new.list.current ≡ mid.list.current) (mark : new.mark ≡ mid.mark) (position : is_sought mid ≡ false) (still : is_sought new ≡ false) where
     number_still : (p : Position) (n : ℕ) → seeks p ≡ false → next_number p n ≡ n
     number_still (Sought number) n not = absurd (cc)
     number_still Begun n not = refl
     number_still Within n not = refl
 
-    skip_by : (count : MeterCounts → ℕ) → PassedBy count old now → LookPaid count now (Err f) mid → PassedBy count old new
+    skip_by : (count : MeterCounts → ℕ) → PassedBy count old now → LookPaid count now (Err e) mid → PassedBy count old new
     skip_by count so_far look =
-        let rises = look_then count (Err f) so_far look in
+        let rises = look_then count (Err e) so_far look in
         let at : next_number new.position new.list.passed ≡ next_number mid.position mid.list.passed =
         number_still new.position new.list.passed still ∙ passed ∙ sym (number_still mid.position mid.list.passed position) in
         let one : settled count new ≡ settled count mid = λ i. count (mark i) + entry_cost (source i).size (current i) in
@@ -104,7 +97,7 @@ module _ (old now mid : WalkerState) (same : now.list.limit ≡ old.list.limit) 
               (subst (λ (c : MeterCounts). RisesByNames (room_for_name mid) (settled count mid) mid.mark.names (count c) c.names) (sym counts) look.kept)));
         }
 
-    pub passed_skip : HasPassed old now → PaysLook now (Err f) mid → HasPassed old new
+    pub passed_skip : HasPassed old now → PaysLook now (Err e) mid → HasPassed old new
     passed_skip so_far look =
         let same_names = ap (λ (c : MeterCounts). c.names) counts in
         record {
@@ -115,7 +108,6 @@ module _ (old now mid : WalkerState) (same : now.list.limit ≡ old.list.limit) 
           fetched = λ few.
               let few_mid : CountsNames mid = omega (arith, few, same_names) in
               skip_by (λ c. c.fetched) (so_far.fetched (few_names now.list.counts.names mid.list.counts.names look.more_names few_mid)) (look.fetched few_mid);
-          aside = ap (λ (c : MeterCounts). c.aside) counts ∙ look.aside ∙ so_far.aside;
         }
 
 -- ---- a pass after which nothing more is looked at
@@ -123,30 +115,37 @@ module _ (old now mid : WalkerState) (same : now.list.limit ≡ old.list.limit) 
 done_by : (count : MeterCounts → ℕ) (old now : WalkerState) → PassedBy count old now → PassPaid count 1 old now
 done_by count old now so_far = record { rises = let rises = so_far.rises in omega (arith, rises); kept = so_far.kept }
 
-pub passed_done : (old now : WalkerState) → HasPassed old now → SpendsPasses 1 0 old now
-passed_done old now so_far =
-    let bytes = ap (λ (a : Amount). a.bytes) so_far.aside in
-    let calls = ap (λ (a : Amount). a.calls) so_far.aside in
-    record {
-      more_names = so_far.more_names;
-      asked = λ few. done_by (λ c. c.asked) old now (so_far.asked few);
-      fetched = λ few. done_by (λ c. c.fetched) old now (so_far.fetched few);
-      aside = omega (arith, bytes);
-      aside_calls = omega (arith, calls);
-    }
+pub passed_done : (old now : WalkerState) → HasPassed old now → PaysPasses 1 old now
+passed_done old now so_far = record {
+  more_names = so_far.more_names;
+  asked = λ few. done_by (λ c. c.asked) old now (so_far.asked few);
+  fetched = λ few. done_by (λ c. c.fetched) old now (so_far.fetched few);
+}
 
 -- ---- nothing, and a context
 
-none_by : (count : MeterCounts → ℕ) (v : WalkerState) → PassPaid count 0 v v
+none_by : (count : MeterCounts → ℕ) (v : WalkerState) → PassPaid count 1 v v
 none_by count v = record { rises = omega arith; kept = λ kept. kept }
 
-pub spends_none : (v : WalkerState) → SpendsPasses 0 0 v v
-spends_none v = record {
+pub pays_none : (v : WalkerState) → PaysPasses 1 v v
+pays_none v = record {
   more_names = omega arith;
   asked = λ few. none_by (λ c. c.asked) v;
   fetched = λ few. none_by (λ c. c.fetched) v;
-  aside = omega arith;
-  aside_calls = omega arith;
+}
+
+-- a pass of which nothing is read outside the listing
+none_of_all : (xs : List Item) → sum_by (λ x. 0) xs ≡ 0
+none_of_all [] = refl
+none_of_all (x ∷ xs) = let more = sum_by-cons (λ (y : Item). 0) x xs in let rest = none_of_all xs in omega (arith, more, rest)
+
+pub spends_pass : (items : List Item) (old new : WalkerState) → PaysPasses 1 old new → RisesOutside (λ item. nothing_read) items old.list.counts.aside new.list.counts.aside → SpendsPasses 1 0 old new
+spends_pass items old new pays outside = record {
+  more_names = pays.more_names;
+  asked = pays.asked;
+  fetched = pays.fetched;
+  aside = let bytes = outside.bytes in omega (arith, bytes, none_of_all items);
+  aside_calls = let calls = outside.calls in omega (arith, calls, none_of_all items);
 }
 
 module _ (old new : WalkerState) (reads : ReadsContext old new) where

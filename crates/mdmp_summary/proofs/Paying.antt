@@ -7,6 +7,7 @@ use Rattle.mdmp_lister.specs.declared.choice.Choice.TheVariants.{All}
 use Rattle.mdmp_lister.specs.declared.fault.ListFault.{ListFault}
 use Rattle.mdmp_lister.specs.declared.item.Item.{Item}
 use Rattle.mdmp_lister.specs.declared.item.StreamItem.{StreamItem}
+use Rattle.mdmp_lister.specs.declared.meter.Amount.{Amount}
 use Rattle.mdmp_lister.specs.declared.meter.MeterCounts.{MeterCounts}
 use Rattle.mdmp_lister.specs.declared.position.Position.{Position}
 use Rattle.mdmp_lister.specs.declared.position.Position.TheVariants.{Begun, Sought, Within}
@@ -24,7 +25,8 @@ use Rattle.mdmp_lister.specs.Walk.Positions.{mark_by, position_by}
 use Rattle.mdmp_lister.specs.Walker.{GivesEntry, WalkerLeaves, WalkerState, seeks}
 use Rattle.mdmp_lister.proofs.Listed.{cost_by-more, cost_by-passed}
 use Rattle.mdmp_lister.proofs.Summary.{summary_of-item_of, summary_of-plain}
-use Rattle.mdmp_summary.specs.Spending.{CountsNames, KeepsSettled, LookPaid, PaysLook, RisesByNames, ahead, ahead_after, room_for_name, next_number, settled}
+use Rattle.mdmp_summary.specs.Spending.{CountsNames, KeepsSettled, LookPaid, PaysLook, ReadsOutside, RisesByNames, ahead, ahead_after, room_for_name, next_number, settled}
+use Rattle.mdmp_summary.specs.Walking.{IsSameListing}
 
 -- ---- numbers
 
@@ -177,7 +179,7 @@ paid_none v = record { more_names = omega arith; asked = λ few. omega arith; fe
 pub few_names : (before after : ℕ) → before ≤ after → after + 1 < 2 ^ 128 → before + 1 < 2 ^ 128
 few_names before after more few = omega (arith, more, few)
 
-module _ (old now new : WalkerState) (first : IsSameLister old.list now.list) (paid : HasPaid old now) where
+module _ (old now new : WalkerState) (first : IsSameListing old.list now.list) (paid : HasPaid old now) where
   paid_then : (count : MeterCounts → ℕ) (most after : ℕ)
       → RisesByNames (room_for_name old) (settled count old + ahead old) old.mark.names (settled count now + ahead now) now.mark.names
       → RisesByNames (room_for_name now) (settled count now + ahead now) now.mark.names most after
@@ -220,7 +222,7 @@ module _ (old now new : WalkerState) (first : IsSameLister old.list now.list) (p
       (subst (λ (m : MeterCounts). RisesByNames (room_for_name now) (settled count now) m.names (count new.list.counts) new.list.counts.names) (sym mark) spent))
 
   -- and so do the entries ahead
-  look_by : (count : MeterCounts → ℕ) (result : Result (Unit {0}) ListFault) → new.mark ≡ now.mark → new.list.current ≡ now.list.current → new.list.source.size ≡ now.list.source.size → new.list.limit ≡ now.list.limit
+  look_by : {E : Type 0} (count : MeterCounts → ℕ) (result : Result (Unit {0}) E) → new.mark ≡ now.mark → new.list.current ≡ now.list.current → new.list.source.size ≡ now.list.source.size → new.list.limit ≡ now.list.limit
       → ahead_after result new ≤ ahead now
       → RisesByNames (room_for_name now) (settled count now) now.mark.names (count new.list.counts) new.list.counts.names
       → RisesByNames (room_for_name old) (settled count old + ahead old) old.mark.names (settled count now + ahead now) now.mark.names
@@ -233,17 +235,16 @@ module _ (old now new : WalkerState) (first : IsSameLister old.list now.list) (p
         kept = kept_by count mark current size limit spent;
       }
 
-  pub look_end : WalkerLeaves now (Ok None) new → PaysLook old (Ok tt) new
-  look_end leaves =
+  pub look_end : {E : Type 0} → WalkerLeaves now (Ok None) new → PaysLook {E = E} old (Ok tt) new
+  look_end {E} leaves =
       let names = leaves.list.spends.counts.more_names in
-      let rest : ahead_after (Ok tt) new ≤ ahead now = omega arith in
+      let rest : ahead_after {E = E} (Ok tt) new ≤ ahead now = omega arith in
       record {
         more_names = omega (arith, paid.more_names, names);
         asked = λ few. look_by (λ c. c.asked) (Ok tt) leaves.mark leaves.list.places.current leaves.list.spends.fetches.same_size leaves.list.same.limit rest (leaves.spent few)
             (paid.asked (few_names now.list.counts.names new.list.counts.names names few));
         fetched = λ few. look_by (λ c. c.fetched) (Ok tt) leaves.mark leaves.list.places.current leaves.list.spends.fetches.same_size leaves.list.same.limit rest (leaves.fetched few)
             (paid.fetched (few_names now.list.counts.names new.list.counts.names names few));
-        aside = leaves.list.same.aside ∙ first.aside;
       }
 
   unsought_fault : (f : ListFault) (p : Position) → ((number : ℕ) → p ≡ Sought number → GivesEntry number now.list.entries (Err f)) → next_number p now.list.passed ≡ now.list.passed
@@ -251,8 +252,8 @@ module _ (old now new : WalkerState) (first : IsSameLister old.list now.list) (p
   unsought_fault f Begun sought = refl
   unsought_fault f Within sought = refl
 
-  pub look_fault : (f : ListFault) → WalkerLeaves now (Err f) new → ((number : ℕ) → now.position ≡ Sought number → GivesEntry number now.list.entries (Err f)) → PaysLook old (Err f) new
-  look_fault f leaves sought =
+  pub look_fault : {E : Type 0} (e : E) (f : ListFault) → WalkerLeaves now (Err f) new → ((number : ℕ) → now.position ≡ Sought number → GivesEntry number now.list.entries (Err f)) → PaysLook old (Err e) new
+  look_fault e f leaves sought =
       let names = leaves.list.spends.counts.more_names in
       let same = leaves.list.same in
       let size = leaves.list.spends.fetches.same_size in
@@ -260,10 +261,90 @@ module _ (old now new : WalkerState) (first : IsSameLister old.list now.list) (p
       let at : next_number new.position new.list.passed ≡ next_number now.position now.list.passed =
       ap (λ (p : Position). next_number p new.list.passed) leaves.position ∙ passed ∙ sym (unsought_fault f now.position sought) in
       let still : ahead new ≡ ahead now = λ i. cost_of (same.choice i) (size i) (drop (at i) (same.entries i)) in
-      let rest : ahead_after (Err f) new ≤ ahead now = omega (arith, still) in
+      let rest : ahead_after (Err e) new ≤ ahead now = omega (arith, still) in
       record {
         more_names = omega (arith, paid.more_names, names);
-        asked = λ few. look_by (λ c. c.asked) (Err f) leaves.mark leaves.list.places.current size same.limit rest (leaves.spent few) (paid.asked (few_names now.list.counts.names new.list.counts.names names few));
-        fetched = λ few. look_by (λ c. c.fetched) (Err f) leaves.mark leaves.list.places.current size same.limit rest (leaves.fetched few) (paid.fetched (few_names now.list.counts.names new.list.counts.names names few));
-        aside = same.aside ∙ first.aside;
+        asked = λ few. look_by (λ c. c.asked) (Err e) leaves.mark leaves.list.places.current size same.limit rest (leaves.spent few) (paid.asked (few_names now.list.counts.names new.list.counts.names names few));
+        fetched = λ few. look_by (λ c. c.fetched) (Err e) leaves.mark leaves.list.places.current size same.limit rest (leaves.fetched few) (paid.fetched (few_names now.list.counts.names new.list.counts.names names few));
       }
+
+-- ---- a look that ends at an item
+
+module _ (count : MeterCounts → ℕ) (now new : WalkerState) where
+  -- what was counted since the entry of an item began is kept
+  kept_item : (o : Option StreamItem) → new.mark ≡ mark_by o new.list.counts now.mark → new.list.current ≡ entry_begun o now.list.current → new.list.source.size ≡ now.list.source.size
+      → new.list.limit ≡ now.list.limit → RisesByNames (room_for_name now) (settled count now) now.mark.names (count new.list.counts) new.list.counts.names → KeepsSettled count new
+  kept_item None mark current size limit spent =
+      let one : settled count new ≡ settled count now = λ i. count (mark i) + entry_cost (size i) (current i) in
+      subst (λ l. RisesByNames (l + 4) (settled count new) new.mark.names (count new.list.counts) new.list.counts.names) (sym limit)
+      (subst (λ n. RisesByNames (room_for_name now) n new.mark.names (count new.list.counts) new.list.counts.names) (sym one)
+      (subst (λ (m : MeterCounts). RisesByNames (room_for_name now) (settled count now) m.names (count new.list.counts) new.list.counts.names) (sym mark) spent))
+  kept_item (Some s) mark current size limit spent =
+      let one : count new.mark ≡ count new.list.counts = ap count mark in
+      let names : new.mark.names * room_for_name new ≡ new.list.counts.names * room_for_name new = ap (λ (m : MeterCounts). m.names * room_for_name new) mark in
+      omega (arith, one, names)
+
+-- an item that was given is of no entry that is sought
+pub unsought_behind : (o : Option StreamItem) (p : Position) → p ≡ position_by o → seeks p ≡ false
+unsought_behind None p is = ap seeks is
+unsought_behind (Some s) p is = ap seeks is
+
+-- what an item leaves counted
+pub record KeepsBoth (v : WalkerState) : Type 0 where
+  pub asked : CountsNames v → KeepsSettled (λ c. c.asked) v
+  pub fetched : CountsNames v → KeepsSettled (λ c. c.fetched) v
+
+pub item_kept : (now new : WalkerState) (x : Item) → WalkerLeaves now (Ok (Some x)) new → KeepsBoth new
+item_kept now new x leaves =
+    let size = leaves.list.spends.fetches.same_size in
+    record {
+      asked = λ few. kept_item (λ c. c.asked) now new (summary_of x).stream leaves.mark leaves.list.places.current size leaves.list.same.limit (leaves.spent few);
+      fetched = λ few. kept_item (λ c. c.fetched) now new (summary_of x).stream leaves.mark leaves.list.places.current size leaves.list.same.limit (leaves.fetched few);
+    }
+
+-- what is read outside the listing changes none of it
+module _ (most : Amount) (mid new : WalkerState) (reads : ReadsOutside most mid new) where
+  settled_outside : (count : MeterCounts → ℕ) → settled count new ≡ settled count mid
+  settled_outside count = λ i. count (reads.same i).mark + entry_cost (reads.fetches.same_size i) (reads.same i).list.current
+
+  kept_outside : (count : MeterCounts → ℕ) → count new.list.counts ≡ count mid.list.counts → KeepsSettled count mid → KeepsSettled count new
+  kept_outside count same kept =
+      let names = reads.aside.same_names in
+      let one = settled_outside count in
+      let before : new.mark.names * room_for_name mid ≡ mid.mark.names * room_for_name mid = λ i. (reads.same i).mark.names * room_for_name mid in
+      let limit : new.list.limit ≡ mid.list.limit = λ i. (reads.same i).list.limit in
+      let after : new.list.counts.names * room_for_name mid ≡ mid.list.counts.names * room_for_name mid = ap (λ n. n * room_for_name mid) names in
+      let known : RisesByNames (room_for_name mid) (settled count mid) mid.mark.names (count mid.list.counts) mid.list.counts.names = kept in
+      let now : RisesByNames (room_for_name mid) (settled count new) new.mark.names (count new.list.counts) new.list.counts.names = omega (arith, known, one, before, after, same) in
+      subst (λ l. RisesByNames (l + 4) (settled count new) new.mark.names (count new.list.counts) new.list.counts.names) (sym limit) now
+
+  few_outside : CountsNames new → CountsNames mid
+  few_outside few = let names = reads.aside.same_names in omega (arith, names, few)
+
+  pub both_outside : KeepsBoth mid → KeepsBoth new
+  both_outside kept = record {
+    asked = λ few. kept_outside (λ c. c.asked) reads.aside.same_asked (kept.asked (few_outside few));
+    fetched = λ few. kept_outside (λ c. c.fetched) reads.aside.same_fetched (kept.fetched (few_outside few));
+  }
+
+  rises_outside : (count : MeterCounts → ℕ) (room a na : ℕ) → RisesByNames room a na (settled count mid + ahead mid) mid.mark.names → RisesByNames room a na (settled count new + ahead new) new.mark.names
+  rises_outside count room a na rises =
+      let one = settled_outside count in
+      let rest : ahead new ≡ ahead mid =
+      λ i. cost_of (reads.same i).list.choice (reads.fetches.same_size i) (drop (next_number (reads.same i).position (reads.same i).list.passed) (reads.same i).list.entries) in
+      let names : new.mark.names * room ≡ mid.mark.names * room = λ i. (reads.same i).mark.names * room in
+      omega (arith, rises, one, rest, names)
+
+  pub paid_outside : (old : WalkerState) → HasPaid old mid → HasPaid old new
+  paid_outside old paid = record {
+    more_names = let names = reads.aside.same_names in omega (arith, names, paid.more_names);
+    asked = λ few. rises_outside (λ c. c.asked) (room_for_name old) (settled (λ c. c.asked) old + ahead old) old.mark.names (paid.asked (few_outside few));
+    fetched = λ few. rises_outside (λ c. c.fetched) (room_for_name old) (settled (λ c. c.fetched) old + ahead old) old.mark.names (paid.fetched (few_outside few));
+  }
+
+pub look_ended : {E : Type 0} (e : E) (old new : WalkerState) → HasPaid old new → KeepsBoth new → PaysLook old (Err e) new
+look_ended e old new paid kept = record {
+  more_names = paid.more_names;
+  asked = λ few. record { rises = paid.asked few; kept = kept.asked few };
+  fetched = λ few. record { rises = paid.fetched few; kept = kept.fetched few };
+}

@@ -1,21 +1,23 @@
 -- What a run tells, by how it ends.
 use Rattle.std.proofs.Common.{◌≡◌, ◌∙◌, ◌≤◌, ◌+◌, ℕ, List, [], ◌∷◌, ◌++◌, Bool, true, false, Option, Some, None, Result, Ok, Err, refl, ap, sym, subst, append_assoc, append-nil, arith}
-use Rattle.std.specs.Option.{option_map}
-use Rattle.mdmp_source.specs.Source.{FetchesSome, SourceState}
+use Rattle.std.specs.Prelude.{sum_by}
+use Rattle.std.proofs.lemmas.List.Sums.{sum_by-append, sum_by-cons}
+use Rattle.mdmp_source.specs.Source.{FetchesAtMost, SourceState}
 use Rattle.mdmp_lister.specs.declared.fault.FaultKind.{FaultKind}
 use Rattle.mdmp_lister.specs.declared.fault.FaultKind.TheVariants as kinds
 use Rattle.mdmp_lister.specs.declared.fault.ListFault.{ListFault}
 use Rattle.mdmp_lister.specs.declared.item.Item.{Item}
 use Rattle.mdmp_lister.specs.declared.sink.RunFault.TheVariants as run
 use Rattle.mdmp_lister.specs.declared.sink.Stopped.{Stopped}
+use Rattle.mdmp_lister.specs.Costs.{end_cost}
 use Rattle.mdmp_lister.specs.Fault.{IsUnobtained, is_unobtained}
-use Rattle.mdmp_lister.specs.Format.Listing.{Run, listing_from}
+use Rattle.mdmp_lister.specs.Format.Listing.{Run}
 use Rattle.mdmp_lister.specs.Format.Numbers.{faulty_name, maybe_name}
-use Rattle.mdmp_lister.specs.Lister.{IsSameLister, KeepsGiven, ListerState, SkipsEntry}
-use Rattle.mdmp_lister.specs.Sink.{RunLeaves, Taken, give_all, names_of_all}
-use Rattle.mdmp_lister.proofs.Handing.{same_lister-then}
+use Rattle.mdmp_lister.specs.Lister.{ListerState}
+use Rattle.mdmp_lister.specs.Sink.{RunLeaves, Taken, TakenToStop, give_all, names_of_all}
+use Rattle.mdmp_lister.proofs.Fetches.{FetchesAtMost-within}
 use Rattle.mdmp_summary.specs.CheckRows.{end_rows, entry_behind, good_row, loses_behind, result_row, rows_over, run_rows}
-use Rattle.mdmp_summary.specs.Checking.{EndsEarly, LeavesRun, TellsRows}
+use Rattle.mdmp_summary.specs.Checking.{EndsEarly, TellsRows, row_cost, rows_cost}
 use Rattle.mdmp_summary.specs.RowMaking.{HandsRows, StopsAmong}
 use Rattle.mdmp_summary.specs.declared.check_row.CheckRow.{CheckRow}
 use Rattle.mdmp_summary.proofs.RowsBehind.{rows_first}
@@ -39,6 +41,16 @@ read_kind : (kind : FaultKind) → is_unobtained kind ≡ false → IsUnobtained
 read_kind (kinds.Source fault) read = λ _. cc
 read_kind kinds.Budget read = λ _. cc
 read_kind _ read = λ of. of
+
+-- a sink that stopped at a row was handed that row
+stopped_cost : {J : Type 0} (step : J → CheckRow → Result (Unit {0}) Stopped → J → Type 0) (limit : ℕ) (row : CheckRow) (told rest : List CheckRow) (k l : J) → TakenToStop step k told l
+    → row ∷ [] ≡ told ++ rest → row_cost limit row ≤ sum_by (row_cost limit) told
+stopped_cost step limit row [] rest k l stopped is = absurd stopped
+stopped_cost step limit row (first ∷ told) rest k l stopped is =
+    let same : row ≡ first = cc in
+    let cost = ap (row_cost limit) same in
+    let sum = sum_by-cons (row_cost limit) first told in
+    omega (arith, cost, sum)
 
 module _ {J K N : Type 0} (step : J → CheckRow → Result (Unit {0}) Stopped → J → Type 0) (sink : K → J) (entry : K → Option ℕ) (loses : K → Bool) (name : K → N)
     (old mid : ListerState) (k m : K) (going : old.stop ≡ None) (fresh : (entry k ≡ None) × (loses k ≡ false)) where
@@ -103,6 +115,7 @@ module _ {J K N : Type 0} (step : J → CheckRow → Result (Unit {0}) Stopped �
         items = ran.items;
         rows = rows_over None false ran.items ++ last;
         handed = taken_then step (rows_over None false ran.items) last (sink k) (sink m) l all.taken (rw (← all.entry_is, ← all.loses_is) put);
+        fetches = FetchesAtMost-within _ (old.unread + rows_cost old.source.size old.limit ran.items (rows_over None false ran.items ++ last) + 0) old.source mid.source (omega (arith)) ran.fetches;
         gives = λ left known.
             let given = ran.left left known in
             let is = all_of left ran.items None given.1.1.0 in
@@ -117,6 +130,7 @@ module _ {J K N : Type 0} (step : J → CheckRow → Result (Unit {0}) Stopped �
         items = ran.items;
         rows = rows_over None false ran.items ++ among.told;
         handed = stopped_then step (rows_over None false ran.items) among.told (sink k) (sink m) l all.taken among.stopped;
+        fetches = FetchesAtMost-within _ (old.unread + rows_cost old.source.size old.limit ran.items (rows_over None false ran.items ++ among.told) + 0) old.source mid.source (omega (arith)) ran.fetches;
         gives = λ left known.
             let given = ran.left left known in
             let names = ran.names in
@@ -135,6 +149,7 @@ module _ {J K N : Type 0} (step : J → CheckRow → Result (Unit {0}) Stopped �
         items = ran.items;
         rows = all.among.told;
         handed = all.among.stopped;
+        fetches = FetchesAtMost-within _ (old.unread + rows_cost old.source.size old.limit ran.items all.among.told + 0) old.source mid.source (omega (arith)) ran.fetches;
         gives = λ left known.
             let given = ran.left left known in
             let names = ran.names in
@@ -151,6 +166,7 @@ module _ {J K N : Type 0} (step : J → CheckRow → Result (Unit {0}) Stopped �
           items = ran.items;
           rows = rows_over None false ran.items;
           handed = all.taken;
+          fetches = FetchesAtMost-within _ (old.unread + rows_cost old.source.size old.limit ran.items (rows_over None false ran.items) + end_cost old.limit (Err (run.At f))) old.source mid.source (omega (arith)) ran.fetches;
           gives = λ left known.
               let given = ran.left left known in
               let names = ran.names_at_end going in
@@ -159,14 +175,19 @@ module _ {J K N : Type 0} (step : J → CheckRow → Result (Unit {0}) Stopped �
         }
 
     pub run_bad : is_unobtained f.kind ≡ false → (l : J) → HandsRows step (sink m) (result_row f.entry (Some f) (loses m) ∷ []) (Ok tt) l
-        → (new : ListerState) → new.counts.names ≡ mid.counts.names → f.entry + 1 ≡ new.passed → TellsRows step old (sink k) (Ok true) new l
-    run_bad read l put new same entry_is =
+        → (new : ListerState) → new.source ≡ mid.source → new.counts.names ≡ mid.counts.names → f.entry + 1 ≡ new.passed → TellsRows step old (sink k) (Ok true) new l
+    run_bad read l put new source same entry_is =
         let all = puts_all ran.items ran.handed in
-        let last = result_row f.entry (Some f) (loses_behind false ran.items) ∷ [] in
+        let row = result_row f.entry (Some f) (loses_behind false ran.items) in
+        let last = row ∷ [] in
+        let sum = sum_by-append (row_cost old.limit) (rows_over None false ran.items) last in
+        let one = sum_by-cons (row_cost old.limit) row [] in
         record {
           items = ran.items;
           rows = rows_over None false ran.items ++ last;
           handed = taken_then step (rows_over None false ran.items) last (sink k) (sink m) l all.taken (rw (← all.loses_is) put);
+          fetches = subst (λ (s : SourceState). FetchesAtMost (old.unread + rows_cost old.source.size old.limit ran.items (rows_over None false ran.items ++ last) + 0) old.source s) (sym source)
+              (FetchesAtMost-within _ (old.unread + rows_cost old.source.size old.limit ran.items (rows_over None false ran.items ++ last) + 0) old.source mid.source (omega (arith, sum, one)) ran.fetches);
           gives = λ left known.
               let given = ran.left left known in
               let is = all_of left ran.items (Some f) (given.1.1.1.0 (read_kind f.kind read)) in
@@ -177,27 +198,16 @@ module _ {J K N : Type 0} (step : J → CheckRow → Result (Unit {0}) Stopped �
     pub run_bad_cut : is_unobtained f.kind ≡ false → (l : J) → StopsAmong step (sink m) (result_row f.entry (Some f) (loses m) ∷ []) l → TellsRows step old (sink k) (Err run.Stopped) mid l
     run_bad_cut read l among =
         let all = puts_all ran.items ran.handed in
+        let sum = sum_by-append (row_cost old.limit) (rows_over None false ran.items) among.told in
+        let one = stopped_cost step old.limit (result_row f.entry (Some f) (loses m)) among.told among.rest (sink m) l among.stopped among.splits in
         record {
           items = ran.items;
           rows = rows_over None false ran.items ++ among.told;
           handed = stopped_then step (rows_over None false ran.items) among.told (sink k) (sink m) l all.taken among.stopped;
+          fetches = FetchesAtMost-within _ (old.unread + rows_cost old.source.size old.limit ran.items (rows_over None false ran.items ++ among.told) + 0) old.source mid.source (omega (arith, sum, one)) ran.fetches;
           gives = λ left known.
               let given = ran.left left known in
               let names = ran.names_at_end going in
               cut_rows left ran.items (Some f) among.told among.rest (all_of left ran.items (Some f) (given.1.1.1.0 (read_kind f.kind read))) (rw (← all.loses_is) among.splits) mid
               (omega (arith, names.1, maybe_most f.kind));
         }
-
--- ---- what a run leaves
-
--- a bad entry was dropped
-pub leaves_bad : (old mid new : ListerState) → IsSameLister old mid → FetchesSome old.source mid.source → SkipsEntry mid new → KeepsGiven mid new → LeavesRun old (Ok true) new
-leaves_bad old mid new same fetches skips keeps =
-    let source = sym keeps.source in
-    record {
-      same = same_lister-then old mid new same keeps.same;
-      fetches = subst (λ (s : SourceState). FetchesSome old.source s) source fetches;
-      next = tt;
-      going = λ _. skips.stop;
-      left = λ _. skips.left ∙ (λ i. option_map (λ file. listing_from file (sym keeps.same.choice i) (sym keeps.same.limit i) (sym keeps.passed i)) (source i).store.content);
-    }

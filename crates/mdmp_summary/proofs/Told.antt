@@ -11,6 +11,7 @@ use Rattle.mdmp_lister.specs.declared.fault.ListFault.{ListFault}
 use Rattle.mdmp_lister.specs.declared.fault.OpenFault.{OpenFault}
 use Rattle.mdmp_lister.specs.declared.fault.OpenFault.TheVariants as opening
 use Rattle.mdmp_lister.specs.declared.limits.Limits.{Limits}
+use Rattle.mdmp_lister.specs.declared.meter.Amount.{Amount}
 use Rattle.mdmp_lister.specs.declared.meter.MeterCounts.{MeterCounts}
 use Rattle.mdmp_lister.specs.Fault.{IsOfStore, IsUnobtained, is_unobtained}
 use Rattle.mdmp_lister.specs.Lister.{IsSameLister, ListerState}
@@ -19,12 +20,14 @@ use Rattle.mdmp_lister.specs.Meter.{IsUnmade, is_passed}
 use Rattle.mdmp_lister.specs.Opening.{IsUnread, TellsOver}
 use Rattle.mdmp_lister.specs.Walker.{WalkerState}
 use Rattle.mdmp_lister.proofs.Fetches.{FetchesAtMost-none, told_in_later}
-use Rattle.mdmp_summary.specs.Spending.{ReadsContext}
-use Rattle.mdmp_summary.specs.Summary.{context_room}
+use Rattle.mdmp_summary.specs.Spending.{ReadsOutside}
 use Rattle.mdmp_summary.specs.Summing.{IsCallFault, IsFileFault, IsSummaryFault, IsUnreadIn}
-use Rattle.mdmp_summary.specs.Walking.{EndsLook, IsLookFault, IsPassFault, IsSameListing}
+use Rattle.mdmp_summary.specs.Walking.{IsLookFault, IsPassFault, IsSameListing}
 use Rattle.mdmp_summary.specs.declared.summary.SummaryFault.{SummaryFault}
 use Rattle.mdmp_summary.specs.declared.summary.SummaryFault.TheVariants as faults
+use Rattle.mdmp_summary.specs.Visiting.{IsEndTold}
+use Rattle.mdmp_summary.specs.declared.visiting.VisitEnd.{VisitEnd}
+use Rattle.mdmp_summary.specs.declared.visiting.VisitEnd.TheVariants as ends
 
 -- ---- errors
 
@@ -65,16 +68,16 @@ same_listing_none a = record {
   same_file = record { count = 0; fetches = FetchesAtMost-none a.source };
 }
 
--- a look leaves the same listing
-pub looked_listing : (a b : ListerState) (result : Result (Unit {0}) ListFault) → EndsLook a result b → IsSameListing a b
-looked_listing a b result ends = record {
-  header_is = ends.same.header_is;
-  entries = ends.same.entries;
-  choice = ends.same.choice;
-  limit = ends.same.limit;
-  rooms = ends.same.rooms;
-  budget = ends.same.budget;
-  same_file = ends.same_file;
+-- a request for the next item leaves the same listing
+pub next_listing : (n : ℕ) (a b : ListerState) → IsSameLister a b → FetchesAtMost n a.source b.source → IsSameListing a b
+next_listing n a b same fetches = record {
+  header_is = same.header_is;
+  entries = same.entries;
+  choice = same.choice;
+  limit = same.limit;
+  rooms = same.rooms;
+  budget = same.budget;
+  same_file = record { count = n; fetches = fetches };
 }
 
 -- and so does an entry that is skipped
@@ -101,16 +104,16 @@ sought_listing a b stays = record {
   same_file = record { count = 0; fetches = subst (λ (l : ListerState). FetchesAtMost 0 a.source l.source) (sym stays) (FetchesAtMost-none a.source) };
 }
 
--- or a context that was read
-pub context_listing : (old new : WalkerState) → ReadsContext old new → IsSameListing old.list new.list
-context_listing old new reads = record {
+-- or what is read outside it
+pub outside_listing : (most : Amount) (old new : WalkerState) → ReadsOutside most old new → IsSameListing old.list new.list
+outside_listing most old new reads = record {
   header_is = λ i. (reads.same i).list.header;
   entries = λ i. (reads.same i).list.entries;
   choice = λ i. (reads.same i).list.choice;
   limit = λ i. (reads.same i).list.limit;
   rooms = λ i. (reads.same i).list.rooms;
   budget = reads.aside.same_budget;
-  same_file = record { count = context_room; fetches = reads.fetches };
+  same_file = record { count = most.bytes; fetches = reads.fetches };
 }
 
 -- ---- causes
@@ -131,6 +134,11 @@ pub call_later : (a b c : ListerState) (f : SummaryFault) → FetchesSome a.sour
 call_later a b c (faults.Opening fault) before is = is
 call_later a b c (faults.List fault) before is = pass_later a b c fault before is
 call_later a b c (faults.Source fault) before is = told_later fault before.count a.source b.source c.source before.fetches is
+
+-- an error of what a visitor read is one of all that was read before it too
+pub end_later : (end : VisitEnd) (n : ℕ) (a b c : SourceState) → FetchesAtMost n a b → IsEndTold b c end → IsEndTold a c end
+end_later ends.Stopped n a b c before is = is
+end_later (ends.Source fault) n a b c before is = told_later fault n a b c before is
 
 -- ---- a known file
 

@@ -1,18 +1,22 @@
 -- A check of all entries and of the parts of their records.
-use Rattle.std.specs.Prelude.{◌≡◌, ◌≤◌, ◌+◌, ◌++◌, ℕ, List, Bool, true, false, Some, None, Result, Ok, Err}
-use Rattle.mdmp_source.specs.Source.{FetchesSome}
+use Rattle.std.specs.Prelude.{◌≡◌, ◌≤◌, ◌+◌, ◌++◌, ℕ, List, Bool, true, false, Some, None, Result, Ok, Err, sum_by}
+use Rattle.mdmp_source.specs.Source.{FetchesAtMost}
 use Rattle.mdmp_wire.specs.Header.{header_at}
 use Rattle.mdmp_lister.specs.declared.choice.Choice.TheVariants.{All}
 use Rattle.mdmp_lister.specs.declared.fault.ListFault.{ListFault}
 use Rattle.mdmp_lister.specs.declared.item.Item.{Item}
 use Rattle.mdmp_lister.specs.declared.sink.RunFault.{RunFault}
 use Rattle.mdmp_lister.specs.declared.sink.Stopped.{Stopped}
+use Rattle.mdmp_lister.specs.Check.{fault_cost}
+use Rattle.mdmp_lister.specs.Costs.{end_cost, items_cost}
 use Rattle.mdmp_lister.specs.Format.Listing.{Run, listing}
 use Rattle.mdmp_lister.specs.Format.Numbers.{faulty_name}
 use Rattle.mdmp_lister.specs.Lister.{IsSameLister, ListerState, listing_behind}
 use Rattle.mdmp_lister.specs.Sink.{Handed, TellsRunFetch, names_of_all}
+use Rattle.mdmp_summary.specs.BadEntries.{all_items}
 use Rattle.mdmp_summary.specs.CheckRows.{AreFirstRows, check_rows, run_rows}
 use Rattle.mdmp_summary.specs.declared.check_row.CheckRow.{CheckRow}
+use Rattle.mdmp_summary.specs.declared.check_row.CheckRow.TheVariants.{Part, Entry}
 
 -- nothing was given of a listing of all entries
 pub record IsAllLeft (v : ListerState) : Type 0 where
@@ -21,11 +25,25 @@ pub record IsAllLeft (v : ListerState) : Type 0 where
   pub header_is : (file : List ℕ) → v.source.store.content ≡ Some file → v.header ≡ header_at file 0
   pub left : (file : List ℕ) → v.source.store.content ≡ Some file → v.left ≡ Some (listing file All v.limit)
 
--- a sink was handed some rows, of a known file the first of all
-pub record RowsHanded {K : Type 0} (step : K → CheckRow → Result (Unit {0}) Stopped → K → Type 0) (old : ListerState) (k : K) (result : Result (Unit {0}) RunFault) (l : K) : Type 0 where
+-- the bytes of a row that are no stream's: at most those of a name with the error of an entry
+abbrev pub row_cost : ℕ → CheckRow → ℕ
+row_cost limit (Part part) = 0
+row_cost limit (Entry row) = fault_cost limit row.verdict.fault
+
+-- the bytes of some items, each with the stream that it begins, and of some rows
+abbrev pub rows_cost : ℕ → ℕ → List Item → List CheckRow → ℕ
+rows_cost z limit items rows = items_cost z items + sum_by (row_cost limit) rows
+
+-- a sink was handed some rows, of a known file the first of all, and no more was fetched than their items and they cost
+pub record RowsHanded {K : Type 0} (step : K → CheckRow → Result (Unit {0}) Stopped → K → Type 0) (old : ListerState) (k : K) (result : Result (Unit {0}) RunFault) (new : ListerState) (l : K) : Type 0 where
   pub rows : List CheckRow
+  pub items : List Item
   pub handed : Handed step k rows result l
   pub of_file : (file : List ℕ) → old.source.store.content ≡ Some file → AreFirstRows (check_rows file old.limit) rows result
+  -- the items that were read, of a known file the first of all
+  pub read : (file : List ℕ) → old.source.store.content ≡ Some file → (rest : List Item) × (all_items file old.limit ≡ items ++ rest)
+  -- of every source
+  pub fetches : FetchesAtMost (old.unread + rows_cost old.source.size old.limit items rows + end_cost old.limit result) old.source new.source
 
 -- ---- a run, up to the end or the first error
 
@@ -66,12 +84,13 @@ pub record TellsRows {K : Type 0} (step : K → CheckRow → Result (Unit {0}) S
   pub items : List Item
   pub rows : List CheckRow
   pub handed : Handed step k rows (run_end result) l
+  pub fetches : FetchesAtMost (old.unread + rows_cost old.source.size old.limit items rows + end_cost old.limit (run_end result)) old.source new.source
   pub gives : (left : Run) → old.left ≡ Some left → GivesRows old left items rows result new
 
 -- the same listing of the same file, and what is left after a bad entry
 pub record LeavesRun (old : ListerState) (result : Result Bool RunFault) (new : ListerState) : Type 0 where
   pub same : IsSameLister old new
-  pub fetches : FetchesSome old.source new.source
   pub next : TellsRunFetch (run_end result) new
   pub going : result ≡ Ok true → new.stop ≡ None
+  pub unread : result ≡ Ok true → new.unread ≡ 0
   pub left : result ≡ Ok true → new.left ≡ listing_behind new new.passed

@@ -15,4 +15,6 @@ pub mod Spending
 pub mod SpendingLaws
 pub mod Summary
 pub mod Summing
+pub mod Symbols
+pub mod Visiting
 pub mod Walking

@@ -1,7 +1,7 @@
 -- What a summary fetches: at most the listed streams twice, and for each name that is reached its length and the limit on names.
 use Rattle.std.specs.Prelude.{◌≡◌, ◌≤◌, ◌<◌, ◌+◌, ◌*◌, ◌^◌, ℕ, drop, Result, Ok, Err}
 use Rattle.mdmp_source.specs.Source.{FetchesAtMost}
-use Rattle.mdmp_lister.specs.declared.fault.ListFault.{ListFault}
+use Rattle.mdmp_lister.specs.declared.meter.Amount.{Amount}
 use Rattle.mdmp_lister.specs.declared.meter.MeterCounts.{MeterCounts}
 use Rattle.mdmp_lister.specs.declared.position.Position.{Position}
 use Rattle.mdmp_lister.specs.declared.position.Position.TheVariants.{Begun, Sought, Within}
@@ -33,9 +33,9 @@ abbrev pub ahead : WalkerState → ℕ
 ahead v = cost_of v.list.choice v.list.source.size (drop (next_number v.position v.list.passed) v.list.entries)
 
 -- nothing is known of that after the end
-abbrev pub ahead_after : Result (Unit {0}) ListFault → WalkerState → ℕ
+abbrev pub ahead_after : {E : Type 0} → Result (Unit {0}) E → WalkerState → ℕ
 ahead_after (Ok done) v = 0
-ahead_after (Err f) v = ahead v
+ahead_after (Err e) v = ahead v
 
 -- counts of bytes: of those that were asked for, or fetched
 module _ (count : MeterCounts → ℕ) where
@@ -49,7 +49,7 @@ module _ (count : MeterCounts → ℕ) where
   KeepsSettled v = RisesByNames (room_for_name v) (settled v) v.mark.names (count v.list.counts) v.list.counts.names
 
   -- a look counts no more than the entry that was begun and those ahead have
-  pub record LookPaid (old : WalkerState) (result : Result (Unit {0}) ListFault) (new : WalkerState) : Type 0 where
+  pub record LookPaid {E : Type 0} (old : WalkerState) (result : Result (Unit {0}) E) (new : WalkerState) : Type 0 where
     pub rises : RisesByNames (room_for_name old) (settled old + ahead old) old.mark.names (settled new + ahead_after result new) new.mark.names
     pub kept : KeepsSettled new
 
@@ -62,12 +62,18 @@ module _ (count : MeterCounts → ℕ) where
 abbrev pub CountsNames : WalkerState → Type 0
 CountsNames v = v.list.counts.names + 1 < 2 ^ 128
 
--- what a look fetches
-pub record PaysLook (old : WalkerState) (result : Result (Unit {0}) ListFault) (new : WalkerState) : Type 0 where
+-- what a look fetches for the listing
+pub record PaysLook {E : Type 0} (old : WalkerState) (result : Result (Unit {0}) E) (new : WalkerState) : Type 0 where
   pub more_names : old.list.counts.names ≤ new.list.counts.names
   pub asked : CountsNames new → LookPaid (λ c. c.asked) old result new
   pub fetched : CountsNames new → LookPaid (λ c. c.fetched) old result new
-  pub aside : new.list.counts.aside ≡ old.list.counts.aside
+
+-- what so many passes over all entries fetch for the listing
+pub record PaysPasses (passes : ℕ) (old new : WalkerState) : Type 0 where
+  pub more_names : old.list.counts.names ≤ new.list.counts.names
+  -- also with the read that was not made, so that no read limit of at least that many bytes ends them
+  pub asked : CountsNames new → PassPaid (λ c. c.asked) passes old new
+  pub fetched : CountsNames new → PassPaid (λ c. c.fetched) passes old new
 
 -- what so many passes over all entries fetch, and the reading of so many contexts, which is outside the listing
 pub record SpendsPasses (passes contexts : ℕ) (old new : WalkerState) : Type 0 where
@@ -78,8 +84,16 @@ pub record SpendsPasses (passes contexts : ℕ) (old new : WalkerState) : Type 0
   pub aside : new.list.counts.aside.bytes ≤ old.list.counts.aside.bytes + contexts * context_room
   pub aside_calls : new.list.counts.aside.calls ≤ old.list.counts.aside.calls + contexts
 
--- the registers were read, and the listing stays as it was
-pub record ReadsContext (old new : WalkerState) : Type 0 where
+-- no more was read outside the listing than this, and the listing stays as it was
+pub record ReadsOutside (most : Amount) (old new : WalkerState) : Type 0 where
   pub same : new ≡ record old { list = record old.list { source = new.list.source; counts = new.list.counts } }
-  pub aside : SpendsAside 1 context_room old.list.counts new.list.counts
-  pub fetches : FetchesAtMost context_room old.list.source new.list.source
+  pub aside : SpendsAside most.calls most.bytes old.list.counts new.list.counts
+  pub fetches : FetchesAtMost most.bytes old.list.source new.list.source
+
+-- what is read of a context
+abbrev pub context_cost : Amount
+context_cost = record { bytes = context_room; calls = 1 }
+
+-- the registers were read
+abbrev pub ReadsContext : WalkerState → WalkerState → Type 0
+ReadsContext = ReadsOutside context_cost

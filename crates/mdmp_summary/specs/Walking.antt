@@ -1,40 +1,12 @@
--- A look at the items that are left, up to the end or an error, and a pass over all entries.
-use Rattle.std.specs.Prelude.{◌≡◌, ◌+◌, List, Option, Some, None, Result, Ok, Err, IfErr, fold}
+-- The error of a look at the items that are left, and what a pass over all entries leaves.
+use Rattle.std.specs.Prelude.{◌≡◌}
 use Rattle.mdmp_source.specs.Source.{FetchesSome}
 use Rattle.mdmp_lister.specs.declared.fault.ListFault.{ListFault}
-use Rattle.mdmp_lister.specs.declared.item.Item.{Item}
 use Rattle.mdmp_lister.specs.Fault.{IsToldIn, IsUnobtained, TellsNoChange}
-use Rattle.mdmp_lister.specs.Format.Listing.{Run}
-use Rattle.mdmp_lister.specs.Lister.{IsRefusedIn, IsSameLister, ListerState, standpoint_in}
+use Rattle.mdmp_lister.specs.Lister.{IsRefusedIn, ListerState, standpoint_in}
 use Rattle.mdmp_lister.specs.NextFetch.{TellsSomeFetch}
 
--- ---- a look
-
--- what was left is these items, and then the end or this error, unless bytes were not read
-abbrev pub IsAllOf : Run → List Item → Result (Unit {0}) ListFault → Type 0
-IsAllOf left items (Ok done) = left ≡ record { items = items; fault = None }
-IsAllOf left items (Err f) = (IsUnobtained f.kind → ⊥) → left ≡ record { items = items; fault = Some f }
-
--- the end or the error stays
-abbrev pub stop_of_look : Result (Unit {0}) ListFault → Option (Option ListFault)
-stop_of_look (Ok done) = Some None
-stop_of_look (Err f) = Some (Some f)
-
--- a look went over some items, which are all that were left if the file is known
-pub record Folds {K : Type 0} (next : K → Item → K) (old : ListerState) (k : K) (result : Result (Unit {0}) ListFault) (new : ListerState) (l : K) : Type 0 where
-  pub items : List Item
-  pub made : l ≡ fold next k items
-  pub all : (left : Run) → old.left ≡ Some left → IsAllOf left items result
-
--- what it leaves: the same listing of the same file
-pub record EndsLook (old : ListerState) (result : Result (Unit {0}) ListFault) (new : ListerState) : Type 0 where
-  pub same : IsSameLister old new
-  pub same_file : FetchesSome old.source new.source
-  pub stop : new.stop ≡ stop_of_look result
-  -- an error is of the entry that was begun last
-  pub entry : IfErr result (λ f. f.entry + 1 ≡ new.passed)
-
--- ---- its error
+-- ---- the error of a look
 
 -- where the error comes from, if bytes were not read: the store's is the one that its last read returned, at the place where
 -- reading stopped, and never `Changed`; that of the read limit is of the next read, which was not made

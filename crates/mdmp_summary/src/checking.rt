@@ -1,8 +1,8 @@
 //! A check of all entries and of the parts of their records.
 ghost use Rattle.std.specs.Prelude.{◌≡◌, ◌≤◌, ◌+◌, ℕ, List, None, Some, false, IfErr, IfOk};
-ghost use Rattle.mdmp_source.specs.Source.{FetchesSome};
 ghost use Rattle.mdmp_source.specs.Store.{IsGood};
 ghost use Rattle.mdmp_lister.specs.Check.{items_of, names_judged};
+ghost use Rattle.mdmp_lister.specs.Counts.{AreSpent, numbers_of};
 ghost use Rattle.mdmp_lister.specs.Fault.{IsOfStore, IsToldIn, IsUnobtained};
 ghost use Rattle.mdmp_lister.specs.Format.Listing.{chosen, verdicts};
 ghost use Rattle.mdmp_lister.specs.Lister.{IsRefusedIn, IsSameLister};
@@ -22,13 +22,14 @@ use std::alloc::Allocator;
 /// read. If bytes are not read, or the read limit is reached, the check ends, with no result of that entry; so it does
 /// if the sink wants no more.
 ///
-/// No item, result or error was given before.
+/// No item, result or error was given before. Of any source it fetches at most the streams of the entries that it reads
+/// and their names: no more than a listing does.
 pub fn check_parts_into<S: Store + Drop, A: Allocator + Copy, K: CheckRowSink>(
     lister: &mut Lister<S, A>,
     sink: &mut K,
 ) -> Result<(), RunFault>
     requires { IsAllLeft lister.old }
-    ensures rows { RowsHanded K.step lister.old sink.old result sink.new }
+    ensures rows { RowsHanded K.step lister.old sink.old result lister.new sink.new }
     ensures told { IfErr result (λ r. (fault : _) → r ≡ RunFault.At fault
         → IsUnobtained fault.kind × IsToldIn lister.new.current fault lister.old.source lister.new.source) }
     ensures good { (file : List ℕ) → IsGood lister.old.source.store file
@@ -38,14 +39,17 @@ pub fn check_parts_into<S: Store + Drop, A: Allocator + Copy, K: CheckRowSink>(
     ensures names { (file : List ℕ) → lister.old.source.store.content ≡ Some file
         → lister.new.counts.names ≤ lister.old.counts.names + names_judged (items_of file lister.old.limit (chosen file All)) (verdicts file All lister.old.limit) + 1 }
     ensures same { IsSameLister lister.old lister.new }
-    ensures fetches { FetchesSome lister.old.source lister.new.source }
+    ensures spent { AreSpent lister.new (numbers_of lister.new) }
 {
     let mut maker = RowMaker {
         sink,
         entry: None,
         loses_parts: false,
     };
-    check_runs(lister, &mut maker)
+    let ended = check_runs(lister, &mut maker);
+    // The proof learns here within which bounds the lister stayed.
+    let _counts = lister.counts();
+    ended
 }
 
 /// Hands on the rows of all entries.
@@ -56,7 +60,7 @@ fn check_runs<S: Store + Drop, A: Allocator + Copy, K: CheckRowSink>(
     requires left { IsAllLeft lister.old }
     requires fresh { (maker.old.entry ≡ None) × (maker.old.loses_parts ≡ false) }
     ensures same_sink { maker.new.sink.ghost_name ≡ maker.old.sink.ghost_name }
-    ensures rows { RowsHanded K.step lister.old maker.old.sink.now result maker.new.sink.now }
+    ensures rows { RowsHanded K.step lister.old maker.old.sink.now result lister.new maker.new.sink.now }
     ensures told { IfErr result (λ r. (fault : _) → r ≡ RunFault.At fault
         → IsUnobtained fault.kind × IsToldIn lister.new.current fault lister.old.source lister.new.source) }
     ensures good { (file : List ℕ) → IsGood lister.old.source.store file
@@ -66,7 +70,6 @@ fn check_runs<S: Store + Drop, A: Allocator + Copy, K: CheckRowSink>(
     ensures names { (file : List ℕ) → lister.old.source.store.content ≡ Some file
         → lister.new.counts.names ≤ lister.old.counts.names + names_judged (items_of file lister.old.limit (chosen file All)) (verdicts file All lister.old.limit) + 1 }
     ensures same { IsSameLister lister.old lister.new }
-    ensures fetches { FetchesSome lister.old.source lister.new.source }
 {
     // Each run but the last ends at the error of an entry.
     let runs = u64::from(lister.header().number_of_streams) + 1;

@@ -14,8 +14,9 @@ use std::alloc::Allocator;
 /// How many bytes of a context are read at most. The three registers of each known layout are among them.
 const CONTEXT_ROOM: usize = 272;
 
-/// Reads the registers in the context at a location, by the system of the dump.
-pub(crate) fn read_registers<S: Store + Drop, A: Allocator + Copy>(
+/// Reads the registers in the context at a location, by the system of the dump: at most 272 bytes, outside the listing.
+/// There are none if the context lies outside the file, or if its layout is not known.
+pub fn read_registers<S: Store + Drop, A: Allocator + Copy>(
     walker: &mut Walker<S, A>,
     system: Option<SystemRecord>,
     at: Location,

@@ -3,13 +3,14 @@ ghost use Rattle.std.specs.Prelude.{◌≡◌};
 ghost use Rattle.mdmp_summary.specs.Gathering.{inside_bytes};
 
 use crate::crash::Exceptions;
-use crate::fold::Fold;
 use crate::keeping::{count, keep};
 use crate::lost_parts::LostParts;
 use crate::part::PartsOutside;
-use mdmp_lister::{ExceptionItem, Item, ModuleItem, RangeItem, ThreadItem};
-use mdmp_source::Extent;
+use crate::visiting::{VisitEnd, Visitor};
+use mdmp_lister::{ExceptionItem, Item, ModuleItem, RangeItem, Stopped, ThreadItem, Walker};
+use mdmp_source::{Extent, Store};
 use mdmp_wire::{ModuleRecord, SystemRecord};
+use std::alloc::Allocator;
 
 /// How many items of each kind the entries have, each entry up to its own error.
 #[derive(Clone, Copy, Debug, PartialEq, Eq)]
@@ -116,13 +117,32 @@ fn inside_bytes(range: &RangeItem) -> u128
     }
 }
 
-impl Fold for Gathering {
+impl Visitor for Gathering {
+    ghost use Rattle.std.specs.Prelude.{◌≡◌};
     ghost use Rattle.mdmp_summary.specs.Gathering.{gathered_with};
+    ghost use Rattle.mdmp_summary.specs.Visiting.{ReadsNothing, TakesBy, nothing_read};
 
-    ghost next = { gathered_with };
+    ghost taken = { TakesBy gathered_with };
+
+    ghost looked = { ReadsNothing };
+
+    ghost owed = { λ _. nothing_read };
+
+    ghost span = { λ _. 0 };
+
+    ghost room = { λ span item. nothing_read };
 
     #[tactic(auto, using(crate::proofs::Folds::gathered_plain))]
-    fn take(&mut self, item: &Item<'_>) {
+    fn take(&mut self, item: &Item<'_>) -> Result<(), Stopped> {
         self.gather(item);
+        Ok(())
+    }
+
+    #[tactic(auto, using(crate::proofs::Visited::reads_nothing))]
+    fn look<S: Store + Drop, A: Allocator + Copy>(
+        &mut self,
+        _walker: &mut Walker<S, A>,
+    ) -> Result<(), VisitEnd> {
+        Ok(())
     }
 }

@@ -13,7 +13,8 @@ use crate::bad_entries::BadEntries;
 use crate::gathering::Gathering;
 use crate::search::CrashSearch;
 use crate::summary::{Crash, FileSummary};
-use crate::walking::fold_all;
+use crate::visiting::VisitFault;
+use crate::walking::visit_all;
 use mdmp_lister::{ListFault, Walker};
 use mdmp_source::Store;
 use mdmp_wire::Header;
@@ -60,9 +61,11 @@ pub(crate) fn gather_all<S: Store + Drop, A: Allocator + Copy>(
     ensures same { IsSameListing walker.old.list walker.new.list }
 {
     let mut gathering = Gathering::new();
-    match fold_all(walker, &mut gathering) {
+    match visit_all(walker, &mut gathering) {
         Ok(bad) => Ok(FirstPass { gathering, bad }),
-        Err(fault) => Err(fault),
+        Err(VisitFault::List(fault)) => Err(fault),
+        // It takes every item, and reads nothing.
+        Err(VisitFault::Ended(_)) => unreachable!(),
     }
 }
 
@@ -80,10 +83,12 @@ pub(crate) fn search_all<S: Store + Drop, A: Allocator + Copy>(
     ensures good { (file : List ℕ) → IsGood walker.old.list.source.store file → IfErr result (λ fault. IsOfStore fault.kind → ⊥) }
     ensures spends { SpendsPasses 1 0 walker.old walker.new }
     ensures same { IsSameListing walker.old.list walker.new.list }
+    ensures going { IfOk result (λ search. is_failed walker.new.list.stop ≡ false) }
 {
     let mut search = CrashSearch::new(address, thread);
-    match fold_all(walker, &mut search) {
+    match visit_all(walker, &mut search) {
         Ok(_) => Ok(search),
-        Err(fault) => Err(fault),
+        Err(VisitFault::List(fault)) => Err(fault),
+        Err(VisitFault::Ended(_)) => unreachable!(),
     }
 }

@@ -2,10 +2,12 @@
 ghost use Rattle.std.specs.Prelude.{◌≡◌, Some};
 ghost use Rattle.mdmp_summary.specs.Search.{higher, holds_address};
 
-use crate::fold::Fold;
 use crate::keeping::keep;
-use mdmp_lister::Item;
+use crate::visiting::{VisitEnd, Visitor};
+use mdmp_lister::{Item, Stopped, Walker};
+use mdmp_source::Store;
 use mdmp_wire::{ModuleRecord, ThreadNameRecord};
+use std::alloc::Allocator;
 
 /// What is searched, and what was found so far.
 #[derive(Clone, Copy)]
@@ -97,13 +99,32 @@ impl CrashSearch {
     }
 }
 
-impl Fold for CrashSearch {
+impl Visitor for CrashSearch {
+    ghost use Rattle.std.specs.Prelude.{◌≡◌};
     ghost use Rattle.mdmp_summary.specs.Search.{found};
+    ghost use Rattle.mdmp_summary.specs.Visiting.{ReadsNothing, TakesBy, nothing_read};
 
-    ghost next = { found };
+    ghost taken = { TakesBy found };
+
+    ghost looked = { ReadsNothing };
+
+    ghost owed = { λ _. nothing_read };
+
+    ghost span = { λ _. 0 };
+
+    ghost room = { λ span item. nothing_read };
 
     #[tactic(auto, using(crate::proofs::Folds::found_plain))]
-    fn take(&mut self, item: &Item<'_>) {
+    fn take(&mut self, item: &Item<'_>) -> Result<(), Stopped> {
         self.search(item);
+        Ok(())
+    }
+
+    #[tactic(auto, using(crate::proofs::Visited::reads_nothing))]
+    fn look<S: Store + Drop, A: Allocator + Copy>(
+        &mut self,
+        _walker: &mut Walker<S, A>,
+    ) -> Result<(), VisitEnd> {
+        Ok(())
     }
 }

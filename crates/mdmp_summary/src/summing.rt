@@ -80,6 +80,7 @@ fn tell_crash<S: Store + Drop, A: Allocator + Copy>(
     ensures good { (file : List ℕ) → IsGood walker.old.list.source.store file → IfErr result (λ fault. IsUnreadIn fault → ⊥) }
     ensures spends { SpendsPasses 1 1 walker.old walker.new }
     ensures same { IsSameListing walker.old.list walker.new.list }
+    ensures going { IfOk result (λ told. is_failed walker.new.list.stop ≡ false) }
 {
     let registers = match read_registers(walker, system, exception.fields.thread_context) {
         Ok(registers) => registers,
@@ -120,6 +121,7 @@ pub fn summarize_listing<S: Store + Drop, A: Allocator + Copy>(
     ensures good { (file : List ℕ) → IsGood walker.old.list.source.store file → IfErr result (λ fault. IsUnreadIn fault → ⊥) }
     ensures spends { SpendsSummary result walker.old walker.new }
     ensures same { IsSameListing walker.old.list walker.new.list }
+    ensures going { IfOk result (λ told. is_failed walker.new.list.stop ≡ false) }
 {
     let header = walker.header();
     let told = match gather_all(walker) {

@@ -1,16 +1,17 @@
 //! A pass over all entries of a file.
-ghost use Rattle.std.specs.Prelude.{◌≡◌, ◌+◌, ℕ, List, None, Some, false, fold, IfErr, IfOk};
+ghost use Rattle.std.specs.Prelude.{◌≡◌, ℕ, List, Some, None, false, IfErr, IfOk};
 ghost use Rattle.mdmp_source.specs.Store.{IsGood};
-ghost use Rattle.mdmp_lister.specs.Fault.{IsOfStore, is_unobtained};
+ghost use Rattle.mdmp_lister.specs.Fault.{is_unobtained};
 ghost use Rattle.mdmp_lister.specs.Walker.{is_failed, is_sought};
 ghost use Rattle.mdmp_lister.specs.declared.choice.Choice.TheVariants.{All};
-ghost use Rattle.mdmp_summary.specs.Spending.{PaysLook, SpendsPasses};
-ghost use Rattle.mdmp_summary.specs.BadEntries.{all_items, entry_faults, told_bad};
-ghost use Rattle.mdmp_summary.specs.Walking.{EndsLook, Folds, IsLookFault, IsPassFault, IsSameListing};
+ghost use Rattle.mdmp_summary.specs.Spending.{PaysLook, PaysPasses};
+ghost use Rattle.mdmp_summary.specs.BadEntries.{entry_faults, told_bad};
+ghost use Rattle.mdmp_summary.specs.Visiting.{EndsShow, IsRestFault, IsUnreadVisit, IsVisitFault, Shows, Visits};
+ghost use Rattle.mdmp_summary.specs.Walking.{IsSameListing};
 
 use crate::bad_entries::BadEntries;
-use crate::fold::Fold;
-use mdmp_lister::{FaultKind, ListFault, Walker};
+use crate::visiting::{VisitEnd, VisitFault, Visitor};
+use mdmp_lister::{FaultKind, ListFault, Stopped, Walker};
 use mdmp_source::Store;
 use std::alloc::Allocator;
 
@@ -22,45 +23,55 @@ pub(crate) fn is_unobtained(fault: ListFault) -> bool
     matches!(fault.kind, FaultKind::Source(_) | FaultKind::Budget)
 }
 
-/// Goes over the items that are left, up to the end or the first error.
-fn fold_rest<S: Store + Drop, A: Allocator + Copy, K: Fold>(
+/// Shows a visitor the items that are left, up to the end or the first error.
+fn visit_rest<S: Store + Drop, A: Allocator + Copy, V: Visitor>(
     walker: &mut Walker<S, A>,
-    folding: &mut K,
-) -> Result<(), ListFault>
+    visitor: &mut V,
+) -> Result<(), VisitFault>
     requires all { walker.old.list.choice ≡ All }
     requires going { walker.old.list.stop ≡ None }
-    ensures folds { Folds K.next walker.old.list folding.old result walker.new.list folding.new }
-    ensures ends { EndsLook walker.old.list result walker.new.list }
-    ensures fault { IfErr result (IsLookFault walker.old.list walker.new.list) }
-    ensures good { (file : List ℕ) → IsGood walker.old.list.source.store file → IfErr result (λ fault. IsOfStore fault.kind → ⊥) }
+    ensures shows { Shows V.taken V.looked (V.room (V.span visitor.old)) walker.old.list visitor.old result walker.new.list visitor.new }
+    ensures ends { EndsShow walker.old.list result walker.new.list }
+    ensures fault { IfErr result (IsRestFault walker.old.list walker.new.list) }
+    ensures good { (file : List ℕ) → IsGood walker.old.list.source.store file → IfErr result (λ fault. IsUnreadVisit fault → ⊥) }
     ensures position { is_sought walker.new ≡ false }
+    ensures spans { V.span visitor.new ≡ V.span visitor.old }
     ensures pays { PaysLook walker.old result walker.new }
 {
     loop {
         match walker.next() {
-            Ok(Some(item)) => folding.take(&item),
+            Ok(Some(item)) => match visitor.take(&item) {
+                Ok(()) => {}
+                Err(Stopped) => return Err(VisitFault::Ended(VisitEnd::Stopped)),
+            },
             Ok(None) => return Ok(()),
-            Err(fault) => return Err(fault),
+            Err(fault) => return Err(VisitFault::List(fault)),
+        }
+        match visitor.look(walker) {
+            Ok(()) => {}
+            Err(end) => return Err(VisitFault::Ended(end)),
         }
     }
 }
 
-/// Goes over all items of all entries, each entry up to its own error, and gives the entries that have one. It
-/// begins at the first entry, whatever was given before. It returns an error only if bytes were not read.
-pub(crate) fn fold_all<S: Store + Drop, A: Allocator + Copy, K: Fold>(
+/// Shows a visitor all items of all entries, each entry up to its own error, and gives the entries that have one. It
+/// begins at the first entry, whatever was given before. What it reads for the listing counts against the walker's
+/// read limit, as one pass over all entries. What the visitor reads does not count.
+///
+/// It returns an error only if bytes were not read, or if the visitor ended it.
+pub fn visit_all<S: Store + Drop, A: Allocator + Copy, V: Visitor>(
     walker: &mut Walker<S, A>,
-    folding: &mut K,
-) -> Result<BadEntries, ListFault>
+    visitor: &mut V,
+) -> Result<BadEntries, VisitFault>
     requires all { walker.old.list.choice ≡ All }
     requires going { is_failed walker.old.list.stop ≡ false }
-    ensures folds { (file : List ℕ) → walker.old.list.source.store.content ≡ Some file
-        → IfOk result (λ bad. folding.new ≡ fold K.next folding.old (all_items file walker.old.list.limit)) }
+    ensures visits { Visits V.taken V.looked (V.room (V.span visitor.old)) walker.old.list visitor.old result walker.new.list visitor.new }
     ensures bad { (file : List ℕ) → walker.old.list.source.store.content ≡ Some file
         → IfOk result (λ bad. bad ≡ told_bad (entry_faults file walker.old.list.limit)) }
     ensures going { IfOk result (λ bad. is_failed walker.new.list.stop ≡ false) }
-    ensures fault { IfErr result (IsPassFault walker.old.list walker.new.list) }
-    ensures good { (file : List ℕ) → IsGood walker.old.list.source.store file → IfErr result (λ fault. IsOfStore fault.kind → ⊥) }
-    ensures pays { SpendsPasses 1 0 walker.old walker.new }
+    ensures fault { IfErr result (IsVisitFault walker.old.list walker.new.list) }
+    ensures good { (file : List ℕ) → IsGood walker.old.list.source.store file → IfErr result (λ fault. IsUnreadVisit fault → ⊥) }
+    ensures pays { PaysPasses 1 walker.old walker.new }
     ensures same { IsSameListing walker.old.list walker.new.list }
 {
     let mut bad = BadEntries::none();
@@ -72,11 +83,12 @@ pub(crate) fn fold_all<S: Store + Drop, A: Allocator + Copy, K: Fold>(
     // Each look but the last ends at the error of an entry.
     let looks = u64::from(streams) + 1;
     'entries: for _ in 0..looks {
-        match fold_rest(walker, folding) {
+        match visit_rest(walker, visitor) {
             Ok(()) => return Ok(bad),
-            Err(fault) => {
+            Err(VisitFault::Ended(end)) => return Err(VisitFault::Ended(end)),
+            Err(VisitFault::List(fault)) => {
                 if is_unobtained(fault) {
-                    return Err(fault);
+                    return Err(VisitFault::List(fault));
                 }
                 bad.take(fault);
                 walker.skip_entry();

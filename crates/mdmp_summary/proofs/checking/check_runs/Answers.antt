@@ -1,10 +1,11 @@
-use Rattle.std.proofs.Common.{◌≡◌, ◌∙◌, ◌++◌, [], Err, ap, arith, refl}
+use Rattle.std.proofs.Common.{◌≡◌, ◌≤◌, ◌∙◌, ◌+◌, ◌++◌, ◌-◌, [], Ok, Err, ap, arith, refl}
 use Rattle.mdmp_wire.specs.declared.header.Header.{Header}
 use Rattle.mdmp_lister.specs.Format.Listing.{entry_count}
+use Rattle.mdmp_lister.proofs.Fetches.{FetchesAtMost-none, FetchesAtMost-within}
 use Rattle.mdmp_lister.proofs.Handing.{same_lister-then}
-use Rattle.mdmp_summary.proofs.CheckingOn.{checks_begin, checks_more, names_early, names_end, rows_early, rows_end, some_both, told_later}
+use Rattle.mdmp_summary.specs.Checking.{rows_cost}
+use Rattle.mdmp_summary.proofs.CheckingOn.{checks_begin, checks_more, fetches_on, names_early, names_end, read_early, read_end, rows_early, rows_end, told_later}
 use Rattle.mdmp_summary.proofs.Counting.{skipped_left}
-use Rattle.mdmp_summary.proofs.Folded.{some_none}
 use Rattle.mdmp_summary.proofs.RowsTaken.{handed_then, taken_then}
 use Rattle.mdmp_summary.proofs.Told.{good_still}
 use Rattle.mdmp_summary.proofs.checking.check_runs.Goals as goal
@@ -14,9 +15,11 @@ entries-init g c = record {
   same_sink = refl;
   fresh = c.requires.fresh;
   same = record { header_is = refl; entries = refl; choice = refl; limit = refl; rooms = refl; aside = refl; start = refl; budget = refl };
-  fetches = some_none c.args.lister.now.source;
   going = c.requires.left.stop;
   rows = [];
+  items = [];
+  fetches = FetchesAtMost-within 0 _ _ _ (omega arith) (FetchesAtMost-none c.args.lister.now.source);
+  unread = omega arith;
   taken = refl;
   checks = λ file known. checks_begin file c.args.lister.now.limit c.args.lister.now (c.requires.left.left file known);
 }
@@ -30,18 +33,23 @@ entries-preserved g c =
     let of = rw c.in-Ok-true.field-0-test at c.in-Ok-true.ensures in
     let told = of.rows in
     let leaves = of.leaves in
+    let unread = leaves.unread refl in
+    let fetches = fetches_on old now new (Ok tt) so_far.items told.items so_far.rows told.rows so_far.fetches so_far.unread so_far.same.limit told.fetches in
     record {
       same_sink = of.same_sink ∙ so_far.same_sink;
       fresh = of.fresh;
       same = same_lister-then old now new so_far.same leaves.same;
-      fetches = some_both old.source now.source new.source so_far.fetches leaves.fetches;
       going = leaves.going refl;
       rows = so_far.rows ++ told.rows;
+      items = so_far.items ++ told.items;
+      fetches =
+          FetchesAtMost-within _ (old.unread + rows_cost old.source.size old.limit (so_far.items ++ told.items) (so_far.rows ++ told.rows) - new.unread) old.source new.source (omega (arith, unread)) fetches;
+      unread = omega (arith, unread);
       taken = taken_then g.K.CheckRowSink.step so_far.rows told.rows c.args.maker.now.sink.now c.entries.maker.sink.now c.check_run.new.maker.sink.now so_far.taken told.handed;
       checks = λ file known.
           let on = so_far.checks file known in
-          checks_more file old.limit old now new so_far.rows c.entries.counter on told.items told.rows (told.gives _ on.counts.left)
-          (leaves.left refl ∙ skipped_left file new old.limit new.passed (leaves.fetches.fetches.same_content ∙ so_far.fetches.fetches.same_content ∙ known)
+          checks_more file old.limit old now new so_far.rows so_far.items c.entries.counter on told.items told.rows (told.gives _ on.counts.left)
+          (leaves.left refl ∙ skipped_left file new old.limit new.passed (fetches.same_content ∙ known)
           (leaves.same.choice ∙ so_far.same.choice ∙ c.requires.left.choice_is) (leaves.same.limit ∙ so_far.same.limit) refl);
     }
 
@@ -53,10 +61,15 @@ returns-in-Ok-false-clause-rows g c =
     let told = (rw c.in-Ok-false.field-0-test at c.in-Ok-false.ensures).rows in
     record {
       rows = so_far.rows ++ told.rows;
+      items = so_far.items ++ told.items;
       handed = taken_then g.K.CheckRowSink.step so_far.rows told.rows c.args.maker.now.sink.now c.entries.maker.sink.now c.check_run.new.maker.sink.now so_far.taken told.handed;
       of_file = λ file known.
           let on = so_far.checks file known in
-          rows_end file c.args.lister.now.limit c.args.lister.now c.entries.lister c.check_run.new.lister so_far.rows c.entries.counter on told.items told.rows (told.gives _ on.counts.left);
+          rows_end file c.args.lister.now.limit c.args.lister.now c.entries.lister c.check_run.new.lister so_far.rows so_far.items c.entries.counter on told.items told.rows (told.gives _ on.counts.left);
+      read = λ file known.
+          let on = so_far.checks file known in
+          read_end file c.args.lister.now.limit c.args.lister.now c.entries.lister c.check_run.new.lister so_far.rows so_far.items c.entries.counter on told.items told.rows (told.gives _ on.counts.left);
+      fetches = fetches_on c.args.lister.now c.entries.lister c.check_run.new.lister (Ok tt) so_far.items told.items so_far.rows told.rows so_far.fetches so_far.unread so_far.same.limit told.fetches;
     }
 
 pub returns-in-Ok-false-clause-names : goal.returns-in-Ok-false-clause-names
@@ -64,14 +77,10 @@ returns-in-Ok-false-clause-names g c = λ file known.
     let so_far = c.entries.invariant in
     let told = (rw c.in-Ok-false.field-0-test at c.in-Ok-false.ensures).rows in
     let on = so_far.checks file known in
-    names_end file c.args.lister.now.limit c.args.lister.now c.entries.lister c.check_run.new.lister so_far.rows c.entries.counter on told.items told.rows (told.gives _ on.counts.left)
+    names_end file c.args.lister.now.limit c.args.lister.now c.entries.lister c.check_run.new.lister so_far.rows so_far.items c.entries.counter on told.items told.rows (told.gives _ on.counts.left)
 
 pub returns-in-Ok-false-clause-same : goal.returns-in-Ok-false-clause-same
 returns-in-Ok-false-clause-same g c = same_lister-then c.args.lister.now c.entries.lister c.check_run.new.lister c.entries.invariant.same c.in-Ok-false.ensures.leaves.same
-
-pub returns-in-Ok-false-clause-fetches : goal.returns-in-Ok-false-clause-fetches
-returns-in-Ok-false-clause-fetches g c =
-    some_both c.args.lister.now.source c.entries.lister.source c.check_run.new.lister.source c.entries.invariant.fetches c.in-Ok-false.ensures.leaves.fetches
 
 -- ---- an early end
 
@@ -81,10 +90,16 @@ returns-in-Err-clause-rows g c =
     let told = c.in-Err.ensures.rows in
     record {
       rows = so_far.rows ++ told.rows;
+      items = so_far.items ++ told.items;
       handed = handed_then g.K.CheckRowSink.step (Err c.in-Err.fault) so_far.rows told.rows c.args.maker.now.sink.now c.entries.maker.sink.now c.check_run.new.maker.sink.now so_far.taken told.handed;
       of_file = λ file known.
           let on = so_far.checks file known in
-          rows_early file c.args.lister.now.limit c.args.lister.now c.entries.lister c.check_run.new.lister so_far.rows c.entries.counter on told.items told.rows (told.gives _ on.counts.left);
+          rows_early file c.args.lister.now.limit c.args.lister.now c.entries.lister c.check_run.new.lister so_far.rows so_far.items c.entries.counter on told.items told.rows (told.gives _ on.counts.left);
+      read = λ file known.
+          let on = so_far.checks file known in
+          read_early file c.args.lister.now.limit c.args.lister.now c.entries.lister c.check_run.new.lister so_far.rows so_far.items c.entries.counter on told.items told.rows (told.gives _ on.counts.left);
+      fetches =
+          fetches_on c.args.lister.now c.entries.lister c.check_run.new.lister (Err c.in-Err.fault) so_far.items told.items so_far.rows told.rows so_far.fetches so_far.unread so_far.same.limit told.fetches;
     }
 
 pub returns-in-Err-clause-names : goal.returns-in-Err-clause-names
@@ -92,24 +107,18 @@ returns-in-Err-clause-names g c = λ file known.
     let so_far = c.entries.invariant in
     let told = c.in-Err.ensures.rows in
     let on = so_far.checks file known in
-    names_early file c.args.lister.now.limit c.args.lister.now c.entries.lister c.check_run.new.lister so_far.rows c.entries.counter on told.items told.rows (told.gives _ on.counts.left)
+    names_early file c.args.lister.now.limit c.args.lister.now c.entries.lister c.check_run.new.lister so_far.rows so_far.items c.entries.counter on told.items told.rows (told.gives _ on.counts.left)
 
 pub returns-in-Err-clause-same : goal.returns-in-Err-clause-same
 returns-in-Err-clause-same g c = same_lister-then c.args.lister.now c.entries.lister c.check_run.new.lister c.entries.invariant.same c.in-Err.ensures.leaves.same
 
-pub returns-in-Err-clause-fetches : goal.returns-in-Err-clause-fetches
-returns-in-Err-clause-fetches g c =
-    some_both c.args.lister.now.source c.entries.lister.source c.check_run.new.lister.source c.entries.invariant.fetches c.in-Err.ensures.leaves.fetches
-
 pub returns-in-Err-clause-told : goal.returns-in-Err-clause-told
 returns-in-Err-clause-told g c =
-    let before = c.entries.invariant.fetches in
-    told_later c.args.lister.now c.entries.lister c.check_run.new.lister c.in-Err.fault before c.in-Err.ensures.told
+    told_later _ c.args.lister.now c.entries.lister c.check_run.new.lister c.in-Err.fault c.entries.invariant.fetches c.in-Err.ensures.told
 
 pub returns-in-Err-clause-good : goal.returns-in-Err-clause-good
 returns-in-Err-clause-good g c = λ file good.
-    let before = c.entries.invariant.fetches in
-    c.in-Err.ensures.good file (good_still file before.count _ _ before.fetches good)
+    c.in-Err.ensures.good file (good_still file _ _ _ c.entries.invariant.fetches good)
 
 -- ---- after as many runs as there may be
 
@@ -118,7 +127,13 @@ returns-clause-rows g c =
     let so_far = c.entries.invariant in
     record {
       rows = so_far.rows;
+      items = so_far.items;
       handed = so_far.taken;
+      fetches = FetchesAtMost-within _ _ _ _ (omega arith) so_far.fetches;
+      read = λ file known.
+          let on = so_far.checks file known in
+          let count : c.header.result.number_of_streams ≡ entry_count file = ap (λ (h : Header). h.number_of_streams) (c.header.ensures ∙ c.requires.left.header_is file known) in
+          absurd (omega (arith, count, on.counts.few, on.counts.within, on.runs_are, c.from-runs.ensures, c.entries-test.false));
       of_file = λ file known.
           let on = so_far.checks file known in
           let count : c.header.result.number_of_streams ≡ entry_count file = ap (λ (h : Header). h.number_of_streams) (c.header.ensures ∙ c.requires.left.header_is file known) in

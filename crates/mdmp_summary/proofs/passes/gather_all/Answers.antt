@@ -1,13 +1,30 @@
-use Rattle.std.proofs.Common.{ap, ◌∙◌}
+use Rattle.std.proofs.Common.{List, ap, sym, ◌∙◌}
 use Rattle.std.specs.Prelude.{fold}
+use Rattle.mdmp_lister.specs.declared.item.Item.{Item}
 use Rattle.mdmp_summary.specs.BadEntries.{all_items}
 use Rattle.mdmp_summary.specs.Gathering.{gathered_with}
 use Rattle.mdmp_summary.specs.declared.gathering.Gathering.{Gathering}
 use Rattle.mdmp_summary.proofs.Folds.{gathered_all}
+use Rattle.mdmp_summary.proofs.Passing.{spends_pass}
+use Rattle.mdmp_summary.proofs.Visited.{folded_all}
 use Rattle.mdmp_summary.proofs.passes.gather_all.Goals as goal
 
 pub returns-in-Ok-clause-gathers : goal.returns-in-Ok-clause-gathers
 returns-in-Ok-clause-gathers g c = λ file known.
     let all = all_items file c.args.walker.now.list.limit in
-    let told = c.in-Ok.ensures.folds file known ∙ ap (λ (k : Gathering). fold gathered_with k all) c.new-gathering.ensures ∙ gathered_all all in
+    let visits = c.in-Ok.ensures.visits in
+    let told = folded_all gathered_with c.args.walker.now.list.source.store.content c.args.walker.now.list.limit visits.items c.new-gathering.result c.visit_all.new.visitor visits.visited
+    ∙ ap (λ (items : List Item). fold gathered_with c.new-gathering.result items) (sym (visits.all file known))
+    ∙ ap (λ (k : Gathering). fold gathered_with k all) c.new-gathering.ensures ∙ gathered_all all in
     λ i. record { gathering = told i; bad = c.in-Ok.ensures.bad file known i }
+
+pub returns-in-Ok-clause-spends : goal.returns-in-Ok-clause-spends
+returns-in-Ok-clause-spends g c = let visits = c.in-Ok.ensures.visits in spends_pass visits.items c.args.walker.now c.visit_all.new.walker c.in-Ok.ensures.pays visits.outside
+
+pub returns-in-Err-List-clause-good : goal.returns-in-Err-List-clause-good
+returns-in-Err-List-clause-good g c = λ file good. rw c.in-Err-List.field-0-is ((rw c.in-Err-List.field-0-is at c.in-Err-List.ensures).good file good)
+
+pub returns-in-Err-List-clause-spends : goal.returns-in-Err-List-clause-spends
+returns-in-Err-List-clause-spends g c =
+    let of = c.in-Err-List.ensures in
+    spends_pass of.visits.items c.args.walker.now c.visit_all.new.walker of.pays of.visits.outside

@@ -1,7 +1,8 @@
 use Rattle.std.proofs.Common.{arith}
 use Rattle.mdmp_summary.proofs.Passing.{crash_spends, spends_read}
+use Rattle.mdmp_summary.specs.Spending.{context_cost}
 use Rattle.mdmp_summary.specs.SpendingLaws.{spends_more}
-use Rattle.mdmp_summary.proofs.Told.{context_listing, good_still, pass_later, same_listing_then}
+use Rattle.mdmp_summary.proofs.Told.{good_still, outside_listing, pass_later, same_listing_then}
 use Rattle.mdmp_summary.proofs.summing.tell_crash.Goals as goal
 
 pub returns-in-Err-clause-spends : goal.returns-in-Err-clause-spends
@@ -11,26 +12,26 @@ returns-in-Err-clause-spends g c =
     spends_more 0 1 1 1 old mid (omega arith) (omega arith) (spends_read old mid c.in-Err.ensures.reads)
 
 pub returns-in-Err-clause-same : goal.returns-in-Err-clause-same
-returns-in-Err-clause-same g c = context_listing c.args.walker.now c.read_registers.new.walker c.in-Err.ensures.reads
+returns-in-Err-clause-same g c = outside_listing context_cost c.args.walker.now c.read_registers.new.walker c.in-Err.ensures.reads
 
 pub returns-in-Ok-search_all-clause-spends : goal.returns-in-Ok-search_all-clause-spends
 returns-in-Ok-search_all-clause-spends g c =
     let old = c.args.walker.now in
     let mid = c.read_registers.new.walker in
     let reads = c.in-Ok.ensures.reads in
-    crash_spends old mid c.search_all.new.walker (context_listing old mid reads) (spends_read old mid reads) c.in-Ok-search_all.ensures.spends
+    crash_spends old mid c.search_all.new.walker (outside_listing context_cost old mid reads) (spends_read old mid reads) c.in-Ok-search_all.ensures.spends
 
 pub returns-in-Ok-search_all-clause-same : goal.returns-in-Ok-search_all-clause-same
 returns-in-Ok-search_all-clause-same g c =
     let old = c.args.walker.now in
     let mid = c.read_registers.new.walker in
-    same_listing_then old.list mid.list c.search_all.new.walker.list (context_listing old mid c.in-Ok.ensures.reads) c.in-Ok-search_all.ensures.same
+    same_listing_then old.list mid.list c.search_all.new.walker.list (outside_listing context_cost old mid c.in-Ok.ensures.reads) c.in-Ok-search_all.ensures.same
 
 pub returns-in-Err-search_all-clause-fault : goal.returns-in-Err-search_all-clause-fault
 returns-in-Err-search_all-clause-fault g c =
     let old = c.args.walker.now in
     let mid = c.read_registers.new.walker in
-    pass_later old.list mid.list c.search_all.new.walker.list c.in-Err-search_all.fault (context_listing old mid c.in-Ok.ensures.reads).same_file c.in-Err-search_all.ensures.fault
+    pass_later old.list mid.list c.search_all.new.walker.list c.in-Err-search_all.fault (outside_listing context_cost old mid c.in-Ok.ensures.reads).same_file c.in-Err-search_all.ensures.fault
 
 pub returns-in-Err-search_all-clause-good : goal.returns-in-Err-search_all-clause-good
 returns-in-Err-search_all-clause-good g c = λ file good.
@@ -42,10 +43,10 @@ returns-in-Err-search_all-clause-spends g c =
     let old = c.args.walker.now in
     let mid = c.read_registers.new.walker in
     let reads = c.in-Ok.ensures.reads in
-    crash_spends old mid c.search_all.new.walker (context_listing old mid reads) (spends_read old mid reads) c.in-Err-search_all.ensures.spends
+    crash_spends old mid c.search_all.new.walker (outside_listing context_cost old mid reads) (spends_read old mid reads) c.in-Err-search_all.ensures.spends
 
 pub returns-in-Err-search_all-clause-same : goal.returns-in-Err-search_all-clause-same
 returns-in-Err-search_all-clause-same g c =
     let old = c.args.walker.now in
     let mid = c.read_registers.new.walker in
-    same_listing_then old.list mid.list c.search_all.new.walker.list (context_listing old mid c.in-Ok.ensures.reads) c.in-Err-search_all.ensures.same
+    same_listing_then old.list mid.list c.search_all.new.walker.list (outside_listing context_cost old mid c.in-Ok.ensures.reads) c.in-Err-search_all.ensures.same

@@ -1,14 +1,14 @@
 use Rattle.std.proofs.Common.{◌≡◌, ℕ, List, Some, None}
-use Rattle.std.specs.Prelude.{fold}
 use Rattle.mdmp_lister.specs.declared.fault.ListFault.{ListFault}
 use Rattle.mdmp_lister.specs.declared.item.Item.{Item}
 use Rattle.mdmp_summary.specs.BadEntries.{told_bad}
+use Rattle.mdmp_summary.specs.Visiting.{RisesOutside, VisitedAll}
 use Rattle.mdmp_summary.specs.Walking.{IsSameListing}
 use Rattle.mdmp_summary.proofs.Counting.{CountsOn}
 use Rattle.mdmp_summary.proofs.Passing.{HasPassed}
-use Rattle.mdmp_summary.proofs.walking.fold_all.Given as goal
+use Rattle.mdmp_summary.proofs.walking.visit_all.Given as goal
 
--- each look so far met a bad entry, and made something of the items before its error
+-- each look so far met a bad entry, and showed the items before its error
 abbrev pub invariant-entries : goal.invariant-entries
 invariant-entries g l = record {
   same : IsSameListing l.fn.walker.list l.walker.list;
@@ -16,8 +16,10 @@ invariant-entries g l = record {
   count : l.bad.count ≡ l.counter;
   met : List ListFault;
   bad : l.bad ≡ told_bad met;
+  spans : g.V.Visitor.span l.visitor ≡ g.V.Visitor.span l.fn.visitor;
   items : List Item;
-  made : l.folding ≡ fold g.K.Fold.next l.fn.folding items;
+  visited : VisitedAll g.V.Visitor.taken (g.V.Visitor.looked l.fn.walker.list.source.store.content l.fn.walker.list.limit) l.fn.visitor items l.visitor;
+  outside : RisesOutside (g.V.Visitor.room (g.V.Visitor.span l.fn.visitor)) items l.fn.walker.list.counts.aside l.walker.list.counts.aside;
   passed : HasPassed l.fn.walker l.walker;
   counts : (file : List ℕ) → l.fn.walker.list.source.store.content ≡ Some file → CountsOn file l.fn.walker.list.limit l.walker.list met items;
 }
