@@ -5,6 +5,7 @@ pub mod FormLemmas
 pub mod HexLanes
 pub mod HexLemmas
 pub mod HexRows
+pub mod IdLemmas
 pub mod ItemRows
 pub mod LeftLemmas
 pub mod PartLemmas

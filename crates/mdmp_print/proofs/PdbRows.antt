@@ -6,7 +6,9 @@ use Rattle.uuid.specs.Text.{by_index}
 use Rattle.mdmp_wire.specs.CodeView.{Rsds, codeview_of}
 use Rattle.mdmp_wire.specs.Digits.{hex}
 use Rattle.mdmp_wire.specs.Number.{number_at, array_at, le}
+use Rattle.mdmp_print.specs.Ids.{build_debug_id, stamp_id}
 use Rattle.mdmp_print.specs.PdbLines.{pdb_line}
+use Rattle.mdmp_print.specs.UpperHex.{upper_hex}
 
 -- the bytes of an identity: three numbers, the lower bytes first, and eight bytes
 abbrev identity : List ℕ
@@ -53,3 +55,20 @@ escaped-line : pdb_line (Rsds identity 4294967295 (92 ∷ 34 ∷ 31 ∷ 32 ∷ 1
     ≡ codes "pdb 33221100-5544-7766-8899-aabbccddeeff age 4294967295 name \"\\x5c\"\\x1f ~\\x7f\\xff\"\n"
 unfolding le by_index digits hex
 escaped-line = refl
+
+-- ---- ids
+
+-- the GUID of a build id has its first three numbers turned, and the age is 0
+build-id : build_debug_id (1 ∷ 2 ∷ 3 ∷ 4 ∷ 5 ∷ 6 ∷ 7 ∷ 8 ∷ 9 ∷ 10 ∷ 11 ∷ 12 ∷ 13 ∷ 14 ∷ 15 ∷ 16 ∷ 17 ∷ []) ≡ codes "0403020106050807090A0B0C0D0E0F100"
+unfolding by_index digits
+build-id = refl
+
+-- a build id of four bytes has zeros behind them
+brief-build-id : build_debug_id (1 ∷ 2 ∷ 3 ∷ 4 ∷ []) ≡ codes "040302010000000000000000000000000"
+unfolding by_index digits
+brief-build-id = refl
+
+-- the time has zeros in front, and the number has none
+time-and-number : stamp_id 0x0a5b7c9d 0x1f ≡ codes "0A5B7C9D1f"
+unfolding upper_hex digits
+time-and-number = refl

@@ -7,7 +7,9 @@ use Rattle.json.specs.Print.{escape, escape_byte}
 use Rattle.json.proofs.Printed.Strings.{escape_byte_plain}
 use Rattle.uuid.specs.Text.{by_index, digit_place, hex_digit, is_hyphen_place, lower, nibble, simple_text, upper}
 use Rattle.mdmp_wire.specs.Digits.{hex}
+use Rattle.mdmp_print.specs.Ids.{stamp_id}
 use Rattle.mdmp_print.specs.PdbLines.{debug_id, digits_text, guid_text}
+use Rattle.mdmp_print.specs.UpperHex.{upper_hex}
 
 pub escape-append : (xs ys : List ℕ) → escape (xs ++ ys) ≡ escape xs ++ escape ys
 escape-append xs ys = flat_map-append escape_byte xs ys
@@ -50,9 +52,19 @@ pub escape-decimal : (n : ℕ) → escape (decimal n) ≡ decimal n
 unfolding digits
 escape-decimal n = escape-onto 10 false (λ n. omega arith) 64 n [] refl
 
-escape-capitals : (n : ℕ) → escape (digits 16 true n) ≡ digits 16 true n
+escape-sixteens : (capital : Bool) (n : ℕ) → escape (digits 16 capital n) ≡ digits 16 capital n
 unfolding digits
-escape-capitals n = escape-onto 16 true (λ n. omega arith) 64 n [] refl
+escape-sixteens capital n = escape-onto 16 capital (λ n. omega arith) 64 n [] refl
+
+escape-upper_hex : (k n : ℕ) → escape (upper_hex k n) ≡ upper_hex k n
+unfolding upper_hex
+escape-upper_hex zero n = refl
+escape-upper_hex (suc k) n = escape-more (upper_hex k (n / 16)) (digit_glyph true (n % 16)) (escape-upper_hex k (n / 16)) (escape_glyph true (n % 16) (omega arith))
+
+pub escape-stamp_id : (time n : ℕ) → escape (stamp_id time n) ≡ stamp_id time n
+escape-stamp_id time n =
+    escape-append (upper_hex 8 time) (digits 16 false n)
+    ∙ ap₂ (λ (a b : List ℕ). a ++ b) (escape-upper_hex 8 time) (escape-sixteens false n)
 
 -- two digits for each of some bytes
 pub escape-digits : (bytes : List ℕ) → escape (digits_text bytes) ≡ digits_text bytes
@@ -92,4 +104,4 @@ escape-debug_id guid age =
     escape-append (simple_text upper guid) (digits 16 true age)
     ∙ ap₂ (λ (a b : List ℕ). a ++ b)
     (escape-by_index 32 _ (λ k. escape_hex_digit upper (omega arith) (λ d few e. omega arith) (nibble guid k) (nibble_small guid k)))
-    (escape-capitals age)
+    (escape-sixteens true age)

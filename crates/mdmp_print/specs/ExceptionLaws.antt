@@ -1,7 +1,7 @@
 -- What the values of an exception print in an object.
-use Rattle.std.proofs.Common.{◌≡◌, ◌∙◌, ℕ, Bool, true, false, min, List, [], ◌∷◌, ◌++◌, refl, ap, sym, map, take, codes, append_assoc, append-nil}
+use Rattle.std.proofs.Common.{◌≡◌, ◌∙◌, ℕ, true, false, min, List, [], ◌∷◌, ◌++◌, refl, ap, sym, map, take, codes, append_assoc, append-nil}
 use Rattle.json.specs.Token.{Token, begin_array, end_array, key}
-use Rattle.json.specs.Print.{escape, escape_byte, print_from}
+use Rattle.json.specs.Print.{escape_byte, print_from}
 use Rattle.mdmp_wire.specs.Digits.{hex}
 use Rattle.mdmp_print.specs.Json.{hex_string, values_of}
 use Rattle.mdmp_print.specs.JsonPieces.{all_values_text, hex_strings_text, next_values_text}

@@ -36,10 +36,11 @@ abbrev pub item_line_in : LineForm → Item → List ℕ
 item_line_in Text item = item_line item
 item_line_in Json item = object_line (item_object item)
 
--- of the CodeView record of a module, which is the item of this number in the stream of this entry
-abbrev pub pdb_line_in : LineForm → ℕ → ℕ → CodeViewValue → List ℕ
-pdb_line_in Text entry index told = pdb_line told
-pdb_line_in Json entry index told = object_line (pdb_object entry index told)
+-- of the CodeView record of a module, which is the item of this number in the stream of this entry. The record begins with the
+-- bytes `head`, the first 24 or all of it
+abbrev pub pdb_line_in : LineForm → ℕ → ℕ → List ℕ → CodeViewValue → List ℕ
+pdb_line_in Text entry index head told = pdb_line told
+pdb_line_in Json entry index head told = object_line (pdb_object entry index head told)
 
 -- of a verdict
 abbrev pub verdict_line_in : LineForm → Verdict → List ℕ

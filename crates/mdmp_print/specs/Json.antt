@@ -1,5 +1,5 @@
 -- Objects of JSON as their tokens, and the line of one.
-use Rattle.std.specs.Prelude.{ℕ, Bool, true, false, not, min, List, [], ◌∷◌, ◌++◌, take, map, codes}
+use Rattle.std.specs.Prelude.{ℕ, Bool, true, false, not, min, Option, Some, None, List, [], ◌∷◌, ◌++◌, take, map, codes}
 use Rattle.std.specs.Fmt.{decimal}
 use Rattle.std.specs.Char.Utf16.{has_unpaired_surrogate}
 use Rattle.std.specs.Str.Lossy.{utf8_lossy}
@@ -71,6 +71,11 @@ abbrev pub name_value : Name → List Token
 name_value names.None = null ∷ []
 name_value (Units units) = spelled (utf8_of (units_in units)) (has_unpaired_surrogate (units_in units))
 name_value (Long length) = object (of_number (codes "long") length ∷ [])
+
+-- a text, or null if there is none
+abbrev pub text_or_null : Option (List ℕ) → List Token
+text_or_null None = null ∷ []
+text_or_null (Some s) = string s ∷ []
 
 -- bytes of a file name
 abbrev pub bytes_value : List ℕ → List Token

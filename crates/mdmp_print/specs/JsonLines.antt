@@ -19,8 +19,12 @@ use Rattle.mdmp_lister.specs.declared.item.ThreadNameItem.{ThreadNameItem}
 use Rattle.mdmp_lister.specs.declared.item.RangeItem.{RangeItem}
 use Rattle.mdmp_lister.specs.declared.item.Item.{Item}
 use Rattle.mdmp_lister.specs.declared.item.Item.TheVariants as items
+use Rattle.mdmp_names.specs.StreamTypes.{stream_name}
+use Rattle.mdmp_summary.specs.Identity.{BuildIdValue, build_id_in, code_id_of, pdb20_in}
+use Rattle.mdmp_summary.specs.declared.identity.Pdb20.{Pdb20}
 use Rattle.mdmp_print.specs.FaultWords.{kind_words}
-use Rattle.mdmp_print.specs.Json.{of_number, of_wide, of_text, of_hex, object, of_object, part_members, name_value, bytes_value, values_of}
+use Rattle.mdmp_print.specs.Ids.{build_debug_id, build_id_text, pe_id_of, stamp_id}
+use Rattle.mdmp_print.specs.Json.{of_number, of_wide, of_text, of_hex, object, of_object, part_members, name_value, text_or_null, bytes_value, values_of}
 use Rattle.mdmp_print.specs.PdbLines.{debug_id, digits_text, guid_text}
 
 -- `"line"`: what the object is of
@@ -38,7 +42,8 @@ dump_members h = line_of (codes "dump") ∷ of_hex (codes "version") 4 (h.versio
 
 abbrev pub stream_members : StreamItem → List (List Token)
 stream_members s = line_of (codes "stream") ∷ of_number (codes "entry") s.entry ∷ of_number (codes "type") s.stream_type
-    ∷ of_number (codes "size") s.location.size ∷ of_number (codes "rva") s.location.rva ∷ []
+    ∷ of_number (codes "size") s.location.size ∷ of_number (codes "rva") s.location.rva
+    ∷ (key (codes "name") ∷ text_or_null (stream_name s.stream_type)) ∷ []
 
 abbrev pub thread_members : ThreadItem → List (List Token)
 thread_members t = line_of (codes "thread") ∷ of_number (codes "entry") t.entry ∷ of_number (codes "index") t.index
@@ -49,7 +54,7 @@ thread_members t = line_of (codes "thread") ∷ of_number (codes "entry") t.entr
     ∷ part_members of_number t.stack t.fields.stack.memory.size t.fields.stack.memory.rva ∷ [])
     ∷ of_object (codes "context") (part_members of_number t.context t.fields.thread_context.size t.fields.thread_context.rva ∷ []) ∷ []
 
--- the file version, of which the two numbers are halved
+-- the versions, of each of which the two numbers are halved
 abbrev pub module_members : ModuleItem → List (List Token)
 module_members m = line_of (codes "module") ∷ of_number (codes "entry") m.entry ∷ of_number (codes "index") m.index
     ∷ of_hex (codes "base") 16 m.fields.base_of_image ∷ of_number (codes "size") m.fields.size_of_image
@@ -59,7 +64,11 @@ module_members m = line_of (codes "module") ∷ of_number (codes "entry") m.entr
     ∷ decimal (m.fields.version_info.file_version_ls % 65536) ∷ []))
     ∷ of_object (codes "cv") (part_members of_number m.codeview m.fields.cv_record.size m.fields.cv_record.rva ∷ [])
     ∷ of_object (codes "misc") (part_members of_number m.misc m.fields.misc_record.size m.fields.misc_record.rva ∷ [])
-    ∷ (key (codes "name") ∷ name_value m.name) ∷ []
+    ∷ (key (codes "name") ∷ name_value m.name)
+    ∷ (key (codes "code_id") ∷ text_or_null (pe_id_of (code_id_of m.fields)))
+    ∷ of_text (codes "product_version") (concat (decimal (m.fields.version_info.product_version_ms / 65536) ∷ point
+    ∷ decimal (m.fields.version_info.product_version_ms % 65536) ∷ point ∷ decimal (m.fields.version_info.product_version_ls / 65536) ∷ point
+    ∷ decimal (m.fields.version_info.product_version_ls % 65536) ∷ [])) ∷ []
 
 abbrev pub unloaded_members : UnloadedItem → List (List Token)
 unloaded_members u = line_of (codes "unloaded") ∷ of_number (codes "entry") u.entry ∷ of_number (codes "index") u.index
@@ -97,15 +106,23 @@ abbrev pub range_members : RangeItem → List (List Token)
 range_members r = line_of (codes "range") ∷ of_number (codes "entry") r.entry ∷ of_number (codes "index") r.index
     ∷ of_hex (codes "start") 16 r.start ∷ part_members of_wide r.extent r.size r.offset ∷ []
 
--- of the record of a module, which is the item of this number in the stream of this entry
-abbrev pub pdb_members : ℕ → ℕ → CodeViewValue → List (List Token)
-pdb_members entry index (Rsds guid age name ended) = line_of (codes "pdb") ∷ of_number (codes "entry") entry ∷ of_number (codes "index") index
+-- the ids in a record of another kind than RSDS: a build id, the identity of a symbol file of PDB 2.0, or none
+abbrev pub other_ids : Option BuildIdValue → Option Pdb20 → List (List Token)
+other_ids (Some id) pdb = of_text (codes "build_id") (build_id_text id.bytes) ∷ (key (codes "build_id_cut") ∷ boolean id.cut ∷ [])
+    ∷ of_text (codes "debug_id") (build_debug_id id.bytes) ∷ []
+other_ids None (Some pdb) = of_text (codes "debug_id") (stamp_id pdb.time pdb.age) ∷ []
+other_ids None None = []
+
+-- of the record of a module, which is the item of this number in the stream of this entry. The record begins with the bytes `head`
+abbrev pub pdb_members : ℕ → ℕ → List ℕ → CodeViewValue → List (List Token)
+pdb_members entry index head (Rsds guid age name ended) = line_of (codes "pdb") ∷ of_number (codes "entry") entry ∷ of_number (codes "index") index
     ∷ of_text (codes "kind") (codes "rsds") ∷ of_text (codes "guid") (guid_text guid) ∷ of_number (codes "age") age
     ∷ of_text (codes "debug_id") (debug_id guid age) ∷ (key (codes "name") ∷ bytes_value name)
     ∷ (key (codes "cut") ∷ boolean (not ended) ∷ []) ∷ []
-pdb_members entry index (Other signature size) = line_of (codes "pdb") ∷ of_number (codes "entry") entry ∷ of_number (codes "index") index
-    ∷ of_text (codes "kind") (codes "other") ∷ of_text (codes "signature") (digits_text signature) ∷ of_number (codes "size") size ∷ []
-pdb_members entry index (Short size) = line_of (codes "pdb") ∷ of_number (codes "entry") entry ∷ of_number (codes "index") index
+pdb_members entry index head (Other signature size) = line_of (codes "pdb") ∷ of_number (codes "entry") entry ∷ of_number (codes "index") index
+    ∷ of_text (codes "kind") (codes "other") ∷ of_text (codes "signature") (digits_text signature) ∷ of_number (codes "size") size
+    ∷ other_ids (build_id_in head size) (pdb20_in head size)
+pdb_members entry index head (Short size) = line_of (codes "pdb") ∷ of_number (codes "entry") entry ∷ of_number (codes "index") index
     ∷ of_text (codes "kind") (codes "short") ∷ of_number (codes "size") size ∷ []
 
 -- ---- check
@@ -139,8 +156,8 @@ item_object (items.MemoryInfo r) = object (region_members r)
 item_object (items.ThreadName t) = object (thread_name_members t)
 item_object (items.Range r) = object (range_members r)
 
-abbrev pub pdb_object : ℕ → ℕ → CodeViewValue → List Token
-pdb_object entry index told = object (pdb_members entry index told)
+abbrev pub pdb_object : ℕ → ℕ → List ℕ → CodeViewValue → List Token
+pdb_object entry index head told = object (pdb_members entry index head told)
 
 abbrev pub verdict_object : Verdict → List Token
 verdict_object v = object (verdict_members v)

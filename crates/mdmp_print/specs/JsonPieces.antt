@@ -51,6 +51,11 @@ name_value_text names.None = codes "null"
 name_value_text (Units units) = spelled_text (utf8_of (units_in units)) (has_unpaired_surrogate (units_in units))
 name_value_text (Long length) = length_text length
 
+-- a text as a string, or the word null if there is none
+abbrev pub text_or_null_text : Option (List ℕ) → List ℕ
+text_or_null_text None = codes "null"
+text_or_null_text (Some s) = codes "\"" ++ (s ++ codes "\"")
+
 abbrev pub bytes_value_text : List ℕ → List ℕ
 bytes_value_text bytes = spelled_text (utf8_lossy bytes) (not (is_utf8 bytes))
 

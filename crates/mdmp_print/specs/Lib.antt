@@ -8,6 +8,8 @@ pub mod FaultLaws
 pub mod FaultWords
 pub mod Forms
 pub mod HexText
+pub mod IdLaws
+pub mod Ids
 pub mod ItemLines
 pub mod Joined
 pub mod Json
@@ -22,5 +24,7 @@ pub mod PdbLines
 pub mod PlacedLaws
 pub mod PlainUnits
 pub mod Shown
+pub mod StreamNames
+pub mod UpperHex
 pub mod VerdictLines
 pub mod Versions

@@ -1,5 +1,6 @@
 //! What a CodeView record says, as pieces of lines.
-ghost use Rattle.std.specs.Prelude.{◌++◌, codes, length, refl, true};
+ghost use Rattle.std.specs.Prelude.{◌++◌, ◌≤◌, codes, length, refl, true};
+ghost use Rattle.uuid.specs.Text.{simple_text, upper};
 ghost use Rattle.mdmp_print.specs.PdbLines.{cut_text, debug_id, digits_text, guid_text};
 ghost use Rattle.mdmp_print.specs.Escapes.{escape-debug_id, escape-digits, escape-guid};
 
@@ -52,10 +53,29 @@ impl Piece for DebugId {
 
     #[inline(never)]
     fn write_at(&self, buffer: &mut [u8], at: usize) -> usize {
+        let at = GuidDigits(self.0).write_at(buffer, at);
+        upper_hex_at(buffer, at, self.1)
+    }
+}
+
+/// The 32 digits of an identity, in upper case.
+#[derive(Clone, Copy)]
+pub struct GuidDigits(pub [u8; 16]);
+
+impl Piece for GuidDigits {
+    ghost text = { λ p. simple_text upper p.0 };
+
+    ghost before = { λ p more. simple_text upper p.0 ++ more };
+
+    ghost most = { 32 };
+
+    ghost joined = { λ p more. refl };
+
+    #[inline(never)]
+    fn write_at(&self, buffer: &mut [u8], at: usize) -> usize {
         let mut text = Uuid::encode_buffer();
         let guid = Uuid::from_bytes(self.0).simple();
-        let at = slice_at(buffer, at, guid.encode_upper(&mut text).as_bytes());
-        upper_hex_at(buffer, at, self.1)
+        slice_at(buffer, at, guid.encode_upper(&mut text).as_bytes())
     }
 }
 
@@ -88,6 +108,35 @@ impl PlainPiece for Signature {
     ghost is_plain = { λ p. true };
 
     ghost same = { λ p plain. escape-digits p.0 };
+}
+
+/// The bytes of a build id.
+#[derive(Clone, Copy)]
+pub struct BuildDigits<'a> {
+    /// The bytes: at most 20.
+    pub bytes: &'a [u8],
+    ghost few: { length bytes.now ≤ 20 },
+}
+
+impl<'a> Piece for BuildDigits<'a> {
+    ghost text = { λ p. digits_text p.bytes.now };
+
+    ghost before = { λ p more. digits_text p.bytes.now ++ more };
+
+    ghost most = { 40 };
+
+    ghost joined = { λ p more. refl };
+
+    #[inline(never)]
+    fn write_at(&self, buffer: &mut [u8], at: usize) -> usize {
+        each_at::<u8, Hex2>(buffer, at, self.bytes)
+    }
+}
+
+impl<'a> PlainPiece for BuildDigits<'a> {
+    ghost is_plain = { λ p. true };
+
+    ghost same = { λ p plain. escape-digits p.bytes.now };
 }
 
 impl Element<u8> for Hex2 {

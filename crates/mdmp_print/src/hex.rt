@@ -1,10 +1,11 @@
 //! Numbers in hexadecimal digits.
-ghost use Rattle.std.specs.Prelude.{◌≡◌, ◌+◌, ◌≤◌, ◌<◌, ◌++◌, codes, length, refl, true};
+ghost use Rattle.std.specs.Prelude.{◌≡◌, ◌+◌, ◌%◌, ◌≤◌, ◌<◌, ◌++◌, codes, length, refl, true};
 ghost use Rattle.std.specs.Fmt.{digit_glyph, digits};
 ghost use Rattle.mdmp_wire.specs.Digits.{hex};
 ghost use Rattle.mdmp_print.specs.Buffer.{IsPutBehind};
 ghost use Rattle.mdmp_print.specs.Escapes.{escape-hex};
 ghost use Rattle.mdmp_print.specs.Shown.{both, escape-plain};
+ghost use Rattle.mdmp_print.specs.UpperHex.{upper_hex};
 
 use crate::fields::Value;
 use crate::in_buffer::{slice_at, text_at};
@@ -118,6 +119,55 @@ impl Piece for Hex8 {
     }
 }
 
+/// The last hexadecimal digit of a number, in upper case.
+fn upper_digit(number: u32) -> u8
+    ensures { result ≡ digit_glyph true (number % 16) }
+{
+    hex_digit(true, (number % 16) as u8)
+}
+
+/// The eight hexadecimal digits of a number, in upper case.
+#[tactic(auto, unfolding(crate::specs::UpperHex::upper_hex))]
+fn upper_digits(number: u32) -> [u8; 8]
+    ensures { result ≡ upper_hex 8 number }
+{
+    let seven = number / 16;
+    let six = seven / 16;
+    let five = six / 16;
+    let four = five / 16;
+    let three = four / 16;
+    let two = three / 16;
+    let one = two / 16;
+    [
+        upper_digit(one),
+        upper_digit(two),
+        upper_digit(three),
+        upper_digit(four),
+        upper_digit(five),
+        upper_digit(six),
+        upper_digit(seven),
+        upper_digit(number),
+    ]
+}
+
+/// A number in eight hexadecimal digits, in upper case.
+#[derive(Clone, Copy)]
+pub struct UpperHex8(pub u32);
+
+impl Piece for UpperHex8 {
+    ghost text = { λ p. upper_hex 8 p.0 };
+
+    ghost before = { λ p more. upper_hex 8 p.0 ++ more };
+
+    ghost most = { 8 };
+
+    ghost joined = { λ p more. refl };
+
+    fn write_at(&self, buffer: &mut [u8], at: usize) -> usize {
+        text_at(buffer, at, upper_digits(self.0))
+    }
+}
+
 /// A number in sixteen hexadecimal digits.
 #[derive(Clone, Copy)]
 pub struct Hex16(pub u64);
@@ -197,14 +247,23 @@ pub(crate) fn upper_hex_at(text: &mut [u8], len: usize, number: u32) -> usize
     requires { len + 8 ≤ length text.old }
     ensures { IsPutBehind text.old len (digits 16 true number) 8 text.new result }
 {
+    short_hex_at(text, len, true, number)
+}
+
+/// Puts a number in hexadecimal digits, in upper case or in lower and without zeros in front, behind the first `len`
+/// bytes.
+pub(crate) fn short_hex_at(text: &mut [u8], len: usize, upper: bool, number: u32) -> usize
+    requires { len + 8 ≤ length text.old }
+    ensures { IsPutBehind text.old len (digits 16 upper number) 8 text.new result }
+{
     let mut places = [0; 8];
     let mut first = 7;
     let mut left = number;
     while left >= 16 {
-        places[first] = hex_digit(true, (left % 16) as u8);
+        places[first] = hex_digit(upper, (left % 16) as u8);
         left /= 16;
         first -= 1;
     }
-    places[first] = hex_digit(true, left as u8);
+    places[first] = hex_digit(upper, left as u8);
     slice_at(text, len, &places[first..])
 }

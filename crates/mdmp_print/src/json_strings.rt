@@ -93,7 +93,7 @@ pub(crate) fn escape_char_at(text: &mut [u8], len: usize, character: char) -> us
 
 /// Bytes as a text, with U+FFFD for each part that is no UTF-8.
 #[derive(Drop)]
-pub(crate) struct LossyText<'a>(pub(crate) &'a [u8]);
+pub struct LossyText<'a>(pub &'a [u8]);
 
 impl<'a> LongText for LossyText<'a> {
     ghost text = { λ t. escape (utf8_lossy t.0.now) };

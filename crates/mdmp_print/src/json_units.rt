@@ -86,8 +86,9 @@ fn write_character(units: &UnitsRef<'_>, place: usize, buffer: &mut [u8], len: u
 
 /// Units as they stand in a string, with U+FFFD for each surrogate without its other half.
 #[derive(Clone, Copy)]
-pub(crate) struct Quoted<'a> {
-    pub(crate) units: UnitsRef<'a>,
+pub struct Quoted<'a> {
+    /// The units.
+    pub units: UnitsRef<'a>,
 }
 
 impl<'a> Parts for Quoted<'a> {

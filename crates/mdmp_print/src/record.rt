@@ -14,6 +14,7 @@ use crate::object_line::{print_object, print_object_around};
 use crate::printer::Printer;
 use crate::row;
 use crate::text::print_around;
+use crate::values::Members;
 use mdmp_lister::Name;
 use mdmp_source::OutFailed;
 
@@ -37,21 +38,28 @@ pub fn print_record<O: Printer, F: RecordFields + Drop, const N: usize>(
     }
 }
 
-/// Prints a record that has a name: its kind, its fields and its name.
+/// Prints a record that has a name: its kind, its fields and its name, and in an object the members behind the name.
 #[inline(always)]
-pub fn print_named_record<O: Printer, F: RecordFields + Drop, const N: usize, const K: usize>(
+pub fn print_named_record<
+    O: Printer,
+    F: RecordFields + Drop,
+    R: Members + Drop,
+    const N: usize,
+    const K: usize,
+>(
     form: LineForm,
     out: &mut O,
     kind: &[u8; N],
     fields: F,
     key: &[u8; K],
     name: &Name<'_>,
+    rest: R,
 ) -> Result<(), OutFailed>
-    requires fits { (N + (K + F.most) ≤ 900) × (N + (K + F.Members.most) ≤ 900) }
-    requires plain { (are_plain kind.now && (F.Members.is_plain (F.members_of fields) && are_plain key.now)) ≡ true }
+    requires fits { (N + (K + F.most) ≤ 900) × ((N + (K + F.Members.most) ≤ 900) × (R.most ≤ 900)) }
+    requires plain { (are_plain kind.now && (F.Members.is_plain (F.members_of fields) && (are_plain key.now && R.is_plain rest))) ≡ true }
     ensures { Puts result (O.state out.old)
         (in_form form (kind.now ++ F.before fields (codes " " ++ (key.now ++ (codes " " ++ (name_text name.now ++ codes "\n")))))
-        (object_line (line_tokens kind.now (F.Members.onto (F.members_of fields) (name_member key.now name.now ++ [])))))
+        (object_line (line_tokens kind.now (F.Members.onto (F.members_of fields) (name_member key.now name.now ++ R.onto rest [])))))
         (O.state out.new) }
 {
     match form {
@@ -62,7 +70,7 @@ pub fn print_named_record<O: Printer, F: RecordFields + Drop, const N: usize, co
             &row![b"\n"],
         ),
         LineForm::Json => {
-            print_object_around(out, kind, fields.members(), key, &NameValue(name), row![])
+            print_object_around(out, kind, fields.members(), key, &NameValue(name), rest)
         }
     }
 }

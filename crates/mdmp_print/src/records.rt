@@ -11,16 +11,19 @@ use crate::extent::{PartText, RangeText};
 use crate::fields::Field;
 use crate::form::LineForm;
 use crate::hex::{Hex8, Hex16, Prefixed};
+use crate::ids::{CodeIdMember, TypeName};
 use crate::printer::Printer;
 use crate::record::{print_named_record, print_record};
 use crate::stack::Stack;
+use crate::values::{InQuotes, JsonMember, NextMember};
 use crate::version::{Build, Version};
-use crate::{fields, fields_and_name};
+use crate::{fields, fields_and_name, row};
 use mdmp_lister::{
     ExceptionItem, MemoryInfoItem, ModuleItem, RangeItem, StreamItem, SystemItem, ThreadItem,
     ThreadNameItem, UnloadedItem,
 };
 use mdmp_source::OutFailed;
+use mdmp_summary::CodeId;
 
 /// Prints an entry of the directory.
 pub(crate) fn print_stream<O: Printer>(
@@ -40,6 +43,7 @@ pub(crate) fn print_stream<O: Printer>(
             Field(b"type", item.stream_type),
             Field(b"size", item.location.size),
             Field(b"rva", item.location.rva),
+            TypeName(item.stream_type),
         ],
     )
 }
@@ -99,6 +103,13 @@ pub(crate) fn print_module<O: Printer>(
         ],
         b"name",
         &item.name,
+        row![
+            CodeIdMember(CodeId::of_module(&item.fields)),
+            NextMember(JsonMember(
+                b"product_version",
+                InQuotes(Version(version.product_version_ms, version.product_version_ls))
+            )),
+        ],
     )
 }
 
@@ -185,6 +196,7 @@ pub(crate) fn print_unloaded<O: Printer>(
         ],
         b"name",
         &item.name,
+        row![],
     )
 }
 
@@ -207,6 +219,7 @@ pub(crate) fn print_thread_name<O: Printer>(
         ],
         b"name",
         &item.name,
+        row![],
     )
 }
 
@@ -276,5 +289,6 @@ pub(crate) fn print_system<O: Printer>(
         ],
         b"csd",
         &item.name,
+        row![],
     )
 }

@@ -1,22 +1,28 @@
 //! The line of the CodeView record of a module.
+ghost use Rattle.std.specs.Prelude.{◌≡◌, ◌≤◌, ℕ, List, [], Some, length, min};
 ghost use Rattle.mdmp_source.specs.Output.{Puts};
-ghost use Rattle.mdmp_wire.specs.CodeView.{Rsds, codeview_value};
+ghost use Rattle.mdmp_wire.specs.CodeView.{Other, Rsds, codeview_value};
+ghost use Rattle.mdmp_lister.specs.CodeView.{codeview_head, codeview_told};
+ghost use Rattle.mdmp_summary.specs.Identity.{build_id_in, build_id_value};
 ghost use Rattle.mdmp_print.specs.Forms.{pdb_line_in};
 ghost use Rattle.mdmp_print.specs.Json.{object_line};
 ghost use Rattle.mdmp_print.specs.JsonLines.{pdb_object};
 ghost use Rattle.mdmp_print.specs.PdbLines.{pdb_line};
 
 use crate::bytes::EscapedBytes;
-use crate::codeview::{Cut, DebugId, Guid, Signature};
+use crate::codeview::{BuildDigits, Cut, DebugId, Guid, Signature};
 use crate::entry::AtMembers;
 use crate::form::LineForm;
+use crate::ids::StampId;
 use crate::json_text::BytesValue;
 use crate::object_line::{print_object, print_object_around};
 use crate::printer::Printer;
 use crate::row;
 use crate::text::print_around;
 use crate::values::{InQuotes, JsonMember, NextMember, Word};
+use mdmp_lister::CodeViewBytes;
 use mdmp_source::OutFailed;
+use mdmp_summary::{BuildId, DebugIdentifier, Pdb20};
 use mdmp_wire::CodeView;
 
 /// The place of a module: the number of its entry, and its own in the stream.
@@ -32,13 +38,13 @@ pub struct ModulePlace {
 pub fn print_symbols<O: Printer>(
     form: LineForm,
     place: ModulePlace,
-    codeview: &CodeView<'_>,
+    codeview: &CodeViewBytes<'_>,
     out: &mut O,
 ) -> Result<(), OutFailed>
-    ensures { Puts result (O.state out.old) (pdb_line_in form place.entry place.index (codeview_value codeview.now)) (O.state out.new) }
+    ensures { Puts result (O.state out.old) (pdb_line_in form place.entry place.index (codeview_head codeview.now) (codeview_told codeview.now)) (O.state out.new) }
 {
     match form {
-        LineForm::Text => print_text(codeview, out),
+        LineForm::Text => print_text(&codeview.read(), out),
         LineForm::Json => print_json(place, codeview, out),
     }
 }
@@ -85,38 +91,96 @@ fn print_file<O: Printer>(
 
 fn print_json<O: Printer>(
     place: ModulePlace,
-    codeview: &CodeView<'_>,
+    codeview: &CodeViewBytes<'_>,
     out: &mut O,
 ) -> Result<(), OutFailed>
-    ensures { Puts result (O.state out.old) (object_line (pdb_object place.entry place.index (codeview_value codeview.now))) (O.state out.new) }
+    ensures { Puts result (O.state out.old) (object_line (pdb_object place.entry place.index (codeview_head codeview.now) (codeview_told codeview.now))) (O.state out.new) }
 {
-    match codeview {
+    let fetched = (codeview.size as usize).min(24);
+    let head = &codeview.head[..fetched];
+    match codeview.read() {
         CodeView::Rsds {
             guid,
             age,
             name,
             ended,
-        } => print_rsds(place, *guid.as_bytes(), *age, name, *ended, out),
-        CodeView::Other { signature, size } => print_object(
-            out,
-            b"pdb",
-            row![
-                AtMembers(place.entry, place.index),
-                NextMember(JsonMember(b"kind", Word(b"other"))),
-                NextMember(JsonMember(b"signature", InQuotes(Signature(*signature)))),
-                NextMember(JsonMember(b"size", *size)),
-            ],
-        ),
+        } => print_rsds(place, *guid.as_bytes(), age, name, ended, out),
+        CodeView::Other { signature, size } => print_other(place, head, signature, size, out),
         CodeView::Short { size } => print_object(
             out,
             b"pdb",
             row![
                 AtMembers(place.entry, place.index),
                 NextMember(JsonMember(b"kind", Word(b"short"))),
-                NextMember(JsonMember(b"size", *size)),
+                NextMember(JsonMember(b"size", size)),
             ],
         ),
     }
+}
+
+fn print_other<O: Printer>(
+    place: ModulePlace,
+    head: &[u8],
+    signature: [u8; 4],
+    size: u32,
+    out: &mut O,
+) -> Result<(), OutFailed>
+    requires { length head.now ≡ min size 24 }
+    ensures { Puts result (O.state out.old) (object_line (pdb_object place.entry place.index head.now (Other signature size))) (O.state out.new) }
+{
+    if let Some(id) = BuildId::read(head, size) {
+        return print_build_id(place, signature, size, &id, out);
+    }
+    match Pdb20::read(head, size) {
+        Some(pdb) => print_object(
+            out,
+            b"pdb",
+            row![
+                AtMembers(place.entry, place.index),
+                NextMember(JsonMember(b"kind", Word(b"other"))),
+                NextMember(JsonMember(b"signature", InQuotes(Signature(signature)))),
+                NextMember(JsonMember(b"size", size)),
+                NextMember(JsonMember(b"debug_id", InQuotes(StampId(pdb.time, pdb.age)))),
+            ],
+        ),
+        None => print_object(
+            out,
+            b"pdb",
+            row![
+                AtMembers(place.entry, place.index),
+                NextMember(JsonMember(b"kind", Word(b"other"))),
+                NextMember(JsonMember(b"signature", InQuotes(Signature(signature)))),
+                NextMember(JsonMember(b"size", size)),
+            ],
+        ),
+    }
+}
+
+fn print_build_id<O: Printer>(
+    place: ModulePlace,
+    signature: [u8; 4],
+    size: u32,
+    id: &BuildId<'_>,
+    out: &mut O,
+) -> Result<(), OutFailed>
+    requires { length id.now.bytes.now ≤ 20 }
+    ensures { (head : List ℕ) → build_id_in head size ≡ Some (build_id_value id.now)
+        → Puts result (O.state out.old) (object_line (pdb_object place.entry place.index head (Other signature size))) (O.state out.new) }
+{
+    let DebugIdentifier { guid, age } = DebugIdentifier::of_build_id(id.bytes);
+    print_object(
+        out,
+        b"pdb",
+        row![
+            AtMembers(place.entry, place.index),
+            NextMember(JsonMember(b"kind", Word(b"other"))),
+            NextMember(JsonMember(b"signature", InQuotes(Signature(signature)))),
+            NextMember(JsonMember(b"size", size)),
+            NextMember(JsonMember(b"build_id", InQuotes(BuildDigits { bytes: id.bytes }))),
+            NextMember(JsonMember(b"build_id_cut", id.cut)),
+            NextMember(JsonMember(b"debug_id", InQuotes(DebugId(*guid.as_bytes(), age)))),
+        ],
+    )
 }
 
 fn print_rsds<O: Printer>(
@@ -127,7 +191,7 @@ fn print_rsds<O: Printer>(
     ended: bool,
     out: &mut O,
 ) -> Result<(), OutFailed>
-    ensures { Puts result (O.state out.old) (object_line (pdb_object place.entry place.index (Rsds guid age name.now ended))) (O.state out.new) }
+    ensures { Puts result (O.state out.old) (object_line (pdb_object place.entry place.index [] (Rsds guid age name.now ended))) (O.state out.new) }
 {
     print_object_around(
         out,

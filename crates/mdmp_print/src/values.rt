@@ -97,11 +97,11 @@ impl Json for bool {
     ghost shown = { λ b plain. IsPrinted-boolean b };
 }
 
-/// A string.
+/// A text between double quotes: a string, if the text stands in a string as it is.
 #[derive(Clone, Copy)]
 pub struct InQuotes<P>(pub P);
 
-impl<P: PlainPiece> Piece for InQuotes<P> {
+impl<P: Piece> Piece for InQuotes<P> {
     ghost text = { λ p. in_quotes (P.text p.0) };
 
     ghost before = { λ p more. (in_quotes (P.text p.0)) ++ more };

@@ -3,7 +3,7 @@ use Rattle.std.proofs.lemmas.Result.{MatchResult-from_err}
 use Rattle.std.proofs.lemmas.Str.{utf8_lossy_empty}
 use Rattle.json.specs.Print.{escape}
 use Rattle.mdmp_print.proofs.Bytewise.{chunk-begins, chunk-last, chunk-next, replacement}
-use Rattle.mdmp_print.proofs.LeftLemmas.{IsUnprinted-all, IsUnprinted-next, IsUnprinted-none, IsUnprinted-stopped, PutsAll-as, PutsPrefix-as}
+use Rattle.mdmp_print.proofs.LeftLemmas.{IsUnprinted-next, IsUnprinted-none, IsUnprinted-stopped, PutsAll-as, PutsPrefix-as}
 use Rattle.mdmp_print.proofs.json_strings.LossyTextLongText.print.Goals as goal
 
 pub returns-in_err-print_parts : goal.returns-in_err-print_parts

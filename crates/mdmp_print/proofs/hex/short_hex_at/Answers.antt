@@ -1,9 +1,9 @@
-use Rattle.std.proofs.Common.{◌∙◌, ◌∷◌, ◌+◌, ◌-◌, ◌/◌, ◌<◌, ℕ, true, ap, arith, drop, length, length-drop, length-set, length-take, take, ◌≤◌, refl, slice_set, sym, take_all}
+use Rattle.std.proofs.Common.{◌∙◌, ◌∷◌, ◌+◌, ◌-◌, ◌/◌, ◌<◌, ℕ, ap, arith, drop, length, length-drop, length-set, length-take, take, ◌≤◌, refl, slice_set, sym, take_all}
 use Rattle.std.specs.Fmt.{digits, digits_onto}
 use Rattle.std.proofs.lemmas.Grind.{drop-set_at}
 use Rattle.mdmp_print.proofs.BufferLemmas.{IsPutBehind-as}
 use Rattle.mdmp_print.proofs.Sixteens.{less-places, more-places, onto-last, onto-more}
-use Rattle.mdmp_print.proofs.hex.upper_hex_at.Goals as goal
+use Rattle.mdmp_print.proofs.hex.short_hex_at.Goals as goal
 
 pub loop-left-init : goal.loop-left-init
 unfolding digits
@@ -19,8 +19,8 @@ loop-left-preserved c =
       inside = omega (arith, l.invariant.inside);
       room = less-places l.first l.left some l.invariant.room;
       written =
-          ap (digits_onto (l.first - 1 + 57) 16 true (l.left / 16)) (digit ∙ ap (λ (d : ℕ). d ∷ drop (l.first + 1) l.places) c.hex_digit.ensures)
-          ∙ sym (onto-more 56 true l.first l.left (drop (l.first + 1) l.places) some c.loop-left-test.true)
+          ap (digits_onto (l.first - 1 + 57) 16 c.args.upper (l.left / 16)) (digit ∙ ap (λ (d : ℕ). d ∷ drop (l.first + 1) l.places) c.hex_digit.ensures)
+          ∙ sym (onto-more 56 c.args.upper l.first l.left (drop (l.first + 1) l.places) some c.loop-left-test.true)
           ∙ l.invariant.written;
     }
 
@@ -31,7 +31,7 @@ returns c =
     let text =
     drop-set_at l.places l.first l.first c.hex_digit-2.result refl (omega (arith, l.invariant.inside, l.invariant.long))
     ∙ ap (λ (d : ℕ). d ∷ drop (l.first + 1) l.places) c.hex_digit-2.ensures
-    ∙ sym (onto-last 56 true l.first l.left (drop (l.first + 1) l.places) few)
+    ∙ sym (onto-last 56 c.args.upper l.first l.left (drop (l.first + 1) l.places) few)
     ∙ l.invariant.written in
     let put = slice_set l.places l.first c.hex_digit-2.result in
     let all = take_all (8 - l.first) (drop l.first put)
