@@ -1,5 +1,5 @@
 -- Each object of a file of bytes may stand on a line of JSON Lines.
-use Rattle.std.proofs.Common.{◌≡◌, ℕ, ◌+◌, ◌-◌, ◌<◌, ◌^◌, ◌==◌, ◌||◌, ◌&&◌, Bool, true, false, cond, not, min, nat_lt, List, take_while, refl, arith, codes}
+use Rattle.std.proofs.Common.{◌≡◌, ℕ, ◌+◌, ◌-◌, ◌<◌, ◌^◌, ◌==◌, ◌||◌, ◌&&◌, Bool, true, false, cond, not, min, nat_lt, List, Option, Some, None, take_while, refl, arith, codes}
 use Rattle.std.specs.List.{list_any}
 use Rattle.uuid.specs.Parts.{swap_fields}
 use Rattle.mdmp_source.specs.Store.{AreBytes}
@@ -17,6 +17,8 @@ use Rattle.mdmp_wire.specs.System.{system_at}
 use Rattle.mdmp_wire.specs.Thread.{thread_at}
 use Rattle.mdmp_wire.specs.ThreadName.{thread_name_at}
 use Rattle.mdmp_wire.specs.Unloaded.{unloaded_at}
+use Rattle.mdmp_names.specs.StreamTypes.{stream_name}
+use Rattle.mdmp_lister.specs.CodeView.{codeview_head_of}
 use Rattle.mdmp_lister.specs.Format.Item.{exception_item, item_of, memory_info_item, module_item, range64_item, range_item, record_at, system_item, thread_item, thread_name_item, unloaded_item}
 use Rattle.mdmp_lister.specs.declared.item.ExceptionItem.{ExceptionItem}
 use Rattle.mdmp_lister.specs.declared.item.Item.TheVariants as items
@@ -28,10 +30,13 @@ use Rattle.mdmp_lister.specs.declared.kind.StreamKind.{StreamKind}
 use Rattle.mdmp_lister.specs.declared.kind.StreamKind.TheVariants as kinds
 use Rattle.mdmp_lister.specs.declared.name.Name.{Name}
 use Rattle.mdmp_lister.specs.declared.verdict.Verdict.{Verdict}
+use Rattle.mdmp_summary.specs.Identity.{BuildIdValue, build_id_in, code_id_of, debug_id_built, pdb20_in}
+use Rattle.mdmp_summary.specs.declared.identity.Pdb20.{Pdb20}
 use Rattle.mdmp_engines.specs.JsonLaws.{IsJsonLine}
-use Rattle.mdmp_print.specs.JsonLines.{dump_members, dump_object, exception_members, item_object, module_members, pdb_members, pdb_object, range_members, region_members, stream_members, system_members, thread_members, thread_name_members, unloaded_members, verdict_members, verdict_object}
-use Rattle.mdmp_engines.proofs.JsonPlain.{bytes-plain, debug_id-plain, four-plain, guid-plain, three-plain}
-use Rattle.mdmp_engines.proofs.JsonReads.{IsTold, ◌&◌, is_line, number, of-bytes, of-hex, of-name, of-values, of-verdict, part, plain, placed-wide, stack, truth, wide, words}
+use Rattle.mdmp_print.specs.Ids.{pe_id_of}
+use Rattle.mdmp_print.specs.JsonLines.{dump_members, dump_object, exception_members, item_object, module_members, other_ids, pdb_members, pdb_object, range_members, region_members, stream_members, system_members, thread_members, thread_name_members, unloaded_members, verdict_members, verdict_object}
+use Rattle.mdmp_engines.proofs.JsonPlain.{bytes-plain, code_id-utf8, debug_id-plain, four-plain, guid-plain, stamp_id-plain, stream_name-utf8, three-plain}
+use Rattle.mdmp_engines.proofs.JsonReads.{AreAll, IsTold, ◌&◌, is_line, number, of-bytes, of-hex, of-name, of-values, of-verdict, or_null, part, plain, placed-wide, stack, truth, wide, words}
 use Rattle.mdmp_engines.proofs.JsonStrings.{array-bytes}
 
 pub verdict-line : (v : Verdict) → v.entry < 2 ^ 64 → IsJsonLine (verdict_object v)
@@ -42,7 +47,8 @@ verdict-line v s = is_line (verdict_members v) (
 pub stream-line : (x : StreamItem) → x.entry < 2 ^ 64 → x.stream_type < 2 ^ 64 → x.location.size < 2 ^ 64 → x.location.rva < 2 ^ 64 → IsJsonLine (item_object (items.Stream x))
 stream-line x e t s r =
     is_line (stream_members x) (
-    words 1 _ _ refl refl & number 1 _ _ refl e & number 1 _ _ refl t & number 1 _ _ refl s & number 1 _ _ refl r & tt)
+    words 1 _ _ refl refl & number 1 _ _ refl e & number 1 _ _ refl t & number 1 _ _ refl s & number 1 _ _ refl r
+    & or_null 1 (codes "name") (stream_name x.stream_type) refl (stream_name-utf8 x.stream_type) & tt)
 
 module _ (F : List ℕ) (bytes : AreBytes F) where
   at1 : (o : ℕ) → number_at F o 1 < 2 ^ 64
@@ -82,7 +88,9 @@ module _ (F : List ℕ) (bytes : AreBytes F) where
         & number 1 _ _ refl (at4 _) & number 1 _ _ refl (at4 _) & plain 1 _ _ refl (four-plain _ _ _ _)
         & part (codes "cv") x.codeview x.fields.cv_record.size x.fields.cv_record.rva refl (at4 _) (at4 _)
         & part (codes "misc") x.misc x.fields.misc_record.size x.fields.misc_record.rva refl (at4 _) (at4 _)
-        & of-name (codes "name") name refl told & tt)
+        & of-name (codes "name") name refl told
+        & or_null 1 (codes "code_id") (pe_id_of (code_id_of x.fields)) refl (code_id-utf8 (code_id_of x.fields))
+        & plain 1 _ _ refl (four-plain _ _ _ _) & tt)
 
     unloaded-line : (name : Name) → IsTold name → IsJsonLine (item_object (items.Unloaded (unloaded_item e k (unloaded_at F o) name)))
     unloaded-line name told =
@@ -146,18 +154,27 @@ IsSmallView (Rsds guid age name ended) = age < 2 ^ 64
 IsSmallView (Other signature size) = size < 2 ^ 64
 IsSmallView (Short size) = size < 2 ^ 64
 
-view-line : (entry index : ℕ) (told : CodeViewValue) → entry < 2 ^ 64 → index < 2 ^ 64 → IsSmallView told → IsJsonLine (pdb_object entry index told)
-view-line entry index (Rsds guid age name ended) e i s =
-    is_line (pdb_members entry index (Rsds guid age name ended)) (
+-- the ids in a record of another kind
+others : (id : Option BuildIdValue) (pdb : Option Pdb20) → AreAll 1 (other_ids id pdb)
+others (Some id) pdb =
+    plain 1 _ _ refl (bytes-plain id.bytes) & truth 1 (codes "build_id_cut") id.cut refl
+    & plain 1 _ _ refl (debug_id-plain (debug_id_built id.bytes).guid (debug_id_built id.bytes).age) & tt
+others None (Some pdb) = plain 1 _ _ refl (stamp_id-plain pdb.time pdb.age) & tt
+others None None = tt
+
+view-line : (entry index : ℕ) (head : List ℕ) (told : CodeViewValue) → entry < 2 ^ 64 → index < 2 ^ 64 → IsSmallView told
+    → IsJsonLine (pdb_object entry index head told)
+view-line entry index head (Rsds guid age name ended) e i s =
+    is_line (pdb_members entry index head (Rsds guid age name ended)) (
     words 1 _ _ refl refl & number 1 _ _ refl e & number 1 _ _ refl i & words 1 _ _ refl refl
     & plain 1 _ _ refl (guid-plain guid) & number 1 _ _ refl s & plain 1 _ _ refl (debug_id-plain guid age)
     & of-bytes 1 (codes "name") name refl & truth 1 (codes "cut") (not ended) refl & tt)
-view-line entry index (Other signature size) e i s =
-    is_line (pdb_members entry index (Other signature size)) (
+view-line entry index head (Other signature size) e i s =
+    is_line (pdb_members entry index head (Other signature size)) (
     words 1 _ _ refl refl & number 1 _ _ refl e & number 1 _ _ refl i & words 1 _ _ refl refl
-    & plain 1 _ _ refl (bytes-plain signature) & number 1 _ _ refl s & tt)
-view-line entry index (Short size) e i s =
-    is_line (pdb_members entry index (Short size)) (
+    & plain 1 _ _ refl (bytes-plain signature) & number 1 _ _ refl s & others (build_id_in head size) (pdb20_in head size))
+view-line entry index head (Short size) e i s =
+    is_line (pdb_members entry index head (Short size)) (
     words 1 _ _ refl refl & number 1 _ _ refl e & number 1 _ _ refl i & words 1 _ _ refl refl & number 1 _ _ refl s & tt)
 
 small : (short other : Bool) (size age : ℕ) (signature guid name : List ℕ) (ended : Bool) → size < 2 ^ 64 → age < 2 ^ 64
@@ -173,6 +190,6 @@ small_in head rest size bytes s =
     (take_while (λ b. not (b == 0)) rest) (list_any (λ b. b == 0) rest) s (at4 head bytes 20)
 
 pub pdb-line : (F : List ℕ) → AreBytes F → (entry index limit : ℕ) (at : Location) → entry < 2 ^ 64 → index < 2 ^ 64 → at.size < 2 ^ 64
-    → IsJsonLine (pdb_object entry index (codeview_of F at limit))
+    → IsJsonLine (pdb_object entry index (codeview_head_of F at) (codeview_of F at limit))
 pdb-line F bytes entry index limit at e i s =
-    view-line entry index (codeview_of F at limit) e i (small_in (array_at F at.rva (min at.size 24)) (array_at F (at.rva + 24) (min (at.size - 24) limit)) at.size (array-bytes F at.rva (min at.size 24) bytes) s)
+    view-line entry index (codeview_head_of F at) (codeview_of F at limit) e i (small_in (array_at F at.rva (min at.size 24)) (array_at F (at.rva + 24) (min (at.size - 24) limit)) at.size (array-bytes F at.rva (min at.size 24) bytes) s)

@@ -1,17 +1,23 @@
 -- Texts of printable ASCII: they are UTF-8, and have no line feed.
-use Rattle.std.proofs.Common.{◌≡◌, ◌≢◌, ℕ, zero, suc, ◌+◌, ◌-◌, ◌/◌, ◌%◌, ◌<◌, ◌≤◌, Bool, true, false, cond, ◌&&◌, ◌==◌, nat_lt, List, [], ◌∷◌, ◌++◌, IsUtf8, refl, arith, codes, decimal}
+use Rattle.std.proofs.Common.{◌≡◌, ◌≢◌, ℕ, zero, suc, ◌+◌, ◌-◌, ◌/◌, ◌%◌, ◌<◌, ◌≤◌, Bool, true, false, cond, not, ◌&&◌, ◌==◌, nat_le, nat_lt, List, [], ◌∷◌, ◌++◌, Option, Some, None, IfSome, IsUtf8, refl, arith, codes, decimal}
 use Rattle.std.specs.List.{All, concat}
 use Rattle.std.specs.Fmt.{digit_glyph, digits, digits_onto}
 use Rattle.std.specs.Str.{IsAscii}
-use Rattle.std.proofs.lemmas.Bool.{and_parts}
+use Rattle.std.proofs.lemmas.Bool.{and_parts, leb-true}
 use Rattle.std.proofs.lemmas.List.Elements.{All-append, All-cons, All-nil, All-weaker}
 use Rattle.std.proofs.lemmas.Str.{IsUtf8-from_ascii}
 use Rattle.std.proofs.Common.{ltb-true}
 use Rattle.uuid.specs.Text.{by_index, digit_place, hex_digit, hyphen, hyphenated_text, is_hyphen_place, lower, nibble, simple_text, upper}
 use Rattle.mdmp_wire.specs.Digits.{hex}
+use Rattle.mdmp_names.specs.StreamTypes.{stream_name}
+use Rattle.mdmp_summary.specs.declared.identity.CodeId.{CodeId}
+use Rattle.mdmp_print.specs.Ids.{pe_id_of, stamp_id}
 use Rattle.mdmp_print.specs.Json.{prefixed_hex}
 use Rattle.mdmp_print.specs.JsonLines.{point}
 use Rattle.mdmp_print.specs.PdbLines.{debug_id, digits_text}
+use Rattle.mdmp_print.specs.Shown.{is_plain_byte}
+use Rattle.mdmp_print.specs.StreamNames.{is_word, stream_name-word}
+use Rattle.mdmp_print.specs.UpperHex.{upper_hex}
 
 -- a character of ASCII that is printed
 abbrev pub IsPlain : ℕ → Type 0
@@ -115,6 +121,36 @@ bytes-plain (b ∷ bytes) = both-plain (hex 2 b) _ (hex-plain 2 b) (bytes-plain 
 
 pub debug_id-plain : (guid : List ℕ) (age : ℕ) → ArePlain (debug_id guid age)
 debug_id-plain guid age = both-plain (simple_text upper guid) (digits 16 true age) (simple-plain guid) (digits-plain 16 (omega arith) (omega arith) true age)
+
+pub upper_hex-plain : (k n : ℕ) → ArePlain (upper_hex k n)
+unfolding upper_hex
+upper_hex-plain zero n = All-nil IsPlain
+upper_hex-plain (suc k) n = both-plain (upper_hex k (n / 16)) _ (upper_hex-plain k (n / 16)) (one-plain _ (glyph-plain true (n % 16) (omega arith)))
+
+pub stamp_id-plain : (time n : ℕ) → ArePlain (stamp_id time n)
+stamp_id-plain time n = both-plain (upper_hex 8 time) (digits 16 false n) (upper_hex-plain 8 time) (digits-plain 16 (omega arith) (omega arith) false n)
+
+-- the code id of a module, if it has one
+pub code_id-utf8 : (id : Option CodeId) → IfSome (pe_id_of id) IsUtf8
+code_id-utf8 None = tt
+code_id-utf8 (Some id) = plain-utf8 _ (stamp_id-plain id.time_date_stamp id.size_of_image)
+
+-- ---- names of types of streams
+
+named-plain : (s : List ℕ) → is_word s ≡ true → ArePlain s
+named-plain [] e = All-nil IsPlain
+named-plain (c ∷ s) e =
+    let parts = and_parts (is_plain_byte c && nat_lt c 128) (is_word s) e in
+    let byte = and_parts (is_plain_byte c) (nat_lt c 128) parts.0 in
+    let above : 35 ≤ c = leb-true 35 c (and_parts (nat_le 35 c) (not (c == 92)) byte.0).0 in
+    All-cons IsPlain c s (omega arith, ltb-true c 128 byte.1) (named-plain s parts.1)
+
+named-utf8 : (name : Option (List ℕ)) → IfSome name (λ s. is_word s ≡ true) → IfSome name IsUtf8
+named-utf8 None word = tt
+named-utf8 (Some s) word = plain-utf8 s (named-plain s word)
+
+pub stream_name-utf8 : (n : ℕ) → IfSome (stream_name n) IsUtf8
+stream_name-utf8 n = named-utf8 (stream_name n) (stream_name-word n)
 
 -- ---- versions
 

@@ -1,5 +1,5 @@
 -- What each member of an object is read back as, and that its text is UTF-8 and has no line feed.
-use Rattle.std.proofs.Common.{◌≡◌, ◌∙◌, ℕ, suc, ◌<◌, ◌≤◌, ◌^◌, Bool, true, false, not, List, [], ◌∷◌, ◌++◌, Option, Some, None, IsUtf8, refl, sym, ap, ap₂, arith, map, take, min, codes, append_assoc, append-nil, decimal}
+use Rattle.std.proofs.Common.{◌≡◌, ◌∙◌, ℕ, suc, ◌<◌, ◌≤◌, ◌^◌, Bool, true, false, not, List, [], ◌∷◌, ◌++◌, Option, Some, None, IfSome, IsUtf8, refl, sym, ap, ap₂, arith, map, take, min, codes, append_assoc, append-nil, decimal}
 use Rattle.std.specs.Char.Utf16.{has_unpaired_surrogate}
 use Rattle.std.specs.Str.{is_utf8}
 use Rattle.std.specs.Str.Lossy.{utf8_lossy}
@@ -16,7 +16,7 @@ use Rattle.mdmp_wire.specs.Units.{units_in, utf8_of}
 use Rattle.mdmp_lister.specs.declared.name.Name.{Name}
 use Rattle.mdmp_lister.specs.declared.name.Name.TheVariants.{Units, Long}
 use Rattle.mdmp_lister.specs.declared.name.Name.TheVariants as names
-use Rattle.mdmp_print.specs.Json.{bytes_value, hex_string, joined_members, lossy_member, name_value, object, of_hex, of_number, of_object, of_text, of_wide, part_members, prefixed_hex, spelled, values_of}
+use Rattle.mdmp_print.specs.Json.{bytes_value, hex_string, joined_members, lossy_member, name_value, object, of_hex, of_number, of_object, of_text, of_wide, part_members, prefixed_hex, spelled, text_or_null, values_of}
 use Rattle.mdmp_engines.specs.JsonLaws.{IsJsonLine}
 use Rattle.mdmp_print.specs.JsonLines.{fault_value, record_member}
 use Rattle.mdmp_print.specs.FaultWords.{kind_words}
@@ -153,6 +153,10 @@ module _ (d : ℕ) where
 
   pub nothing : (name : List ℕ) → are_plain name ≡ true → AreMembers d (Token.key name ∷ Token.null ∷ [])
   nothing name w = of-value name (Token.null ∷ []) w (record { value = tree.null; tokens = refl; numbers = tt; shallow = omega arith; fit = (tt, tt) })
+
+  pub or_null : (name : List ℕ) (s : Option (List ℕ)) → are_plain name ≡ true → IfSome s IsUtf8 → AreMembers d (Token.key name ∷ text_or_null s)
+  or_null name None w u = nothing name w
+  or_null name (Some s) w u = text name s w u
 
   -- a part, whose size and offset are members of either form
   placed : (of : List ℕ → ℕ → List Token) (e : Extent) (size offset : ℕ) → AreMembers d (of (codes "size") size) → AreMembers d (of (codes "offset") offset)

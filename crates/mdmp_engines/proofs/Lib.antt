@@ -5,6 +5,7 @@ pub mod CopyRows
 pub mod Copying
 pub mod Dropping
 pub mod Engining
+pub mod HeadNames
 pub mod Hexing
 pub mod JsonClean
 pub mod JsonListings
@@ -16,6 +17,11 @@ pub mod JsonReads
 pub mod JsonStrings
 pub mod Listings
 pub mod NamesRead
+pub mod ObjectIds
+pub mod ObjectNames
+pub mod ObjectPasses
+pub mod Objects
+pub mod ObjectsTold
 pub mod PartsChecking
 pub mod PlainLines
 pub mod Printing

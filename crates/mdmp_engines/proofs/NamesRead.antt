@@ -27,19 +27,17 @@ pub some_known : (P : List ℕ → Type 0) (F : List ℕ) (content : Option (Lis
 some_known P F content known is = subst (λ (x : Option (List ℕ)). IfSome x P) known is
 
 -- the length that was read
-pub length_read : (F head : List ℕ) (content : Option (List ℕ)) (rva n : ℕ) → content ≡ Some F → n ≡ number_at head 0 4
-    → IfSome content (λ (f : List ℕ). head ≡ bytes_at f rva (length head)) → length head ≡ 4 → n ≡ number_at F rva 4
-length_read F head content rva n known is bytes four =
-    let stand : head ≡ bytes_at F rva 4 = some_known (λ (f : List ℕ). head ≡ bytes_at f rva (length head)) F content known bytes ∙ ap (bytes_at F rva) four in
+pub length_read : (F head : List ℕ) (rva n : ℕ) → n ≡ number_at head 0 4 → head ≡ bytes_at F rva (length head) → length head ≡ 4 → n ≡ number_at F rva 4
+length_read F head rva n is bytes four =
+    let stand : head ≡ bytes_at F rva 4 = bytes ∙ ap (bytes_at F rva) four in
     is ∙ ap (λ (h : List ℕ). number_at h 0 4) stand ∙ number_at-part 4 rva 4 F (omega arith)
 
 -- the units that were read, in front of the rest of their list
-pub units_read : (F out rest : List ℕ) (content : Option (List ℕ)) (at n m : ℕ) → content ≡ Some F
-    → IfSome content (λ (f : List ℕ). out ≡ bytes_at f at (length out)) → length out ≡ n → m ≡ n → take m (out ++ rest) ≡ array_at F at n
+pub units_read : (F out rest : List ℕ) (at n m : ℕ) → out ≡ bytes_at F at (length out) → length out ≡ n → m ≡ n → take m (out ++ rest) ≡ array_at F at n
 unfolding array_at
-units_read F out rest content at n m known bytes size same =
+units_read F out rest at n m bytes size same =
     ap (λ (k : ℕ). take k (out ++ rest)) (same ∙ sym size) ∙ take-append_seam out rest
-    ∙ some_known (λ (f : List ℕ). out ≡ bytes_at f at (length out)) F content known bytes ∙ ap (bytes_at F at) size
+    ∙ bytes ∙ ap (bytes_at F at) size
 
 -- ---- the name, by its tests
 

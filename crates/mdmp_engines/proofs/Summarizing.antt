@@ -73,29 +73,29 @@ good-opening opening.Memory never = tt
 good-opening (opening.MemoryLimit held) never = tt
 good-opening fault never = tt
 
-good-kind : (kind : FaultKind) (f : ListFault) → (IsOfStore kind → ⊥) → IsNoSourceFault {T = ℕ} (Err (told_by kind f))
-good-kind (kinds.Source fault) f never = never tt
-good-kind kinds.Budget f never = tt
-good-kind kind f never = tt
+pub good-kind : (T : Type 0) (kind : FaultKind) (f : ListFault) → (IsOfStore kind → ⊥) → IsNoSourceFault {T = T} (Err (told_by kind f))
+good-kind T (kinds.Source fault) f never = never tt
+good-kind T kinds.Budget f never = tt
+good-kind T kind f never = tt
 
 unread-kind : (kind : FaultKind) (f : ListFault) → IsUnobtained kind → IsUnreadFault (told_by kind f)
 unread-kind (kinds.Source fault) f is = tt
 unread-kind kinds.Budget f is = tt
 unread-kind kind f is = absurd is
 
-cause-kind : (first : SourceState) (old new : ListerState) (kind : FaultKind) (f : ListFault) → FetchesSome first old.source
-    → IsToldByFetch new.current kind old.source new.source → TellsNoChange kind → HasSourceCause {T = ℕ} first (Err (told_by kind f)) new.source
-cause-kind first old new (kinds.Source (Failed at)) f fetches told same = told_later (Failed at) fetches.count first old.source new.source fetches.fetches told
-cause-kind first old new (kinds.Source (ShortRead at)) f fetches told same = told_later (ShortRead at) fetches.count first old.source new.source fetches.fetches told
-cause-kind first old new (kinds.Source (Changed at)) f fetches told same = absurd same
-cause-kind first old new kinds.Budget f fetches told same = tt
-cause-kind first old new kind f fetches told same = tt
+pub cause-kind : (T : Type 0) (first : SourceState) (old new : ListerState) (kind : FaultKind) (f : ListFault) → FetchesSome first old.source
+    → IsToldByFetch new.current kind old.source new.source → TellsNoChange kind → HasSourceCause {T = T} first (Err (told_by kind f)) new.source
+cause-kind T first old new (kinds.Source (Failed at)) f fetches told same = told_later (Failed at) fetches.count first old.source new.source fetches.fetches told
+cause-kind T first old new (kinds.Source (ShortRead at)) f fetches told same = told_later (ShortRead at) fetches.count first old.source new.source fetches.fetches told
+cause-kind T first old new (kinds.Source (Changed at)) f fetches told same = absurd same
+cause-kind T first old new kinds.Budget f fetches told same = tt
+cause-kind T first old new kind f fetches told same = tt
 
 -- ---- a file whose bytes were not all read
 
 pub good-unread : (fault : SummaryFault) → (IsUnreadIn fault → ⊥) → IsNoSourceFault {T = ℕ} (Err (summary_told fault))
 good-unread (faults.Opening fault) never = good-opening fault never
-good-unread (faults.List f) never = good-kind f.kind f never
+good-unread (faults.List f) never = good-kind ℕ f.kind f never
 good-unread (faults.Source fault) never = never tt
 
 pub is_unread : (old new : ListerState) (fault : SummaryFault) → IsCallFault old new fault → IsUnreadFault (summary_told fault)
@@ -106,7 +106,7 @@ is_unread old new (faults.Source fault) told = tt
 pub cause-unread : (first : SourceState) (old new : ListerState) (fault : SummaryFault) → FetchesSome first old.source → IsCallFault old new fault
     → HasSourceCause {T = ℕ} first (Err (summary_told fault)) new.source
 cause-unread first old new (faults.Opening fault) fetches told = absurd told
-cause-unread first old new (faults.List f) fetches told = cause-kind first old new f.kind f fetches told.look.told.by told.look.unchanged
+cause-unread first old new (faults.List f) fetches told = cause-kind ℕ first old new f.kind f fetches told.look.told.by told.look.unchanged
 cause-unread first old new (faults.Source fault) fetches told = last_told fault first new.source (told_later fault fetches.count first old.source new.source fetches.fetches told)
 
 -- ---- a file whose names were read, or not

@@ -178,7 +178,7 @@ IsBehindNext-aside u v w x stands stays = record {
 
 -- ---- behind some fetches
 
-cause_then : {T : Type 0} (n : ℕ) (a b c : SourceState) (r : Result T ToolFault) → FetchesAtMost n a b → HasSourceCause b r c → HasSourceCause a r c
+pub cause_then : {T : Type 0} (n : ℕ) (a b c : SourceState) (r : Result T ToolFault) → FetchesAtMost n a b → HasSourceCause b r c → HasSourceCause a r c
 cause_then n a b c (Ok x) fetches cause = tt
 cause_then n a b c (Err (Source (Changed at))) fetches cause = sym fetches.same_content ∙ cause
 cause_then n a b c (Err (Source (Failed at))) fetches cause = told_later (Failed at) n a b c fetches cause

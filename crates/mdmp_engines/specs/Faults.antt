@@ -2,8 +2,8 @@
 use Rattle.std.specs.Prelude.{ℕ, List, [], ◌∷◌, codes}
 use Rattle.std.specs.List.{concat}
 use Rattle.std.specs.Fmt.{decimal}
-use Rattle.mdmp_dump.specs.declared.fault.PartName.{PartName}
-use Rattle.mdmp_dump.specs.declared.fault.PartName.TheVariants as parts
+use Rattle.mdmp_wire.specs.declared.slot.PartName.{PartName}
+use Rattle.mdmp_wire.specs.declared.slot.PartName.TheVariants as parts
 use Rattle.mdmp_dump.specs.declared.fault.ReadFault.{ReadFault}
 use Rattle.mdmp_dump.specs.declared.fault.ReadFault.TheVariants as reading
 use Rattle.mdmp_summary.specs.declared.part.PartKind.{PartKind}

@@ -11,6 +11,7 @@ use Rattle.mdmp_wire.specs.Header.{header_at}
 use Rattle.mdmp_lister.specs.declared.choice.Choice.TheVariants.{All as EveryType}
 use Rattle.mdmp_lister.specs.declared.fault.OpenFault.{OpenFault}
 use Rattle.mdmp_lister.specs.declared.item.Item.{Item}
+use Rattle.mdmp_lister.specs.CodeView.{codeview_head_of}
 use Rattle.mdmp_lister.specs.Format.Listing.{listing, verdicts}
 use Rattle.mdmp_lister.specs.Format.Refusal.{opening_fault}
 use Rattle.mdmp_summary.specs.CheckRows.{check_rows}
@@ -47,7 +48,7 @@ objects_unless_refused (Some fault) objects = []
 -- that of a CodeView record of F, of whose name at most `limit` bytes are fetched
 abbrev pub symbols_objects : List ℕ → ℕ → Option ModuleSymbols → List (List Token)
 symbols_objects F limit None = []
-symbols_objects F limit (Some of) = pdb_object of.place.entry of.place.index (codeview_of F of.location limit) ∷ []
+symbols_objects F limit (Some of) = pdb_object of.place.entry of.place.index (codeview_head_of F of.location) (codeview_of F of.location limit) ∷ []
 
 -- that of an item, and behind it that of its CodeView record
 abbrev pub item_objects : Bool → List ℕ → ℕ → Item → List (List Token)

@@ -6,6 +6,7 @@ use Rattle.mdmp_wire.specs.declared.module.ModuleRecord.{ModuleRecord}
 use Rattle.mdmp_wire.specs.declared.thread_name.ThreadNameRecord.{ThreadNameRecord}
 use Rattle.mdmp_lister.specs.Format.Name.{name_at, plain_name}
 use Rattle.mdmp_lister.specs.declared.fault.Fault.{Fault}
+use Rattle.mdmp_lister.specs.declared.meter.Amount.{Amount}
 use Rattle.mdmp_lister.specs.declared.name.Name.{Name}
 use Rattle.mdmp_lister.specs.declared.name.Name.TheVariants as names
 use Rattle.mdmp_summary.specs.declared.summary.Crash.{Crash}
@@ -55,6 +56,13 @@ thread_rva None = 0
 -- how many bytes are read for three names of at most `limit` bytes
 abbrev pub names_room : ℕ → ℕ
 names_room limit = 4 + limit + (4 + limit + (4 + limit))
+
+-- what one of them costs, and all three
+abbrev pub kept_name_cost : ℕ → Amount
+kept_name_cost limit = record { bytes = 4 + limit; calls = 2 }
+
+abbrev pub names_cost : ℕ → Amount
+names_cost limit = record { bytes = names_room limit; calls = 6 }
 
 -- the names that a summary of F tells
 abbrev pub told_names : List ℕ → ℕ → FileSummary → SummaryNames

@@ -9,8 +9,11 @@ pub mod Faults
 pub mod HexRuns
 pub mod JsonLaws
 pub mod KeptNames
+pub mod ObjectRuns
+pub mod ObjectVisits
 pub mod Reports
 pub mod Runs
+pub mod SummaryObject
 pub mod SummaryRuns
 pub mod Symbols
 pub mod Telling

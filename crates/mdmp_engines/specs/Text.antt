@@ -5,6 +5,7 @@ use Rattle.mdmp_wire.specs.CodeView.{codeview_of}
 use Rattle.mdmp_wire.specs.Header.{header_at}
 use Rattle.mdmp_lister.specs.declared.choice.Choice.TheVariants.{All}
 use Rattle.mdmp_lister.specs.declared.item.Item.{Item}
+use Rattle.mdmp_lister.specs.CodeView.{codeview_head_of}
 use Rattle.mdmp_lister.specs.Format.Listing.{Run, listing}
 use Rattle.mdmp_lister.specs.Format.Refusal.{opening_fault}
 use Rattle.mdmp_engines.specs.Engines.{unless_refused}
@@ -16,7 +17,7 @@ use Rattle.mdmp_print.specs.declared.form.LineForm.{LineForm}
 -- the line of a CodeView record of F, of whose name at most `limit` bytes are fetched
 abbrev pub symbols_text : LineForm → List ℕ → ℕ → Option ModuleSymbols → List ℕ
 symbols_text form F limit None = []
-symbols_text form F limit (Some of) = pdb_line_in form of.place.entry of.place.index (codeview_of F of.location limit)
+symbols_text form F limit (Some of) = pdb_line_in form of.place.entry of.place.index (codeview_head_of F of.location) (codeview_of F of.location limit)
 
 -- the line of an item, and behind it that of its CodeView record
 abbrev pub item_lines : LineForm → Bool → List ℕ → ℕ → Item → List ℕ

@@ -174,7 +174,7 @@ impl<'a, O: Printer> CheckRowSink for RowLines<'a, O> {
 }
 
 /// 1 for the row of a bad entry: one with an error, or with a part that lies outside the file.
-fn bad_in(row: &CheckRow) -> u64
+pub fn bad_in(row: &CheckRow) -> u64
     ensures { result ≡ row_count row.now }
 {
     match row {

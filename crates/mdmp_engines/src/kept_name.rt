@@ -1,15 +1,15 @@
 //! Names that are read from a file and kept.
 ghost use Rattle.std.specs.Prelude.{◌≡◌, ◌+◌, ◌*◌, ◌%◌, ℕ, List, Some, IfErr, IfOk, length};
-ghost use Rattle.mdmp_source.specs.Source.{FetchesAtMost};
 ghost use Rattle.mdmp_source.specs.Store.{IsGood};
 ghost use Rattle.mdmp_lister.specs.Format.Name.{plain_name};
+ghost use Rattle.mdmp_summary.specs.Spending.{ReadsOutside};
 ghost use Rattle.mdmp_engines.specs.Causes.{IsNoSourceFault};
-ghost use Rattle.mdmp_engines.specs.KeptNames.{IsNameFault, crash_rva, kept_name, kept_names, module_rva, told_name, told_names, names_room, plain_names, thread_rva};
+ghost use Rattle.mdmp_engines.specs.KeptNames.{IsNameFault, crash_rva, kept_name, kept_names, module_rva, kept_name_cost, names_cost, plain_names, thread_rva, told_name, told_names};
 
 use crate::fault::ToolFault;
 use crate::kept_units::KeptUnits;
-use mdmp_lister::Name;
-use mdmp_source::{Source, Store, inside};
+use mdmp_lister::{Name, Walker};
+use mdmp_source::{Store, inside};
 use mdmp_summary::{Crash, FileSummary};
 use mdmp_summary_lines::SummaryNames;
 use mdmp_wire::{ModuleRecord, UnitsRef, get_at};
@@ -28,7 +28,7 @@ pub(crate) enum KeptName<A: Allocator> {
 
 impl<A: Allocator> KeptName<A> {
     /// The name, lent.
-    fn lend(&self) -> Name<'_>
+    pub(crate) fn lend(&self) -> Name<'_>
         ensures { plain_name result ≡ kept_name self.now }
     {
         match self {
@@ -44,7 +44,7 @@ impl<A: Allocator> KeptName<A> {
 pub(crate) struct KeptNames<A: Allocator> {
     program: KeptName<A>,
     owner: KeptName<A>,
-    thread: KeptName<A>,
+    pub(crate) thread: KeptName<A>,
 }
 
 impl<A: Allocator> KeptNames<A> {
@@ -60,19 +60,19 @@ impl<A: Allocator> KeptNames<A> {
     }
 }
 
-/// Reads the name at an RVA. A name of more than `limit` bytes is told by its length.
+/// Reads the name at an RVA, outside the listing. A name of more than `limit` bytes is told by its length.
 fn read_name<S: Store + Drop, A: Allocator + Copy>(
     alloc: A,
-    source: &mut Source<S>,
+    walker: &mut Walker<S, A>,
     rva: u64,
     limit: u32,
 ) -> Result<KeptName<A>, ToolFault>
-    ensures name { (file : List ℕ) → source.old.store.content ≡ Some file → IfOk result (λ kept. kept_name kept ≡ told_name file limit rva) }
-    ensures fetches { FetchesAtMost (4 + limit) source.old source.new }
-    ensures fault { IfErr result (IsNameFault source.old source.new) }
-    ensures good { (file : List ℕ) → IsGood source.old.store file → IsNoSourceFault result }
+    ensures name { (file : List ℕ) → walker.old.list.source.store.content ≡ Some file → IfOk result (λ kept. kept_name kept ≡ told_name file limit rva) }
+    ensures reads { ReadsOutside (kept_name_cost limit) walker.old walker.new }
+    ensures fault { IfErr result (IsNameFault walker.old.list.source walker.new.list.source) }
+    ensures good { (file : List ℕ) → IsGood walker.old.list.source.store file → IsNoSourceFault result }
 {
-    let size = source.size();
+    let size = walker.size();
     if rva == 0 {
         return Ok(KeptName::None);
     }
@@ -80,7 +80,7 @@ fn read_name<S: Store + Drop, A: Allocator + Copy>(
         return Ok(KeptName::None);
     }
     let mut head = [0; 4];
-    if let Err(fault) = source.fetch(rva, &mut head) {
+    if let Err(fault) = walker.read_part(rva, &mut head) {
         return Err(ToolFault::Source(fault));
     }
     let length: u32 = get_at(&head, 0);
@@ -96,7 +96,7 @@ fn read_name<S: Store + Drop, A: Allocator + Copy>(
     let Ok(mut bytes) = vec![in alloc; 0; length as usize] else {
         return Err(ToolFault::Memory);
     };
-    match source.fetch(rva + 4, &mut bytes) {
+    match walker.read_part(rva + 4, &mut bytes) {
         Ok(()) => Ok(KeptName::Units(KeptUnits { bytes })),
         Err(fault) => Err(ToolFault::Source(fault)),
     }
@@ -141,18 +141,18 @@ fn thread_rva(crash: &Option<Crash>) -> u64
 /// Reads the names that a summary tells.
 pub(crate) fn read_names<S: Store + Drop, A: Allocator + Copy>(
     alloc: A,
-    source: &mut Source<S>,
+    walker: &mut Walker<S, A>,
     summary: &FileSummary,
     limit: u32,
 ) -> Result<KeptNames<A>, ToolFault>
-    ensures names { (file : List ℕ) → source.old.store.content ≡ Some file → IfOk result (λ kept. kept_names kept ≡ told_names file limit summary.now) }
-    ensures fetches { FetchesAtMost (names_room limit) source.old source.new }
-    ensures fault { IfErr result (IsNameFault source.old source.new) }
-    ensures good { (file : List ℕ) → IsGood source.old.store file → IsNoSourceFault result }
+    ensures names { (file : List ℕ) → walker.old.list.source.store.content ≡ Some file → IfOk result (λ kept. kept_names kept ≡ told_names file limit summary.now) }
+    ensures reads { ReadsOutside (names_cost limit) walker.old walker.new }
+    ensures fault { IfErr result (IsNameFault walker.old.list.source walker.new.list.source) }
+    ensures good { (file : List ℕ) → IsGood walker.old.list.source.store file → IsNoSourceFault result }
 {
-    let program = read_name(alloc, source, module_rva(&summary.program), limit)?;
-    let owner = read_name(alloc, source, crash_rva(&summary.crash), limit)?;
-    let thread = read_name(alloc, source, thread_rva(&summary.crash), limit)?;
+    let program = read_name(alloc, walker, module_rva(&summary.program), limit)?;
+    let owner = read_name(alloc, walker, crash_rva(&summary.crash), limit)?;
+    let thread = read_name(alloc, walker, thread_rva(&summary.crash), limit)?;
     Ok(KeptNames {
         program,
         owner,

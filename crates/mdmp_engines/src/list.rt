@@ -281,7 +281,7 @@ fn list_symbols<S: Store + Drop, A: Allocator + Copy, O: Printer>(
         });
     }
     match lister.codeview(location) {
-        Ok(bytes) => match print_symbols(form, place, &bytes.read(), out) {
+        Ok(bytes) => match print_symbols(form, place, &bytes, out) {
             Ok(()) => Ok(()),
             Err(OutFailed) => Err(ToolFault::Out),
         },

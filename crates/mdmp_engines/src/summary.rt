@@ -21,7 +21,7 @@ use mdmp_summary_lines::print_summary;
 use std::alloc::Allocator;
 
 /// The error of a summary, as a command tells it.
-fn told_summary(fault: SummaryFault) -> ToolFault
+pub(crate) fn told_summary(fault: SummaryFault) -> ToolFault
     ensures { result ≡ summary_told fault }
 {
     match fault {
@@ -62,14 +62,13 @@ pub fn summary_source<S: Store + Drop, A: Allocator + Copy, O: Printer>(
         }
     };
     match summarize_listing(&mut walker) {
-        Ok(summary) => print_told(
-            alloc,
-            walker.into_source(),
-            limits.name,
-            file,
-            &summary,
-            out,
-        ),
+        Ok(summary) => {
+            let answer = print_told(alloc, &mut walker, limits.name, file, &summary, out);
+            Outcome {
+                answer,
+                source: walker.into_source(),
+            }
+        }
         Err(fault) => Outcome {
             answer: Err(told_summary(fault)),
             source: walker.into_source(),
@@ -80,31 +79,23 @@ pub fn summary_source<S: Store + Drop, A: Allocator + Copy, O: Printer>(
 /// Reads the names that a summary tells, and prints its lines.
 fn print_told<S: Store + Drop, A: Allocator + Copy, O: Printer>(
     alloc: A,
-    source: Source<S>,
+    walker: &mut Walker<S, A>,
     limit: u32,
     file: &[u8],
     summary: &FileSummary,
     out: &mut O,
-) -> Outcome<Result<u64, ToolFault>, S>
-    ensures told { (bytes : List ℕ) → source.store.content ≡ Some bytes → IsPrintedOrUnread file.now bytes limit summary.now (O.state out.old) result.answer (O.state out.new) }
-    ensures good { (bytes : List ℕ) → IsGood source.store bytes → IsNoSourceFault result.answer }
-    ensures fetches { FetchesAtMost (names_room limit) source result.source }
-    ensures end { IfErr result.answer (IsNameEnd source result.source) }
-    ensures quiet { IsQuietSummary result.answer (O.state out.new ≡ O.state out.old) }
-    ensures out_cause { HasOutCause (O.state out.old) result.answer (O.state out.new) }
+) -> Result<u64, ToolFault>
+    ensures told { (bytes : List ℕ) → walker.old.list.source.store.content ≡ Some bytes → IsPrintedOrUnread file.now bytes limit summary.now (O.state out.old) result (O.state out.new) }
+    ensures good { (bytes : List ℕ) → IsGood walker.old.list.source.store bytes → IsNoSourceFault result }
+    ensures fetches { FetchesAtMost (names_room limit) walker.old.list.source walker.new.list.source }
+    ensures end { IfErr result (IsNameEnd walker.old.list.source walker.new.list.source) }
+    ensures quiet { IsQuietSummary result (O.state out.new ≡ O.state out.old) }
+    ensures out_cause { HasOutCause (O.state out.old) result (O.state out.new) }
 {
-    let mut source = source;
-    let names = match read_names(alloc, &mut source, summary, limit) {
-        Ok(names) => names,
-        Err(fault) => {
-            return Outcome {
-                answer: Err(fault),
-                source,
-            };
-        }
-    };
-    let answer = print_named(file, summary, &names, out);
-    Outcome { answer, source }
+    match read_names(alloc, walker, summary, limit) {
+        Ok(names) => print_named(file, summary, &names, out),
+        Err(fault) => Err(fault),
+    }
 }
 
 /// Prints the lines of a summary with these names, and answers how many entries are bad.

@@ -1,6 +1,14 @@
 pub mod CrashText
 pub mod FileNames
 pub mod HealthText
+pub mod JsonCrash
+pub mod JsonEnd
+pub mod JsonHead
+pub mod JsonIds
+pub mod JsonModules
+pub mod JsonSystem
+pub mod JsonText
+pub mod JsonThreads
 pub mod NumberWords
 pub mod ShortHex
 pub mod SummaryText

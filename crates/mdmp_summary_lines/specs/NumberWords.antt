@@ -13,22 +13,33 @@ abbrev pub named_text : Option (List ℕ) → List ℕ → List ℕ
 named_text (Some name) other = name
 named_text None other = other
 
+-- the name of the code of an exception on this system
+abbrev pub code_name : Option SystemRecord → ℕ → Option (List ℕ)
+code_name (Some system) code = exception_name system.platform_id code
+code_name None code = None
+
 -- the code of an exception, by its name on this system
 abbrev pub code_text : Option SystemRecord → ℕ → List ℕ
-code_text (Some system) code = named_text (exception_name system.platform_id code) (prefixed_hex 8 code)
-code_text None code = prefixed_hex 8 code
+code_text system code = named_text (code_name system code) (prefixed_hex 8 code)
 
--- a space and the second name, if both are there
-abbrev pub second_text : Option (List ℕ) → Option (List ℕ) → List ℕ
-second_text (Some code) (Some flags) = concat (codes " " ∷ flags ∷ [])
-second_text (Some code) None = []
-second_text None flags = []
+-- the second name, if the first is there too
+abbrev pub name_beside : Option (List ℕ) → Option (List ℕ) → Option (List ℕ)
+name_beside (Some code) flags = flags
+name_beside None flags = None
 
 -- the name of an exception's flags, if both its code and they have one on this system
+abbrev pub code_flags_name : Option SystemRecord → (code flags : ℕ) → Option (List ℕ)
+code_flags_name (Some system) code flags =
+    name_beside (exception_name system.platform_id code) (flags_name system.platform_id system.processor_architecture code flags)
+code_flags_name None code flags = None
+
+-- a text and a name, if there is one
+abbrev pub name_behind : List ℕ → Option (List ℕ) → List ℕ
+name_behind front (Some name) = concat (front ∷ name ∷ [])
+name_behind front None = []
+
 abbrev pub flags_text : Option SystemRecord → (code flags : ℕ) → List ℕ
-flags_text (Some system) code flags =
-    second_text (exception_name system.platform_id code) (flags_name system.platform_id system.processor_architecture code flags)
-flags_text None code flags = []
+flags_text system code flags = name_behind (codes " ") (code_flags_name system code flags)
 
 abbrev pub platform_text : ℕ → List ℕ
 platform_text id = named_text (platform_words id) (concat (codes "platform " ∷ decimal id ∷ []))

@@ -172,6 +172,7 @@ pub(crate) fn print_crash<O: Printer>(
         b" flags ",
         Prefixed(Hex8(fields.exception_flags)),
         FlagsWords {
+            front: b" ",
             system,
             code: fields.exception_code,
             flags: fields.exception_flags,

@@ -20,7 +20,7 @@ fn is_separator(unit: u16) -> bool
 }
 
 /// Where the part of a path begins that follows its last slash or backslash.
-fn file_start(path: UnitsRef<'_>) -> usize
+pub(crate) fn file_start(path: UnitsRef<'_>) -> usize
     ensures within { result ≤ length (units_in path.entry) }
     ensures part { drop result (units_in path.entry) ≡ file_part (units_in path.entry) }
 {

@@ -13,9 +13,13 @@ mod failures;
 #[cfg(test)]
 mod files;
 #[cfg(test)]
+mod given;
+#[cfg(test)]
 mod ids;
 #[cfg(test)]
 mod lines;
+#[cfg(test)]
+mod objects;
 #[cfg(test)]
 mod prefixes;
 #[cfg(test)]
@@ -24,3 +28,5 @@ mod same;
 mod summaries;
 #[cfg(test)]
 mod summing;
+#[cfg(test)]
+mod visits;

@@ -1,46 +1,14 @@
 //! The lines of summaries.
-use crate::files::{LINUX, Made, crash_file};
+use crate::files::{LINUX, crash_file};
+use crate::given::{CPAD, EXE, GivenName, names, summary_of};
 use crate::same::{assert_same, assert_same_at};
 use crate::summing::{summary_in, summary_of_first};
-use mdmp_lister::Name;
 use mdmp_print::Printer;
 use mdmp_source::{OutFailed, PatchyOut};
 use mdmp_summary::{AccessKind, FileSummary, PartKind, PartOutside, Reached, Registers};
 use mdmp_summary_lines::{SummaryNames, print_summary};
-use mdmp_wire::UnitsRef;
 use std::alloc::Global;
 use std::process::Abort;
-
-/// The units of `/usr/bin/cpad`.
-const CPAD: &[u8; 26] = b"/\0u\0s\0r\0/\0b\0i\0n\0/\0c\0p\0a\0d\0";
-
-/// The units of `C:\é.exe`.
-const EXE: &[u8; 16] = b"C\0:\0\\\0\xe9\0.\0e\0x\0e\0";
-
-/// What a name is.
-#[derive(Clone, Copy)]
-enum GivenName {
-    None,
-    Units(&'static [u8]),
-    Long(u32),
-}
-
-fn name(told: GivenName) -> Name<'static> {
-    match told {
-        GivenName::None => Name::None,
-        GivenName::Units(bytes) => Name::Units(UnitsRef::over(&bytes[..bytes.len() / 2 * 2])),
-        GivenName::Long(length) => Name::Long(length),
-    }
-}
-
-/// The names of the program, of the crash's module and of its thread.
-fn names(program: GivenName, owner: GivenName, thread: GivenName) -> SummaryNames<'static> {
-    SummaryNames {
-        program: name(program),
-        owner: name(owner),
-        thread: name(thread),
-    }
-}
 
 /// Prints a summary to an output.
 fn print_to<O: Printer>(
@@ -63,15 +31,6 @@ fn assert_printed(
     let answer = print_to(summary, names, &mut out);
     assert_same(rt, answer, Ok(()));
     assert_same_at(rt, &expected, out.bytes(), expected.as_bytes());
-}
-
-/// The summary of a crash file that is whole.
-fn summary_of(rt: &impl Abort, alloc: Global, made: Made) -> FileSummary {
-    let file = crash_file(rt, alloc, made);
-    let mut summary = summary_in(rt, alloc, &file);
-    summary.bad.count = 0;
-    summary.bad.first = None;
-    summary
 }
 
 /// The lines behind those of the crash and its registers, up to the file's health.

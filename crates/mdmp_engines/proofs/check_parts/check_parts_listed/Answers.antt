@@ -51,7 +51,7 @@ pub returns-in-Ok-clause-leaves : goal.returns-in-Ok-clause-leaves
 returns-in-Ok-clause-leaves g c =
     let rows = c.in-Ok.ensures.rows in
     let put = rows-taken (λ lines. g.O.Printer.state lines.out.now) (λ lines. lines.bad) (λ lines. lines.out.ghost_name) (λ lines. lines.form) rows.rows _ _ rows.handed in
-    record { good = λ file good. tt; behind = tt; reads = record { cause = tt; fetches = c.in-Ok.ensures.fetches }; out_cause = put.steady }
+    record { good = λ file good. tt; behind = tt; reads = record { cause = tt; fetches = record { count = _; fetches = c.in-Ok.ensures.rows.fetches } }; out_cause = put.steady }
 
 pub returns-in-Err-At-clause-ends : goal.returns-in-Err-At-clause-ends
 returns-in-Err-At-clause-ends g c = λ file known.
@@ -84,9 +84,9 @@ returns-in-Err-At-clause-leaves g c =
     rw c.told_list.ensures (told-source (λ (r : Result ℕ ToolFault). Leaves past_faults (after ≡ before) old before r new after) fault fault.kind told.0 (λ s is. record {
       good = λ file good. absurd (c.in-Err-At.ensures.good file good fault c.in-Err-At.field-0-is (rw is tt));
       behind = tt;
-      reads = record { cause = told-cause c.check_parts_into.new.lister.current fault s old new is told.1; fetches = c.in-Err-At.ensures.fetches };
+      reads = record { cause = told-cause c.check_parts_into.new.lister.current fault s old new is told.1; fetches = record { count = _; fetches = c.in-Err-At.ensures.rows.fetches } };
       out_cause = put.steady;
-    }) (record { good = λ file good. tt; behind = tt; reads = record { cause = tt; fetches = c.in-Err-At.ensures.fetches }; out_cause = put.steady }))
+    }) (record { good = λ file good. tt; behind = tt; reads = record { cause = tt; fetches = record { count = _; fetches = c.in-Err-At.ensures.rows.fetches } }; out_cause = put.steady }))
 
 pub returns-in-Err-Stopped-clause-writes : goal.returns-in-Err-Stopped-clause-writes
 returns-in-Err-Stopped-clause-writes g c = λ file known.
@@ -100,7 +100,7 @@ pub returns-in-Err-Stopped-clause-leaves : goal.returns-in-Err-Stopped-clause-le
 returns-in-Err-Stopped-clause-leaves g c =
     let rows = c.in-Err-Stopped.ensures.rows in
     let cut = rows-stopped (λ lines. g.O.Printer.state lines.out.now) (λ lines. lines.bad) (λ lines. lines.out.ghost_name) (λ lines. lines.form) rows.rows _ _ (rw c.in-Err-Stopped.field-0-is at rows.handed) in
-    record { good = λ file good. tt; behind = tt; reads = record { cause = tt; fetches = c.in-Err-Stopped.ensures.fetches }; out_cause = cut.refused }
+    record { good = λ file good. tt; behind = tt; reads = record { cause = tt; fetches = record { count = _; fetches = c.in-Err-Stopped.ensures.rows.fetches } }; out_cause = cut.refused }
 
 pub returns-in-Ok-clause-same : goal.returns-in-Ok-clause-same
 returns-in-Ok-clause-same g c = run_list _ _ _ (run_none _) c.in-Ok.ensures.same
@@ -122,14 +122,14 @@ returns-in-Err-At-clause-aside g c = rw c.told_list.ensures (aside_listing ℕ N
 pub returns-in-Ok-clause-read : goal.returns-in-Ok-clause-read
 returns-in-Ok-clause-read g c =
     let told = c.in-Ok.ensures in
-    keeps_parts_checked c.args.lister.now c.check_parts_into.new.lister c.requires.opened told.same told.fetches.fetches.same_content told.names
+    keeps_parts_checked c.args.lister.now c.check_parts_into.new.lister c.requires.opened told.same told.rows.fetches.same_content told.names
 
 pub returns-in-Err-At-clause-read : goal.returns-in-Err-At-clause-read
 returns-in-Err-At-clause-read g c =
     let told = c.in-Err-At.ensures in
-    keeps_parts_checked c.args.lister.now c.check_parts_into.new.lister c.requires.opened told.same told.fetches.fetches.same_content told.names
+    keeps_parts_checked c.args.lister.now c.check_parts_into.new.lister c.requires.opened told.same told.rows.fetches.same_content told.names
 
 pub returns-in-Err-Stopped-clause-read : goal.returns-in-Err-Stopped-clause-read
 returns-in-Err-Stopped-clause-read g c =
     let told = c.in-Err-Stopped.ensures in
-    keeps_parts_checked c.args.lister.now c.check_parts_into.new.lister c.requires.opened told.same told.fetches.fetches.same_content told.names
+    keeps_parts_checked c.args.lister.now c.check_parts_into.new.lister c.requires.opened told.same told.rows.fetches.same_content told.names

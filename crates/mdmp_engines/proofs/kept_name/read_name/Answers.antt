@@ -15,29 +15,29 @@ returns-then-not-inside-clause-name g c = λ file known.
 pub returns-then-length-eq1-clause-name : goal.returns-then-length-eq1-clause-name
 returns-then-length-eq1-clause-name g c = λ file known.
     let n = c.get_at-length.result in
-    let same : n ≡ number_at file c.args.rva 4 = length_read file c.fetch.new.out _ c.args.rva n known c.get_at-length.ensures c.in_default.ensures.bytes c.fetch.auto.out in
+    let same : n ≡ number_at file c.args.rva 4 = length_read file c.read_part.new.out c.args.rva n c.get_at-length.ensures (c.in_default.ensures.bytes file known) c.read_part.auto.out in
     told_odd file c.args.limit c.args.rva n same (search rules)
 
 pub returns-then-not-inside-2-clause-name : goal.returns-then-not-inside-2-clause-name
 returns-then-not-inside-2-clause-name g c = λ file known.
     let size : c.size-size.result ≡ length file = some_known (λ (f : List ℕ). c.size-size.result ≡ length f) file _ known c.size-size.ensures.content in
     let n = c.get_at-length.result in
-    let same : n ≡ number_at file c.args.rva 4 = length_read file c.fetch.new.out _ c.args.rva n known c.get_at-length.ensures c.in_default.ensures.bytes c.fetch.auto.out in
+    let same : n ≡ number_at file c.args.rva 4 = length_read file c.read_part.new.out c.args.rva n c.get_at-length.ensures (c.in_default.ensures.bytes file known) c.read_part.auto.out in
     told_outside file c.args.limit c.args.rva n same (subst (λ (s : ℕ). is_inside (c.args.rva + 4) n s ≡ false) size (search rules))
 
 pub returns-then-limit-length-clause-name : goal.returns-then-limit-length-clause-name
 returns-then-limit-length-clause-name g c = λ file known.
     let size : c.size-size.result ≡ length file = some_known (λ (f : List ℕ). c.size-size.result ≡ length f) file _ known c.size-size.ensures.content in
     let n = c.get_at-length.result in
-    let same : n ≡ number_at file c.args.rva 4 = length_read file c.fetch.new.out _ c.args.rva n known c.get_at-length.ensures c.in_default.ensures.bytes c.fetch.auto.out in
+    let same : n ≡ number_at file c.args.rva 4 = length_read file c.read_part.new.out c.args.rva n c.get_at-length.ensures (c.in_default.ensures.bytes file known) c.read_part.auto.out in
     told_long file c.args.limit c.args.rva n same (search rules) (subst (λ (s : ℕ). is_inside c.args.rva 4 s ≡ true) size (search rules)) (search rules)
     (subst (λ (s : ℕ). is_inside (c.args.rva + 4) n s ≡ true) size (search rules)) (search rules)
 
-pub returns-in-Ok-fetch-clause-name : goal.returns-in-Ok-fetch-clause-name
-returns-in-Ok-fetch-clause-name g c = λ file known.
+pub returns-in-Ok-read_part-clause-name : goal.returns-in-Ok-read_part-clause-name
+returns-in-Ok-read_part-clause-name g c = λ file known.
     let size : c.size-size.result ≡ length file = some_known (λ (f : List ℕ). c.size-size.result ≡ length f) file _ known c.size-size.ensures.content in
     let n = c.get_at-length.result in
-    let same : n ≡ number_at file c.args.rva 4 = length_read file c.fetch.new.out _ c.args.rva n known c.get_at-length.ensures c.in_default.ensures.bytes c.fetch.auto.out in
+    let same : n ≡ number_at file c.args.rva 4 = length_read file c.read_part.new.out c.args.rva n c.get_at-length.ensures (c.in_default.ensures.bytes file known) c.read_part.auto.out in
     told_units file c.args.limit c.args.rva n same (search rules) (subst (λ (s : ℕ). is_inside c.args.rva 4 s ≡ true) size (search rules)) (search rules)
     (subst (λ (s : ℕ). is_inside (c.args.rva + 4) n s ≡ true) size (search rules)) _ (search rules)
-    (units_read file c.fetch-2.new.out _ _ (c.args.rva + 4) n c.in-Ok.bytes.len (c.in_default.ensures.fetches.same_content ∙ known) c.in-Ok-fetch.ensures.bytes (search rules) (search rules))
+    (units_read file c.read_part-2.new.out _ (c.args.rva + 4) n c.in-Ok.bytes.len (c.in-Ok-read_part.ensures.bytes file (c.in_default.ensures.reads.fetches.same_content ∙ known)) (search rules) (search rules))

@@ -5,10 +5,10 @@ use Rattle.mdmp_engines.proofs.summary.print_told.Goals as goal
 
 pub returns-in-Err-clause-told : goal.returns-in-Err-clause-told
 returns-in-Err-clause-told g c = λ bytes known.
-    IsPrintedOrUnread.unread c.in-Err.fault (name_unread c.args.source c.read_names.new.source c.in-Err.fault c.in-Err.ensures.fault) refl refl
+    IsPrintedOrUnread.unread c.in-Err.fault (name_unread c.args.walker.now.list.source c.read_names.new.walker.list.source c.in-Err.fault c.in-Err.ensures.fault) refl refl
 
-pub returns-clause-told : goal.returns-clause-told
-returns-clause-told g c = λ bytes known.
-    let printed = c.print_named-answer.ensures in
-    printed_named c.args.file.now bytes c.args.limit c.args.summary.now _ (g.O.Printer.state c.args.out.now) c.print_named-answer.result (g.O.Printer.state c.print_named-answer.new.out)
+pub returns-in-Ok-clause-told : goal.returns-in-Ok-clause-told
+returns-in-Ok-clause-told g c = λ bytes known.
+    let printed = c.print_named.ensures in
+    printed_named c.args.file.now bytes c.args.limit c.args.summary.now _ (g.O.Printer.state c.args.out.now) c.print_named.result (g.O.Printer.state c.print_named.new.out)
     (c.in-Ok.ensures.names bytes known) printed.answer printed.text

@@ -69,44 +69,40 @@ returns-in-Ok-summarize_listing-clause-summarizes g c = λ bytes known.
     let new = c.in-Ok.ensures.new in
     let sums = c.in-Ok-summarize_listing.ensures in
     let now = new.fetches.same_content ∙ known in
-    let then = ap (λ (s : SourceState). s.store.content) c.into_source.ensures.value ∙ sums.same.same_file.fetches.same_content ∙ now in
     summarizes_told c.args.file.now bytes c.args.limits c.in-Ok.walker.list.limit c.in-Ok-summarize_listing.summary (g.O.Printer.state c.args.out.now)
-    c.print_told.result.answer (g.O.Printer.state c.print_told.new.out)
+    c.print_told-answer.result (g.O.Printer.state c.print_told-answer.new.out)
     (subst (λ (l : Limits). walk_fault l bytes ≡ None) within (c.in-Ok.ensures.within bytes known))
-    (new.list.asked.limit_is ∙ ap (λ (l : Limits). l.name) within) (sums.sums bytes now) (c.print_told.ensures.told bytes then)
+    (new.list.asked.limit_is ∙ ap (λ (l : Limits). l.name) within) (sums.sums bytes now) (c.print_told-answer.ensures.told bytes (sums.same.same_file.fetches.same_content ∙ now))
 
 pub returns-in-Ok-summarize_listing-clause-good : goal.returns-in-Ok-summarize_listing-clause-good
 returns-in-Ok-summarize_listing-clause-good g c = λ bytes good.
     let opened = c.in-Ok.walker.list.source in
     let ended = c.summarize_listing.new.walker.list.source in
-    let still = good_still bytes _ opened ended c.in-Ok-summarize_listing.ensures.same.same_file.fetches (good_still bytes _ c.args.source opened c.in-Ok.ensures.new.fetches good) in
-    c.print_told.ensures.good bytes (subst (λ (s : SourceState). IsGood s.store bytes) (sym c.into_source.ensures.value) still)
+    c.print_told-answer.ensures.good bytes (good_still bytes _ opened ended c.in-Ok-summarize_listing.ensures.same.same_file.fetches (good_still bytes _ c.args.source opened c.in-Ok.ensures.new.fetches good))
 
 pub returns-in-Ok-summarize_listing-clause-through : goal.returns-in-Ok-summarize_listing-clause-through
 returns-in-Ok-summarize_listing-clause-through g c =
     let within : c.leave_memory.result ≡ within_names c.args.limits = rw (ap (λ (n : ℕ). 3 * n) c.from-beside.ensures) at c.leave_memory.ensures in
     let opened = c.in-Ok.walker in
     let ended = c.summarize_listing.new.walker in
-    let last = c.print_told.result.source in
-    let answer = c.print_told.result.answer in
+    let answer = c.print_told-answer.result in
+    let value = sym c.into_source.ensures.value in
     IsSummedThrough.summed opened ended (subst (λ (l : Limits). IsNewWalker c.args.source All l opened) within c.in-Ok.ensures.new)
     (spends_both c.summarize_listing.result opened ended c.summarize_listing.ensures.spends) c.in-Ok-summarize_listing.ensures.same
-    (subst (λ (s : SourceState). FetchesAtMost (names_room c.args.limits.name) s last) c.into_source.ensures.value c.print_told.ensures.fetches)
-    (subst (λ (s : SourceState). IfErr answer (IsNameEnd s last)) c.into_source.ensures.value c.print_told.ensures.end)
+    (subst (λ (s : SourceState). FetchesAtMost (names_room c.args.limits.name) ended.list.source s) value c.print_told-answer.ensures.fetches)
+    (subst (λ (s : SourceState). IfErr answer (IsNameEnd ended.list.source s)) value c.print_told-answer.ensures.end)
 
 pub returns-in-Ok-summarize_listing-clause-reads : goal.returns-in-Ok-summarize_listing-clause-reads
 returns-in-Ok-summarize_listing-clause-reads g c =
     let opened = c.in-Ok.walker.list.source in
     let ended = c.summarize_listing.new.walker.list.source in
-    let last = c.print_told.result.source in
-    let answer = c.print_told.result.answer in
+    let last = c.print_told-answer.new.walker.list.source in
+    let answer = c.print_told-answer.result in
     let passed = fetches_then _ _ c.args.source opened ended c.in-Ok.ensures.new.fetches c.in-Ok-summarize_listing.ensures.same.same_file.fetches in
-    let named = subst (λ (s : SourceState). FetchesAtMost (names_room c.args.limits.name) s last) c.into_source.ensures.value c.print_told.ensures.fetches in
-    let end = subst (λ (s : SourceState). IfErr answer (IsNameEnd s last)) c.into_source.ensures.value c.print_told.ensures.end in
-    record {
-      cause = cause-named c.args.source ended last _ answer passed end;
-      fetches = record { count = _; fetches = fetches_then _ _ c.args.source ended last passed named };
-    }
+    subst (λ (s : SourceState). ReadsSource c.args.source answer s) (sym c.into_source.ensures.value) (record {
+      cause = cause-named c.args.source ended last _ answer passed c.print_told-answer.ensures.end;
+      fetches = record { count = _; fetches = fetches_then _ _ c.args.source ended last passed c.print_told-answer.ensures.fetches };
+    })
 
 -- ---- bytes were not read
 

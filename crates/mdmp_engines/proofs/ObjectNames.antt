@@ -1,0 +1,44 @@
+-- What is printed and read of an object around its names.
+use Rattle.std.proofs.Common.{◌≡◌, ℕ, List, [], ◌++◌, Option, Result, Ok, Err, refl}
+use Rattle.mdmp_source.specs.Output.{OutState}
+use Rattle.mdmp_source.specs.OutputLaws.{PutsAll-nothing}
+use Rattle.mdmp_source.specs.Source.{SourceState}
+use Rattle.mdmp_engines.specs.Causes.{HasOutCause, HasSourceCause}
+use Rattle.mdmp_engines.specs.KeptNames.{IsNameFault}
+use Rattle.mdmp_engines.specs.ObjectRuns.{PrintsAnswer}
+use Rattle.mdmp_engines.specs.SummaryRuns.{IsUnreadFault}
+use Rattle.mdmp_engines.specs.declared.fault.ToolFault.{ToolFault}
+use Rattle.mdmp_engines.specs.declared.fault.ToolFault.TheVariants as tool
+use Rattle.mdmp_engines.proofs.Objects.{short_put}
+use Rattle.mdmp_engines.proofs.Summarizing.{last_told}
+
+-- ---- a name that was not read
+
+pub unread_prints : (old new : SourceState) (f : ToolFault) (text : List ℕ) (bad : ℕ) (before : OutState) → IsNameFault old new f → PrintsAnswer text bad before (Err f) before
+unread_prints old new tool.Memory text bad before is = (tt, short_put before before [] text (PutsAll-nothing before))
+unread_prints old new (tool.Source s) text bad before is = (tt, short_put before before [] text (PutsAll-nothing before))
+unread_prints old new f text bad before is = absurd is
+
+pub unread_cause : (old new : SourceState) (f : ToolFault) → IsNameFault old new f → HasSourceCause {T = ℕ} old (Err f) new
+unread_cause old new tool.Memory is = tt
+unread_cause old new (tool.Source s) is = last_told s old new is
+unread_cause old new f is = absurd is
+
+pub unread_out : (old new : SourceState) (f : ToolFault) (before : OutState) → IsNameFault old new f → HasOutCause {T = ℕ} before (Err f) before
+unread_out old new tool.Memory before is = refl
+unread_out old new (tool.Source s) before is = refl
+unread_out old new f before is = absurd is
+
+-- ---- bytes of the listing that were not read
+
+pub unread_answer : (f : ToolFault) (text : List ℕ) (bad : ℕ) (before : OutState) → IsUnreadFault f → PrintsAnswer text bad before (Err f) before
+unread_answer (tool.Source s) text bad before is = (tt, short_put before before [] text (PutsAll-nothing before))
+unread_answer (tool.Budget offset size) text bad before is = (tt, short_put before before [] text (PutsAll-nothing before))
+unread_answer tool.Memory text bad before is = (tt, short_put before before [] text (PutsAll-nothing before))
+unread_answer f text bad before is = absurd is
+
+pub unread_steady : (f : ToolFault) (before : OutState) → IsUnreadFault f → HasOutCause {T = ℕ} before (Err f) before
+unread_steady (tool.Source s) before is = refl
+unread_steady (tool.Budget offset size) before is = refl
+unread_steady tool.Memory before is = refl
+unread_steady f before is = absurd is

@@ -1,0 +1,194 @@
+//! A visitor of all items, and what is read outside the listing.
+use crate::files::{LINUX, crash_file};
+use crate::same::assert_same_at;
+use mdmp_lister::{Choice, Item, Limits, Stopped, Walker};
+use mdmp_source::{Location, MemoryStore, PatchyStore, Source, Store};
+use mdmp_summary::{
+    Registers, SymbolsRead, VisitEnd, VisitFault, Visitor, read_registers, read_symbols, visit_all,
+};
+use mdmp_test_support::{CODEVIEW_RECORD, module_file};
+use mdmp_wire::{Record, SystemRecord};
+use std::alloc::{Allocator, Global};
+use std::process::Abort;
+
+/// Counts items, and wants no more than so many.
+#[derive(Drop)]
+struct Counter {
+    items: u32,
+    most: u32,
+}
+
+impl Visitor for Counter {
+    ghost use Rattle.mdmp_summary.specs.Visiting.{nothing_read};
+
+    ghost taken = { λ old item result new. Unit {0} };
+
+    ghost looked = { λ content limit old result new. Unit {0} };
+
+    ghost owed = { λ _. nothing_read };
+
+    ghost span = { λ _. 0 };
+
+    ghost room = { λ span item. nothing_read };
+
+    fn take(&mut self, _item: &Item<'_>) -> Result<(), Stopped> {
+        self.items = self.items.saturating_add(1);
+        if self.items >= self.most {
+            return Err(Stopped);
+        }
+        Ok(())
+    }
+
+    #[tactic(auto, using(mdmp_summary::proofs::Visited::reads_nothing))]
+    fn look<S: Store + Drop, A: Allocator + Copy>(
+        &mut self,
+        _walker: &mut Walker<S, A>,
+    ) -> Result<(), VisitEnd> {
+        Ok(())
+    }
+}
+
+/// How many items a visitor of a store was shown that wants so many, and how many entries are bad or how it ended;
+/// none if the file is not opened.
+fn visited_over<S: Store + Drop>(
+    alloc: Global,
+    store: S,
+    most: u32,
+) -> Option<(u32, Result<u64, VisitFault>)> {
+    let source = Source::new(store);
+    let Ok(mut walker) = Walker::open(alloc, source, Limits::default(), Choice::All) else {
+        return None;
+    };
+    let mut counter = Counter { items: 0, most };
+    let end = match visit_all(&mut walker, &mut counter) {
+        Ok(bad) => Ok(bad.count),
+        Err(fault) => Err(fault),
+    };
+    Some((counter.items, end))
+}
+
+#[test]
+fn visit_succeeds_behind_a_bad_entry(rt: HostRuntime) {
+    let file = crash_file(&rt, rt.alloc(), LINUX);
+    // Five entries, of which the first is bad, and a record in each of the others.
+    let told = visited_over(rt.alloc(), MemoryStore::new(&file), 100);
+    assert_same_at(&rt, &"all", told, Some((9, Ok(1))));
+}
+
+#[test]
+fn sink_stops_at_each_item(rt: HostRuntime) {
+    let file = crash_file(&rt, rt.alloc(), LINUX);
+    for most in 1..10u32 {
+        let told = visited_over(rt.alloc(), MemoryStore::new(&file), most);
+        let end = Err(VisitFault::Ended(VisitEnd::Stopped));
+        assert_same_at(&rt, &most, told, Some((most, end)));
+    }
+}
+
+#[test]
+fn store_that_fails_at_a_call_ends_the_visit(rt: HostRuntime) {
+    let file = crash_file(&rt, rt.alloc(), LINUX);
+    let mut calls = 0u32;
+    for call in 0..20u64 {
+        let store = PatchyStore::new(&file, &[1 << 20], Some(call));
+        match visited_over(rt.alloc(), store, 100) {
+            None | Some((_, Err(VisitFault::List(_)))) => calls = calls.saturating_add(1),
+            told => assert_same_at(&rt, &call, told, Some((9, Ok(1)))),
+        }
+    }
+    assert_same_at(&rt, &"calls", calls, 6);
+}
+
+/// The CodeView record at a location of a store, read with room for four bytes of a name, and these.
+fn symbols_over<S: Store + Drop>(
+    rt: &impl Abort,
+    alloc: Global,
+    store: S,
+    at: Location,
+) -> Option<(Option<SymbolsRead>, [u8; 4])> {
+    let source = Source::new(store);
+    let walker = Walker::open(alloc, source, Limits::default(), Choice::All);
+    let Ok(mut walker) = walker else {
+        panic!(rt; "a walker");
+    };
+    let mut name = [0; 4];
+    match read_symbols(&mut walker, at, &mut name) {
+        Ok(read) => Some((read, name)),
+        Err(_) => None,
+    }
+}
+
+const RECORD: Location = Location { size: 30, rva: 156 };
+
+#[test]
+fn symbols_are_read_up_to_the_room(rt: HostRuntime) {
+    let file = module_file(rt.alloc(), 30, CODEVIEW_RECORD).expect(&rt, "a file");
+    let told = symbols_over(&rt, rt.alloc(), MemoryStore::new(&file), RECORD);
+    let Some((Some(read), name)) = told else {
+        panic!(rt; "a record");
+    };
+    assert_same_at(&rt, &"read", (read.rest, read.size), (4, 30));
+    assert_eq!(rt; &read.head[..], &CODEVIEW_RECORD[..24], "head");
+    assert_eq!(rt; &name[..], &CODEVIEW_RECORD[24..28], "name");
+    let outside = Location {
+        size: 300,
+        rva: 156,
+    };
+    let told = symbols_over(&rt, rt.alloc(), MemoryStore::new(&file), outside);
+    assert_same_at(&rt, &"outside", matches!(&told, Some((None, _))), true);
+}
+
+#[test]
+fn store_that_fails_at_a_call_gives_no_symbols(rt: HostRuntime) {
+    let file = module_file(rt.alloc(), 30, CODEVIEW_RECORD).expect(&rt, "a file");
+    // The header and the directory are read before: two calls.
+    for (call, is_read) in [(2, false), (3, false), (4, true)] {
+        let store = PatchyStore::new(&file, &[1 << 20], Some(call));
+        let told = symbols_over(&rt, rt.alloc(), store, RECORD);
+        assert_same_at(&rt, &call, told.is_some(), is_read);
+    }
+}
+
+/// The registers in the context of the crash file, read as those of a system of this architecture.
+fn registers_over<S: Store + Drop>(
+    rt: &impl Abort,
+    alloc: Global,
+    store: S,
+    system: Option<SystemRecord>,
+) -> Option<Option<Registers>> {
+    let source = Source::new(store);
+    let walker = Walker::open(alloc, source, Limits::default(), Choice::All);
+    let Ok(mut walker) = walker else {
+        panic!(rt; "a walker");
+    };
+    let at = Location {
+        size: 272,
+        rva: 596,
+    };
+    read_registers(&mut walker, system, at).ok()
+}
+
+#[test]
+fn registers_are_read_by_the_system(rt: HostRuntime) {
+    let file = crash_file(&rt, rt.alloc(), LINUX);
+    let system = SystemRecord::read(&file[540..596]);
+    let told = registers_over(&rt, rt.alloc(), MemoryStore::new(&file), Some(system));
+    let Some(Some(registers)) = told else {
+        panic!(rt; "registers");
+    };
+    assert_same_at(&rt, &"instruction", registers.instruction, 0x5010);
+    let none = registers_over(&rt, rt.alloc(), MemoryStore::new(&file), None);
+    assert_same_at(&rt, &"no system", none, Some(None));
+}
+
+#[test]
+fn store_that_fails_at_a_call_gives_no_registers(rt: HostRuntime) {
+    let file = crash_file(&rt, rt.alloc(), LINUX);
+    let system = SystemRecord::read(&file[540..596]);
+    // The header and the directory are read before: two calls.
+    for (call, is_read) in [(2, false), (3, true)] {
+        let store = PatchyStore::new(&file, &[1 << 20], Some(call));
+        let told = registers_over(&rt, rt.alloc(), store, Some(system));
+        assert_same_at(&rt, &call, told.is_some(), is_read);
+    }
+}
