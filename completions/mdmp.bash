@@ -24,7 +24,8 @@ _mdmp() {
         help) ((place == 0)) && words='summary check list hex copy' ;;
         check) words="--parts --json $limits" ;;
         list) words="--pdb --json --aside $limits" ;;
-        summary | hex | copy) words=$limits ;;
+        summary) words="--json $limits" ;;
+        hex | copy) words=$limits ;;
     esac
     if [[ $word == -* || -z $command || $command == help ]]; then
         mapfile -t COMPREPLY < <(compgen -W "$words" -- "$word")
@@ -34,7 +35,7 @@ _mdmp() {
         words+=' Memory64ListStream CommentStreamA CommentStreamW UnloadedModuleListStream MiscInfoStream'
         words+=' MemoryInfoListStream ThreadNamesStream'
         mapfile -t COMPREPLY < <(compgen -W "$words" -- "$word")
-    elif ((place == 0)) || [[ $command == copy ]]; then
+    elif ((place == 0)) || [[ $command == copy || $command == summary ]]; then
         compopt -o filenames 2>/dev/null
         mapfile -t COMPREPLY < <(
             compgen -d -- "$word"

@@ -16,13 +16,15 @@ function __mdmp_words
     echo $count
 end
 
-# Whether a file's name stands here: the first word of each command, and the second of copy.
+# Whether a file's name stands here: the first word of each command, the second of copy, and each of summary.
 function __mdmp_file
     set -l count (__mdmp_words)
     if __fish_seen_subcommand_from copy
         contains $count 2 3
+    else if __fish_seen_subcommand_from summary
+        test $count -ge 2
     else
-        test $count = 2; and __fish_seen_subcommand_from summary check list hex
+        test $count = 2; and __fish_seen_subcommand_from check list hex
     end
 end
 
@@ -47,7 +49,7 @@ complete -c mdmp -n 'test (__mdmp_words) = 2; and __fish_seen_subcommand_from he
 complete -c mdmp -l help -d 'Print help'
 complete -c mdmp -n '__fish_seen_subcommand_from check' -l parts -d 'Tell of parts outside the file'
 complete -c mdmp -n '__fish_seen_subcommand_from list' -l pdb -d 'Tell of symbol files'
-complete -c mdmp -n '__fish_seen_subcommand_from check list' -l json -d 'Print objects of JSON'
+complete -c mdmp -n '__fish_seen_subcommand_from summary check list' -l json -d 'Print objects of JSON'
 complete -c mdmp -n '__fish_seen_subcommand_from summary check list hex copy' -l window -x -d 'Fetch the file by at most so many bytes'
 complete -c mdmp -n '__fish_seen_subcommand_from summary check list hex copy' -l name -x -d 'Read names of at most so many bytes'
 complete -c mdmp -n '__fish_seen_subcommand_from summary check list hex copy' -l budget -x -d 'Read at most so many bytes of the file'

@@ -379,6 +379,7 @@ fn over_disk<R: AllocGlobal + Abort>(
         given("faulty.dmp", &faulty, fail_at),
         given("module.dmp", &module, fail_at),
         given("empty.dmp", b"", fail_at),
+        given("\u{1b}[31m\n.dmp", &SYSTEM, fail_at),
     ];
     over_files(
         rt,

@@ -15,7 +15,7 @@ use std::process::Abort;
 use std::rt::Files;
 
 /// A command, how it ends, which bytes its file has, if it makes one, and what it asks of the disk.
-type EndingRow<'a> = (CommandCall<'a>, Ending<'a>, Option<&'a [u8]>, DiskRequests);
+pub type EndingRow<'a> = (CommandCall<'a>, Ending<'a>, Option<&'a [u8]>, DiskRequests);
 
 /// The requests of a command that has no disk, or asks nothing of it.
 const NO_REQUEST: DiskRequests = (0, 0, 0);
@@ -26,46 +26,7 @@ const UNKNOWN: Ending<'static> = (0, "0x0000000000000010: ?? ??\n", "");
 /// The words of a copy.
 const COPY: CommandCall<'static> = CommandCall::Line(&["copy", "system.dmp", "copy.dmp", "7"]);
 
-/// The summary of the file with a system.
-pub const SYSTEM_SUMMARY: &str = "system.dmp: no crash
-  system Windows 6.1.7601, x64, processors 4
-  written not set
-  streams 1 threads 0 modules 0 exceptions 0 ranges 0 memory 0
-  file good\n";
-
-/// The summary of the file with faults.
-const FAULTY_SUMMARY: &str = "faulty.dmp: no crash
-  system Win32s 0.0.0, x86, processors 0
-  written not set
-  streams 3 threads 0 modules 0 exceptions 0 ranges 0 memory 0
-  file damaged, 2 bad entries: entry 1 item 0: name length outside the file: offset 4294967295 size 4\n";
-
-const ROWS: [EndingRow<'static>; 27] = [
-    (
-        CommandCall::Line(&["summary", "system.dmp"]),
-        (0, SYSTEM_SUMMARY, ""),
-        None,
-        (1, 0, 0),
-    ),
-    // Entries are bad: the summary says so, and the status.
-    (
-        CommandCall::Line(&["summary", "faulty.dmp"]),
-        (1, FAULTY_SUMMARY, ""),
-        None,
-        (1, 0, 0),
-    ),
-    (
-        CommandCall::Line(&["summary", "empty.dmp"]),
-        (1, "", "mdmp: empty.dmp: file of 0 bytes is too short\n"),
-        None,
-        (1, 0, 0),
-    ),
-    (
-        CommandCall::Line(&["summary", "other.dmp"]),
-        (3, "", "mdmp: cannot open other.dmp\n"),
-        None,
-        (0, 0, 1),
-    ),
+const ROWS: [EndingRow<'static>; 23] = [
     (
         CommandCall::Print(Shown::Verdicts, SmallFile::System),
         (0, "entry 0: ok\n", ""),
@@ -199,7 +160,11 @@ const ROWS: [EndingRow<'static>; 27] = [
     ),
     (
         CommandCall::Program(&["list", "system.dmp", "--window", "167"]),
-        (2, "", "mdmp: bad command line\n"),
+        (
+            2,
+            "",
+            "mdmp: bad command line: --window '167': expected a decimal number, 168 to 1073741824\n",
+        ),
         None,
         NO_REQUEST,
     ),
@@ -243,7 +208,11 @@ fn assert_ends<R: Files + AllocGlobal + Abort>(
 }
 
 /// Asserts how commands end, and that an output that takes nothing of what is told changes nothing.
-fn assert_each_ends<R: Files + AllocGlobal + Abort>(rt: &R, alloc: Global, rows: &[EndingRow<'_>]) {
+pub fn assert_each_ends<R: Files + AllocGlobal + Abort>(
+    rt: &R,
+    alloc: Global,
+    rows: &[EndingRow<'_>],
+) {
     let untold = Trial {
         err: TAKES_NOTHING,
         ..GOOD

@@ -35,7 +35,7 @@ const STAGED: [StagedRow<'static>; 5] = [
     (
         CommandCall::Print(Shown::Objects, SmallFile::Module),
         (0, SYMBOL_OBJECTS, ""),
-        &[(44, 0, 0), (156, 170, 0), (186, 371, 0)],
+        &[(44, 0, 0), (156, 196, 0), (186, 440, 0)],
     ),
     // A check has a verdict behind its first entry.
     (

@@ -7,6 +7,8 @@
 #![tactic(auto)]
 
 #[cfg(test)]
+mod bad_words;
+#[cfg(test)]
 mod commands;
 #[cfg(test)]
 mod endings;
@@ -27,7 +29,11 @@ mod requests;
 #[cfg(test)]
 mod same;
 #[cfg(test)]
+mod shown_names;
+#[cfg(test)]
 mod spread_files;
+#[cfg(test)]
+mod summaries;
 #[cfg(test)]
 mod system_calls;
 #[cfg(test)]

@@ -25,7 +25,6 @@ fn form_words(form: LineForm) -> &'static str {
 /// What is to be done, as a text, with the names in brackets.
 fn command_text(rt: &impl Abort, alloc: Global, file: &str, command: &Command<'_>) -> String {
     let text = match command {
-        Command::Summary => format!(in alloc; "summary [{file}]"),
         Command::Check { form, parts } => {
             let form = form_words(*form);
             let looked_at = if *parts { " parts" } else { "" };
@@ -42,8 +41,7 @@ fn command_text(rt: &impl Abort, alloc: Global, file: &str, command: &Command<'_
     text.expect(rt, "memory for a text")
 }
 
-/// A command as a text: what is to be done, and within which limits: the window, the longest name, and what may be
-/// read, held, and read of CodeView records.
+/// A command as a text: what is to be done, and within which limits.
 fn text_of(
     rt: &impl Abort,
     alloc: Global,
@@ -52,11 +50,33 @@ fn text_of(
     command: &Command<'_>,
 ) -> String {
     let command = command_text(rt, alloc, file, command);
+    text_within(rt, alloc, command.as_str(), limits)
+}
+
+/// A text, and its limits: the window, the longest name, and what may be read, held, and read of CodeView records.
+fn text_within(rt: &impl Abort, alloc: Global, command: &str, limits: Limits) -> String {
     let text = format!(in alloc;
         "{command} within {} {} {:?} {:?} {:?}",
         limits.window, limits.name, limits.budget, limits.memory, limits.aside
     );
     text.expect(rt, "memory for a text")
+}
+
+/// Summaries as a text, with each name in brackets.
+fn summaries_text(
+    rt: &impl Abort,
+    alloc: Global,
+    files: &[&str],
+    limits: Limits,
+    form: LineForm,
+) -> String {
+    let mut text = String::from_str(alloc, "summary").expect(rt, "memory for a text");
+    for file in files {
+        write!(text, " [{file}]").expect(rt, "memory for a name");
+    }
+    text.push_str(form_words(form))
+        .expect(rt, "memory for a form");
+    text_within(rt, alloc, text.as_str(), limits)
 }
 
 /// What words come to, as a text: a command, or why there is none.
@@ -67,19 +87,25 @@ fn asked_by<'a>(rt: &impl Abort, alloc: Global, words: &'a [&'a str]) -> String 
             limits,
             command,
         } => return text_of(rt, alloc, file, limits, &command),
+        Invocation::Summarize {
+            files,
+            limits,
+            form,
+        } => return summaries_text(rt, alloc, &files, limits, form),
         Invocation::Help(_) => "help",
         Invocation::Refused(_) => "refused",
-        Invocation::InvalidValue => "bad",
+        Invocation::BadWord(_) => "bad",
+        Invocation::InvalidValue => "together",
         Invocation::Memory => "memory",
     };
     String::from_str(alloc, text).expect(rt, "memory for a text")
 }
 
 /// Words, what they ask for, and within which limits.
-type AskedRow<'a> = (&'a [&'a str], &'a str, &'a str);
+pub type AskedRow<'a> = (&'a [&'a str], &'a str, &'a str);
 
 /// Asserts what words come to.
-fn assert_asked(rt: &impl Abort, alloc: Global, rows: &[AskedRow<'_>]) {
+pub fn assert_asked(rt: &impl Abort, alloc: Global, rows: &[AskedRow<'_>]) {
     for &(words, asked, limits) in rows {
         let wanted = format!(in alloc; "{asked}{limits}").expect(rt, "memory for a text");
         let found = asked_by(rt, alloc, words);
@@ -88,17 +114,16 @@ fn assert_asked(rt: &impl Abort, alloc: Global, rows: &[AskedRow<'_>]) {
 }
 
 /// Nothing is asked for.
-const NONE: &str = "";
+pub const NONE: &str = "";
 
 /// The limits where no words set them.
-const USUAL: &str = " within 65536 4096 Some(18446744073709551615) None None";
+pub const USUAL: &str = " within 65536 4096 Some(18446744073709551615) None None";
 
 /// The limits for the dumps of strangers, where no words set them.
-const STRANGERS: &str = " within 65536 4096 Some(67108864) Some(67108864) Some(67108864)";
+pub const STRANGERS: &str = " within 65536 4096 Some(67108864) Some(67108864) Some(67108864)";
 
 /// Commands, and what is done with names, which are kept as they are.
-const COMMANDS: [AskedRow<'static>; 20] = [
-    (&["summary", "a.dmp"], "summary [a.dmp]", USUAL),
+const COMMANDS: [AskedRow<'static>; 19] = [
     (&["check", "a.dmp"], "check [a.dmp]", USUAL),
     (&["list", "a.dmp"], "list [a.dmp]", USUAL),
     (&["list", "a.dmp", "--pdb"], "list [a.dmp] pdb", USUAL),
@@ -159,7 +184,7 @@ const SPANS: [AskedRow<'static>; 28] = [
         "hex [a] 18446744073709551615 1",
         USUAL,
     ),
-    (&["hex", "a", "0xffffffffffffffff", "2"], "bad", NONE),
+    (&["hex", "a", "0xffffffffffffffff", "2"], "together", NONE),
     (
         &["hex", "a", "18446744073709551615", "0"],
         "hex [a] 18446744073709551615 0",
@@ -173,7 +198,7 @@ const SPANS: [AskedRow<'static>; 28] = [
     ),
     (
         &["hex", "a", "18446744073708503041", "1048576"],
-        "bad",
+        "together",
         NONE,
     ),
     (&["hex", "a", "0", "1048576"], "hex [a] 0 1048576", USUAL),
@@ -268,7 +293,7 @@ const TYPES: [AskedRow<'static>; 17] = [
             "copy", "a", "b", "1", "2", "3", "4", "5", "6", "7", "8", "9", "10", "11", "12", "13",
             "14", "15", "16", "17",
         ],
-        "bad",
+        "together",
         NONE,
     ),
 ];

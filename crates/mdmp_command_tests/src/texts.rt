@@ -3,15 +3,15 @@
 /// What `list --json` prints of a file of one module.
 pub const MODULE_OBJECTS: &str = "\
 {\"line\":\"dump\",\"version\":\"0x0000\",\"streams\":1,\"directory\":32,\"checksum\":0,\"time\":0,\"flags\":\"0x0000000000000000\"}
-{\"line\":\"stream\",\"entry\":0,\"type\":4,\"size\":112,\"rva\":44}
-{\"line\":\"module\",\"entry\":0,\"index\":0,\"base\":\"0x0000000000000000\",\"size\":0,\"checksum\":0,\"time\":0,\"version\":\"0.0.0.0\",\"cv\":{\"class\":\"inside\",\"size\":30,\"offset\":156},\"misc\":{\"class\":\"empty\"},\"name\":null}
+{\"line\":\"stream\",\"entry\":0,\"type\":4,\"size\":112,\"rva\":44,\"name\":\"ModuleListStream\"}
+{\"line\":\"module\",\"entry\":0,\"index\":0,\"base\":\"0x0000000000000000\",\"size\":0,\"checksum\":0,\"time\":0,\"version\":\"0.0.0.0\",\"cv\":{\"class\":\"inside\",\"size\":30,\"offset\":156},\"misc\":{\"class\":\"empty\"},\"name\":null,\"code_id\":null,\"product_version\":\"0.0.0.0\"}
 ";
 
 /// The same, and the object of its CodeView record.
 pub const SYMBOL_OBJECTS: &str = "\
 {\"line\":\"dump\",\"version\":\"0x0000\",\"streams\":1,\"directory\":32,\"checksum\":0,\"time\":0,\"flags\":\"0x0000000000000000\"}
-{\"line\":\"stream\",\"entry\":0,\"type\":4,\"size\":112,\"rva\":44}
-{\"line\":\"module\",\"entry\":0,\"index\":0,\"base\":\"0x0000000000000000\",\"size\":0,\"checksum\":0,\"time\":0,\"version\":\"0.0.0.0\",\"cv\":{\"class\":\"inside\",\"size\":30,\"offset\":156},\"misc\":{\"class\":\"empty\"},\"name\":null}
+{\"line\":\"stream\",\"entry\":0,\"type\":4,\"size\":112,\"rva\":44,\"name\":\"ModuleListStream\"}
+{\"line\":\"module\",\"entry\":0,\"index\":0,\"base\":\"0x0000000000000000\",\"size\":0,\"checksum\":0,\"time\":0,\"version\":\"0.0.0.0\",\"cv\":{\"class\":\"inside\",\"size\":30,\"offset\":156},\"misc\":{\"class\":\"empty\"},\"name\":null,\"code_id\":null,\"product_version\":\"0.0.0.0\"}
 {\"line\":\"pdb\",\"entry\":0,\"index\":0,\"kind\":\"rsds\",\"guid\":\"00112233-4455-6677-8899-aabbccddeeff\",\"age\":1,\"debug_id\":\"00112233445566778899AABBCCDDEEFF1\",\"name\":\"a.pdb\",\"cut\":false}
 ";
 
@@ -29,9 +29,9 @@ pdb 00112233-4455-6677-8899-aabbccddeeff age 1 name \"a.pdb\"\n";
 /// What `list --json` prints of the file whose numbers are `FAULTY`, up to its fault.
 pub const FAULTY_OBJECTS: &str = "\
 {\"line\":\"dump\",\"version\":\"0x0000\",\"streams\":3,\"directory\":32,\"checksum\":0,\"time\":0,\"flags\":\"0x0000000000000000\"}
-{\"line\":\"stream\",\"entry\":0,\"type\":7,\"size\":56,\"rva\":68}
+{\"line\":\"stream\",\"entry\":0,\"type\":7,\"size\":56,\"rva\":68,\"name\":\"SystemInfoStream\"}
 {\"line\":\"system\",\"entry\":0,\"architecture\":0,\"level\":0,\"revision\":0,\"processors\":0,\"product\":0,\"version\":\"0.0.0\",\"platform\":0,\"suite\":0,\"csd\":null}
-{\"line\":\"stream\",\"entry\":1,\"type\":4,\"size\":112,\"rva\":124}
+{\"line\":\"stream\",\"entry\":1,\"type\":4,\"size\":112,\"rva\":124,\"name\":\"ModuleListStream\"}
 ";
 
 /// What `check --json` prints of it.

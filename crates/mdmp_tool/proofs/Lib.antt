@@ -1,4 +1,7 @@
+pub mod BadLines
 pub mod CopyEnds
+pub mod InTurn
 pub mod Loans
+pub mod PlainRuns
 pub mod StandingCopy
 pub mod Wording

@@ -7,6 +7,7 @@ use Rattle.mdmp_lister.specs.declared.limits.Limits.{Limits}
 use Rattle.mdmp_lister.specs.Format.Refusal.{opening_fault}
 use Rattle.mdmp_engines.specs.declared.fault.ToolFault.{ToolFault}
 use Rattle.mdmp_print.specs.declared.form.LineForm.{LineForm}
+use Rattle.mdmp_print.specs.declared.form.LineForm.TheVariants.{Json, Text}
 use Rattle.mdmp_words.specs.declared.number_words.Span.{Span}
 use Rattle.mdmp_engines.specs.Causes.{HasOutCause, IsNoSourceFault}
 use Rattle.mdmp_engines.specs.CheckParts.{ChecksPartsThrough}
@@ -14,6 +15,7 @@ use Rattle.mdmp_engines.specs.CheckRuns.{ChecksThrough}
 use Rattle.mdmp_engines.specs.Copying.{Copies, SpendsCopy, SpendsWithin, TellsCopyBudget, TellsCopyMemory, first_not_copied}
 use Rattle.mdmp_engines.specs.Engines.{IsReadThrough, Pace, ReadsSource, RunsThrough, Tells, unless_refused, at_the_end, in_blocks, past_faults, up_to_a_fault, Access, check_access, hex_access, list_access}
 use Rattle.mdmp_engines.specs.HexRuns.{HexesThrough}
+use Rattle.mdmp_engines.specs.ObjectRuns.{IsObjectThrough, PrintsObject}
 use Rattle.mdmp_engines.specs.Reports.{IsCheckEnd, IsEnd, IsSummaryEnd}
 use Rattle.mdmp_engines.specs.Runs.{ListsThrough}
 use Rattle.mdmp_engines.specs.SummaryRuns.{IsQuietSummary, IsSummedThrough, Summarizes}
@@ -57,16 +59,36 @@ HasPrintedList form pdb limits = HasRun (list_access pdb limits) IsEnd (λ file.
 abbrev pub HasPrintedMemory : Span → Limits → SourceState → OutState → OutState → ℕ → SourceState → OutState → OutState → Type 0
 HasPrintedMemory span limits = HasRun (hex_access span.length limits) IsEnd (λ file. HexesThrough file limits.name span.address span.length) at_the_end
 
--- the summary of a file of this name was printed, within these limits
-pub record HasSummarized (name : List ℕ) (limits : Limits) (old : SourceState) (before err_before : OutState) (status : ℕ) (new : SourceState) (after err_after : OutState) : Type 0 where
-  pub answer : Result ℕ ToolFault
-  pub ends : IsSummaryEnd name answer status err_before err_after
+-- the lines of a summary were printed, within these limits
+pub record IsSummarizedText (name : List ℕ) (limits : Limits) (old : SourceState) (before : OutState) (answer : Result ℕ ToolFault) (new : SourceState) (after : OutState) : Type 0 where
   pub summarizes : (file : List ℕ) → old.store.content ≡ Some file → Summarizes name file limits before answer after
   pub good : (file : List ℕ) → IsGood old.store file → IsNoSourceFault answer
   pub reads : ReadsSource old answer new
   pub through : IsSummedThrough limits old answer new
   pub quiet : IsQuietSummary answer (after ≡ before)
   pub out_cause : HasOutCause before answer after
+
+-- or its object
+pub record IsSummarizedObject (name : List ℕ) (limits : Limits) (old : SourceState) (before : OutState) (answer : Result ℕ ToolFault) (new : SourceState) (after : OutState) : Type 0 where
+  pub prints : (file : List ℕ) → old.store.content ≡ Some file → PrintsObject name file limits before answer after
+  pub good : (file : List ℕ) → IsGood old.store file → IsNoSourceFault answer
+  pub reads : ReadsSource old answer new
+  pub through : IsObjectThrough limits old answer new
+  pub out_cause : HasOutCause before answer after
+
+abbrev pub IsSummarized : LineForm → (name : List ℕ) → Limits → SourceState → OutState → Result ℕ ToolFault → SourceState → OutState → Type 0
+IsSummarized Text name limits old before answer new after = IsSummarizedText name limits old before answer new after
+IsSummarized Json name limits old before answer new after = IsSummarizedObject name limits old before answer new after
+
+-- the summary of a file was printed in this form, within these limits, under one name, and an error was told behind another
+pub record HasSummarizedAs (form : LineForm) (printed told : List ℕ) (limits : Limits) (old : SourceState) (before err_before : OutState) (status : ℕ) (new : SourceState) (after err_after : OutState) : Type 0 where
+  pub answer : Result ℕ ToolFault
+  pub ends : IsSummaryEnd told answer status err_before err_after
+  pub summarizes : IsSummarized form printed limits old before answer new after
+
+-- both are the file's name
+abbrev pub HasSummarized : LineForm → List ℕ → Limits → SourceState → OutState → OutState → ℕ → SourceState → OutState → OutState → Type 0
+HasSummarized form name = HasSummarizedAs form name name
 
 -- the streams of these types were copied, within these limits
 pub record HasCopied (Z : Type 0) (types : List ℕ) (limits : Limits) (old : SourceState) (before err_before : OutState) (status : ℕ) (new : SourceState) (after err_after : OutState) : Type 0 where

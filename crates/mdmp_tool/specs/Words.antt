@@ -1,15 +1,19 @@
 -- How the words of a command line end.
-use Rattle.std.specs.Prelude.{◌≡◌, ◌⊎◌, ◌∷◌, ℕ, List, [], Some, None, IsTrue, true, codes, map}
+use Rattle.std.specs.Prelude.{◌≡◌, ◌⊎◌, ◌∷◌, ℕ, List, [], Some, None, IsTrue, true, codes, map, max}
 use Rattle.std.specs.List.{concat}
 use denote.Ref.{Bor}
 use Rattle.mdmp_source.specs.Output.{OutState, PutsAll, PutsPrefix, unlent}
 use Rattle.mdmp_source.specs.Source.{SourceState}
 use Rattle.mdmp_disk.specs.Disk.{DiskState, FileAt, FileState, IsOpenedFile, IsPresent, KeepsOthers, bytes_of_file, make_counted, open_counted, opened_once, present, open_refused}
 use Rattle.mdmp_lister.specs.declared.limits.Limits.{Limits}
-use Rattle.mdmp_tool.specs.Commands.{HasCheckedSo, HasCopied, HasPrintedMemory, HasPrintedList, HasSummarized}
+use Rattle.mdmp_print.specs.declared.form.LineForm.{LineForm}
+use Rattle.mdmp_print.specs.declared.form.LineForm.TheVariants.{Json, Text}
+use Rattle.mdmp_tool.specs.Commands.{HasCheckedSo, HasCopied, HasPrintedMemory, HasPrintedList, HasSummarizedAs}
 use Rattle.mdmp_engines.specs.Copying.{first_not_copied}
 use Rattle.mdmp_engines.specs.Faults.{fault_text, exit_status}
 use Rattle.mdmp_engines.specs.Reports.{IsLineTold}
+use Rattle.mdmp_tool.specs.BadWordText.{bad_word_text}
+use Rattle.mdmp_tool.specs.Shown.{shown}
 use Rattle.mdmp_words.specs.Invocations.{AsksFor, AsksNothing, IsValid}
 use Rattle.mdmp_engines.specs.declared.fault.ToolFault.{ToolFault}
 use Rattle.mdmp_engines.specs.declared.fault.ToolFault.TheVariants.{Memory, NotCopied, Out}
@@ -39,12 +43,12 @@ pub record Refuses (wanted : ℕ) (text : List ℕ) (before : Outputs) (status :
 abbrev pub RefusesFault : ToolFault → Outputs → ℕ → Outputs → Type 0
 RefusesFault fault = Refuses (exit_status fault) (fault_text fault)
 
--- a file of this name could not be opened, or made
+-- a file of this name could not be opened, or made: it is told without control characters
 abbrev pub unopened_text : List ℕ → List ℕ
-unopened_text name = concat (codes "cannot open " ∷ name ∷ [])
+unopened_text name = concat (codes "cannot open " ∷ shown name ∷ [])
 
 abbrev pub unmade_text : List ℕ → List ℕ
-unmade_text name = concat (codes "cannot create " ∷ name ∷ [])
+unmade_text name = concat (codes "cannot create " ∷ shown name ∷ [])
 
 -- this text, which explains the words, went to the errors, and nothing was written
 pub record Explains (text : List ℕ) (before : Outputs) (status : ℕ) (after : Outputs) : Type 0 where
@@ -120,8 +124,45 @@ pub data EndsCopy (Z : Type 0) (types : List ℕ) (limits : Limits) (file target
       → EndsCopy Z types limits file target disk before status after
   copied : first_not_copied types ≡ None → CopiesTo Z types limits file target disk before status after → EndsCopy Z types limits file target disk before status after
 
+-- ---- summaries
+
+-- how something ends that changes the disk, writes to both outputs, and has a status
+abbrev pub CommandEnding : Type 1
+CommandEnding = DiskChange → Outputs → ℕ → Outputs → Type 0
+
+-- it ends as the first of two does, and from there on as the second: its status is the worse one
+pub record EndsInTurn (First Second : CommandEnding) (disk : DiskChange) (before : Outputs) (status : ℕ) (after : Outputs) : Type 0 where
+  pub between : DiskState
+  pub written : Outputs
+  pub first_status : ℕ
+  pub second_status : ℕ
+  pub first : First (record { old = disk.old; new = between }) before first_status written
+  pub second : Second (record { old = between; new = disk.new }) written second_status after
+  pub worst : status ≡ max first_status second_status
+
+-- nothing was done
+pub record EndsIdle (disk : DiskChange) (before : Outputs) (status : ℕ) (after : Outputs) : Type 0 where
+  pub zero : status ≡ 0
+  pub same_disk : disk.new ≡ disk.old
+  pub quiet : after ≡ before
+
+-- the name under which the summary of a file is printed: without control characters, but in an object as it is
+abbrev pub printed_name : LineForm → List ℕ → List ℕ
+printed_name Text file = shown file
+printed_name Json file = file
+
+-- the summary of the file of this name; an error is told behind the name without control characters
+abbrev pub EndsFileSummary : LineForm → Limits → List ℕ → CommandEnding
+EndsFileSummary form limits file = EndsPrint (HasSummarizedAs form (printed_name form file) (shown file) limits) file
+
+-- the summary of each of these files, in their order
+abbrev pub EndsSummaries : LineForm → Limits → List (List ℕ) → CommandEnding
+EndsSummaries form limits [] = EndsIdle
+EndsSummaries form limits (file ∷ files) = EndsInTurn (EndsFileSummary form limits file) (EndsSummaries form limits files)
+
+-- ---- commands
+
 abbrev pub EndsCommand : Type 0 → Command → Limits → List ℕ → DiskChange → Outputs → ℕ → Outputs → Type 0
-EndsCommand Z commands.Summary limits file disk before status after = EndsPrint (HasSummarized file limits) file disk before status after
 EndsCommand Z (commands.Check form parts) limits file disk before status after = EndsPrint (HasCheckedSo parts form limits) file disk before status after
 EndsCommand Z (commands.List form pdb) limits file disk before status after = EndsPrint (HasPrintedList form pdb limits) file disk before status after
 EndsCommand Z (commands.Hex span) limits file disk before status after = EndsPrint (HasPrintedMemory span limits) file disk before status after
@@ -132,8 +173,10 @@ EndsCommand Z (commands.Copy target types) limits file disk before status after 
 -- how that ends which some words ask for
 abbrev pub EndsAsked : Type 0 → Invocation → DiskChange → Outputs → ℕ → Outputs → Type 0
 EndsAsked Z (asks.Run file limits command) disk before status after = EndsCommand Z command limits file.now disk before status after
+EndsAsked Z (asks.Summarize files limits form) disk before status after = EndsSummaries form limits (map (λ file. file.now) files.items) disk before status after
 EndsAsked Z (asks.Help text) disk before status after = (disk.new ≡ disk.old) × (Helps text.bytes.items before status after ⊎ HelpsInPart text.bytes.items before status after)
 EndsAsked Z (asks.Refused text) disk before status after = (disk.new ≡ disk.old) × Explains text.bytes.items before status after
+EndsAsked Z (asks.BadWord bad) disk before status after = (disk.new ≡ disk.old) × Refuses 2 (bad_word_text bad.place bad.word.now) before status after
 EndsAsked Z asks.InvalidValue disk before status after = (disk.new ≡ disk.old) × Refuses 2 (codes "bad command line") before status after
 EndsAsked Z asks.Memory disk before status after = (disk.new ≡ disk.old) × RefusesFault Memory before status after
 

@@ -7,9 +7,12 @@
 //! which this crate gives out again: [`run_list`], [`run_check`], [`run_check_parts`], [`run_hex`] and [`run_copy`].
 #![tactic(auto)]
 
+mod bad_words;
 mod program;
 mod running;
+mod shown;
 mod standing;
+mod summaries;
 mod words;
 
 pub use crate::program::{run_args, run_program};

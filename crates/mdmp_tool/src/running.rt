@@ -1,12 +1,13 @@
 //! Commands over a source: what they print or copy, what they report, and their exit status.
 ghost use Rattle.std.specs.Prelude.{◌≡◌, []};
-ghost use Rattle.mdmp_tool.specs.Commands.{HasCopied, HasRunThrough, HasSummarized};
+ghost use Rattle.mdmp_tool.specs.Commands.{HasCopied, HasRunThrough, HasSummarized, HasSummarizedAs, IsSummarized, IsSummarizedObject, IsSummarizedText};
 
 use mdmp_engines::{
-    Engine, Outcome, copy_source, report, report_summary, run_in_blocks, summary_source,
+    Engine, Outcome, ToolFault, copy_source, report, report_summary, run_in_blocks,
+    summary_json_source, summary_source,
 };
 use mdmp_lister::{Limits, TypeSet};
-use mdmp_print::LineOut;
+use mdmp_print::{LineForm, LineOut};
 use mdmp_source::{Out, Source, Store};
 use std::alloc::Allocator;
 
@@ -33,9 +34,10 @@ pub fn print_and_report<E: Engine, S: Store + Drop, A: Allocator + Copy, O: Out,
     }
 }
 
-/// Prints the summary of a source to `out`, and reports an error to `err`. The first line begins with `file`, the
-/// file's name. The answer is the exit status, as [`print_and_report`] says; it is 1 if entries are bad.
+/// Prints the summary of a source to `out` in this form, and reports an error to `err`. `file` is the file's name. The
+/// answer is the exit status, as [`print_and_report`] says; it is 1 if entries are bad.
 pub fn summarize_and_report<S: Store + Drop, A: Allocator + Copy, O: Out, W: Out>(
+    form: LineForm,
     alloc: A,
     file: &[u8],
     source: Source<S>,
@@ -43,13 +45,72 @@ pub fn summarize_and_report<S: Store + Drop, A: Allocator + Copy, O: Out, W: Out
     out: &mut O,
     err: &mut W,
 ) -> Outcome<u8, S>
-    ensures { HasSummarized file.now limits source (O.state out.old) (W.state err.old) result.answer result.source (O.state out.new) (W.state err.new) }
+    ensures { HasSummarized form file.now limits source (O.state out.old) (W.state err.old) result.answer result.source (O.state out.new) (W.state err.new) }
 {
-    let Outcome { answer, source } = summary_source(alloc, source, limits, file, out);
+    summarize_named(form, alloc, file, file, source, limits, out, err)
+}
+
+/// The same of a file whose name is printed so, and told so before an error.
+pub(crate) fn summarize_named<S: Store + Drop, A: Allocator + Copy, O: Out, W: Out>(
+    form: LineForm,
+    alloc: A,
+    printed: &[u8],
+    told: &[u8],
+    source: Source<S>,
+    limits: Limits,
+    out: &mut O,
+    err: &mut W,
+) -> Outcome<u8, S>
+    ensures { HasSummarizedAs form printed.now told.now limits source (O.state out.old) (W.state err.old) result.answer result.source (O.state out.new) (W.state err.new) }
+{
+    let Outcome { answer, source } = summarize_in(form, alloc, printed, source, limits, out);
     Outcome {
-        answer: report_summary(answer, file, err),
+        answer: report_summary(answer, told, err),
         source,
     }
+}
+
+/// Prints the summary of a source in this form.
+fn summarize_in<S: Store + Drop, A: Allocator + Copy, O: Out>(
+    form: LineForm,
+    alloc: A,
+    file: &[u8],
+    source: Source<S>,
+    limits: Limits,
+    out: &mut O,
+) -> Outcome<Result<u64, ToolFault>, S>
+    ensures { IsSummarized form file.now limits source (O.state out.old) result.answer result.source (O.state out.new) }
+{
+    match form {
+        LineForm::Text => summarize_text(alloc, file, source, limits, out),
+        LineForm::Json => summarize_object(alloc, file, source, limits, out),
+    }
+}
+
+/// Prints the lines of the summary of a source.
+fn summarize_text<S: Store + Drop, A: Allocator + Copy, O: Out>(
+    alloc: A,
+    file: &[u8],
+    source: Source<S>,
+    limits: Limits,
+    out: &mut O,
+) -> Outcome<Result<u64, ToolFault>, S>
+    ensures { IsSummarizedText file.now limits source (O.state out.old) result.answer result.source (O.state out.new) }
+{
+    summary_source(alloc, source, limits, file, out)
+}
+
+/// Prints the object of the summary of a source.
+fn summarize_object<S: Store + Drop, A: Allocator + Copy, O: Out>(
+    alloc: A,
+    file: &[u8],
+    source: Source<S>,
+    limits: Limits,
+    out: &mut O,
+) -> Outcome<Result<u64, ToolFault>, S>
+    ensures { IsSummarizedObject file.now limits source (O.state out.old) result.answer result.source (O.state out.new) }
+{
+    summary_json_source(alloc, source, limits, file, out)
 }
 
 /// Copies the streams of these types to `out`, and reports an error to `err`. The answer is the exit status, as

@@ -3,19 +3,23 @@ ghost use Rattle.std.specs.Prelude.{codes, ◌≡◌, ◌≤◌, ◌⊎◌, ◌�
 ghost use Rattle.std.specs.List.{concat};
 ghost use Rattle.mdmp_source.specs.Output.{OutState};
 ghost use Rattle.mdmp_engines.specs.Reports.{IsLineTold};
-ghost use Rattle.mdmp_tool.specs.Commands.{HasCheckedSo, HasRunThrough, HasSummarized};
+ghost use Rattle.mdmp_tool.specs.Commands.{HasCheckedSo, HasRunThrough};
 ghost use Rattle.mdmp_disk.specs.System.{no_requests, system};
 ghost use Rattle.mdmp_disk.specs.declared.disk.Requests.{Requests};
+ghost use Rattle.mdmp_tool.specs.Shown.{shown};
 ghost use Rattle.mdmp_tool.specs.Words.{EndsCopy, EndsPrint, EndsWords, Helps, HelpsInPart};
 
-use crate::running::{copy_and_report, print_and_report, summarize_and_report};
+use crate::bad_words::refuse_word;
+use crate::running::{copy_and_report, print_and_report};
+use crate::shown::{ShownText, is_plain};
+use crate::summaries::summarize_files;
 use mdmp_disk::{Disk, SystemDisk};
 use mdmp_engines::{
     CheckEngine, CheckPartsEngine, Engine, HexEngine, ListEngine, ToolFault, first_not_copied,
     report,
 };
 use mdmp_lister::{Limits, TypeSet};
-use mdmp_print::{LineForm, LineOut, print_error, print_error_named};
+use mdmp_print::{LineForm, LineOut, print_around, print_error, print_error_named, row};
 use mdmp_source::{Out, OutFailed, Source, write_all};
 use mdmp_words::{Command, Invocation, Span, invocation_of};
 use std::alloc::{AllocGlobal, Allocator};
@@ -37,12 +41,11 @@ pub fn run_words<R: Files + AllocGlobal, A: Allocator + Copy, O: Out, E: Out>(
     run_on_disk(rt, &mut SystemDisk::new(rt), alloc, words, out, err)
 }
 
-/// Runs the command that the words after the program's name ask for: `summary FILE`,
-/// `check FILE [--parts] [--json]`,
-/// `list FILE [--pdb] [--json] [--aside N]`, `hex FILE ADDRESS LENGTH` or `copy IN OUT TYPE...`. Each takes
-/// `--window N`, `--name N`, `--budget N`, `--memory N` and `--untrusted`. All words are judged before a file is
-/// opened. `copy` creates OUT, which must not exist; after an error OUT stays, empty or partly written. No other
-/// file changes.
+/// Runs the command that the words after the program's name ask for: `summary FILE.. [--json]`,
+/// `check FILE [--parts] [--json]`, `list FILE [--pdb] [--json] [--aside N]`, `hex FILE ADDRESS LENGTH` or
+/// `copy IN OUT TYPE...`. Each takes `--window N`, `--name N`, `--budget N`, `--memory N` and `--untrusted`. All words
+/// are judged before a file is opened. `summary` opens each FILE in turn, and its status is the worst of all. `copy`
+/// creates OUT, which must not exist; after an error OUT stays, empty or partly written. No other file changes.
 ///
 /// It writes the lines, or the help that was asked for, to `out`, and the line of an error to `err`. It returns
 /// the exit status: 0 on success; 1 for an error in the file, for `summary` and `check` in any entry; 2 for a bad
@@ -64,7 +67,6 @@ pub fn run_on_disk<R: AllocGlobal, D: Disk, A: Allocator + Copy, O: Out, E: Out>
             limits,
             command,
         } => match command {
-            Command::Summary => summarize_file(disk, alloc, limits, file, out, err),
             Command::Check { form, parts } => {
                 check_file(
                     disk,
@@ -93,11 +95,17 @@ pub fn run_on_disk<R: AllocGlobal, D: Disk, A: Allocator + Copy, O: Out, E: Out>
                 copy_file(disk, alloc, types, limits, file, target, err)
             }
         },
+        Invocation::Summarize {
+            files,
+            limits,
+            form,
+        } => summarize_files(disk, alloc, form, limits, &files, out, err),
         Invocation::Help(text) => write_help(&text, out, err),
         Invocation::Refused(text) => {
             let _ = write_all(err, text.as_bytes());
             2
         }
+        Invocation::BadWord(bad) => refuse_word(bad, err),
         Invocation::InvalidValue => refuse_words(err),
         Invocation::Memory => report::<(), E>(Err(ToolFault::Memory), err),
     }
@@ -185,24 +193,6 @@ fn print_file<E: Engine, D: Disk, A: Allocator + Copy, O: Out, W: Out>(
     status
 }
 
-/// Prints the summary of the file of this name.
-fn summarize_file<D: Disk, A: Allocator + Copy, O: Out, W: Out>(
-    disk: &mut D,
-    alloc: A,
-    limits: Limits,
-    file: &str,
-    out: &mut O,
-    err: &mut W,
-) -> u8
-    ensures { EndsPrint (HasSummarized file.now limits) file.now (record { old = D.state disk.old; new = D.state disk.new })
-        (record { out = O.state out.old; err = W.state err.old }) result (record { out = O.state out.new; err = W.state err.new }) }
-{
-    let Ok(store) = disk.open(file) else {
-        return refuse_name(b"cannot open ", file, err);
-    };
-    summarize_and_report(alloc, file.as_bytes(), Source::new(store), limits, out, err).answer
-}
-
 /// Copies the streams of these types out of one file into another, which is made.
 fn copy_file<D: Disk, A: Allocator + Copy, E: Out>(
     disk: &mut D,
@@ -236,7 +226,7 @@ fn copy_file<D: Disk, A: Allocator + Copy, E: Out>(
     status
 }
 
-/// Reports that the words of a command line are bad, and returns the exit status.
+/// Reports that the words of a command line are bad together, and returns the exit status.
 pub(crate) fn refuse_words<E: Out>(err: &mut E) -> u8
     ensures status { result ≡ 2 }
     ensures told { IsLineTold (E.state err.old) (codes "bad command line") (E.state err.new) }
@@ -245,12 +235,17 @@ pub(crate) fn refuse_words<E: Out>(err: &mut E) -> u8
     2
 }
 
-/// Reports that a file could not be opened or created, and returns the exit status.
-fn refuse_name<E: Out, const N: usize>(why: &[u8; N], name: &str, err: &mut E) -> u8
+/// Reports that a file could not be opened or created, by its name as it is told, and returns the exit status.
+pub(crate) fn refuse_name<E: Out, const N: usize>(why: &[u8; N], name: &str, err: &mut E) -> u8
     requires { N ≤ 100 }
     ensures status { result ≡ 3 }
-    ensures told { IsLineTold (E.state err.old) (concat (why.now ∷ name.now ∷ [])) (E.state err.new) }
+    ensures told { IsLineTold (E.state err.old) (concat (why.now ∷ shown name.now ∷ [])) (E.state err.new) }
 {
-    let _ = print_error_named(err, why, name.as_bytes());
+    let name = name.as_bytes();
+    let _ = if is_plain(name) {
+        print_error_named(err, why, name)
+    } else {
+        print_around(err, &row![b"mdmp: ", why], &ShownText(name), &row![b"\n"])
+    };
     3
 }

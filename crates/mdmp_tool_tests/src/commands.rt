@@ -4,7 +4,7 @@
 //! nobody above it knows what the command did, and each proof stays short.
 ghost use Rattle.std.specs.Prelude.{◌+◌, ◌^◌, ◌≤◌, ◌≡◌, [], None};
 
-use mdmp_engines::summary_source;
+use mdmp_engines::{summary_json_source, summary_source};
 use mdmp_lister::{Choice, Lister, TypeSet};
 use mdmp_source::{Out, PatchyOut, Source, Store, write_all};
 use mdmp_test_support::Room;
@@ -30,8 +30,8 @@ pub enum Task<'a> {
     Check,
     /// A check with a line in this form for each part outside the file.
     CheckParts(LineForm),
-    /// The summary of a file of the name `a.dmp`.
-    Summary,
+    /// The summary of a file of the name `a.dmp`, in this form.
+    Summary(LineForm),
     List,
     /// A list with a line for each CodeView record of a module.
     Symbols,
@@ -148,7 +148,7 @@ fn answer_over_store<S: Store + Drop, A: Allocator + Copy>(
     match run.task {
         Task::Check => run_check(heap, store, limits, text, out),
         Task::CheckParts(form) => run_check_parts(heap, store, limits, form, out),
-        Task::Summary => { summary_source(heap, Source::new(store), limits, b"a.dmp", out).answer }
+        Task::Summary(form) => summarized(form, heap, Source::new(store), limits, out).answer,
         Task::List | Task::Symbols => {
             uncounted(run_list(heap, store, limits, text, has_symbols(run.task), out))
         }
@@ -157,6 +157,20 @@ fn answer_over_store<S: Store + Drop, A: Allocator + Copy>(
             uncounted(run_hex(heap, store, limits, address, length, out))
         }
         Task::Copy(types) => run_copy(heap, store, limits, types_of(rt, types), out),
+    }
+}
+
+/// A summary in this form.
+fn summarized<S: Store + Drop, A: Allocator + Copy>(
+    form: LineForm,
+    heap: A,
+    source: Source<S>,
+    limits: Limits,
+    out: &mut PatchyOut<Global>,
+) -> Outcome<Result<u64, ToolFault>, S> {
+    match form {
+        LineForm::Text => summary_source(heap, source, limits, b"a.dmp", out),
+        LineForm::Json => summary_json_source(heap, source, limits, b"a.dmp", out),
     }
 }
 
@@ -173,7 +187,7 @@ fn end_by_source<S: Store + Drop, A: Allocator + Copy>(
     match run.task {
         Task::Check => end_of(check_source(heap, source, limits, text, out)),
         Task::CheckParts(form) => end_of(check_parts_source(heap, source, limits, form, out)),
-        Task::Summary => end_of(summary_source(heap, source, limits, b"a.dmp", out)),
+        Task::Summary(form) => end_of(summarized(form, heap, source, limits, out)),
         Task::List | Task::Symbols => end_of_uncounted(list_source(
             heap,
             source,
@@ -228,7 +242,7 @@ fn end_by_blocks<S: Store + Drop, A: Allocator + Copy, O: Out>(
             };
             end_of_uncounted(run_in_blocks(engine, heap, source, limits, blocks))
         }
-        Task::Copy(_) | Task::Summary => rt.panic("no copy or summary in blocks"),
+        Task::Copy(_) | Task::Summary(_) => rt.panic("no copy or summary in blocks"),
     }
 }
 

@@ -12,7 +12,7 @@ use mdmp_test_support::{
     CODEVIEW_RECORD, CRASH, FAULTY, FAULTY_TEXT, FAULTY_TOLD, FAULTY_VERDICTS, ListedRange,
     MEMORY64, Room, SIX, SYSTEM, SYSTEM_TEXT, WIDE_TEXT,
 };
-use mdmp_tool::{LINE_ROOM, ToolFault};
+use mdmp_tool::{LINE_ROOM, LineForm, ToolFault};
 use std::alloc::Global;
 use std::process::Abort;
 
@@ -36,14 +36,14 @@ const LETTERS: [ListedRange; 2] = [
 const SWEPT: [SweptRow<'static>; 10] = [
     (
         &COPY_WAYS,
-        Task::Summary,
+        Task::Summary(LineForm::Text),
         File::Numbers(1, &NAMED),
         Ok(0),
         File::Text(NAMED_SUMMARY),
     ),
     (
         &COPY_WAYS,
-        Task::Summary,
+        Task::Summary(LineForm::Text),
         File::Numbers(2, &CRASH),
         Ok(0),
         File::Text(CRASH_SUMMARY),

@@ -13,7 +13,7 @@ use mdmp_test_support::{
     CODEVIEW_RECORD, CRASH, FAULTY, FAULTY_TEXT, FAULTY_VERDICTS, MEMORY64, Room, SIX, SYSTEM,
     SYSTEM_TEXT, WIDE_TEXT,
 };
-use mdmp_tool::ToolFault;
+use mdmp_tool::{LineForm, ToolFault};
 use std::alloc::Global;
 use std::process::Abort;
 
@@ -40,7 +40,7 @@ const SWEPT: [StoreRow<'static>; 7] = [
     // All is read before the first line is written: after the pass the name of the program once more.
     (
         &COPY_WAYS,
-        Task::Summary,
+        Task::Summary(LineForm::Text),
         File::Numbers(1, &NAMED),
         USUAL,
         &[OPENING, (168, 156, 0)],

@@ -12,7 +12,7 @@ use mdmp_test_support::{
     CODEVIEW_RECORD, CRASH, FAULTY, FAULTY_TEXT, FAULTY_VERDICTS, MEMORY64, MODULE_FILE_TEXT, Room,
     SIX, SYSTEM, SYSTEM_TEXT, WIDE_TEXT,
 };
-use mdmp_tool::{LINE_ROOM, OpenFault, ToolFault};
+use mdmp_tool::{LINE_ROOM, LineForm, OpenFault, ToolFault};
 use std::alloc::Global;
 use std::process::Abort;
 
@@ -141,7 +141,7 @@ const OPENED: u64 = 32 + 72 + 52 + 168;
 const UNLIMITED: [GrownRow<'static>; 11] = [
     (
         File::Numbers(1, &NAMED),
-        Task::Summary,
+        Task::Summary(LineForm::Text),
         &COPY_WAYS,
         (168, 28, None, None, None),
         Ok(0),
@@ -151,7 +151,7 @@ const UNLIMITED: [GrownRow<'static>; 11] = [
     ),
     (
         CRASH_FILE,
-        Task::Summary,
+        Task::Summary(LineForm::Text),
         &COPY_WAYS,
         (168, 28, None, None, None),
         Ok(0),

@@ -36,6 +36,8 @@ mod same;
 #[cfg(test)]
 mod summary_ends;
 #[cfg(test)]
+mod summary_objects;
+#[cfg(test)]
 mod texts;
 #[cfg(test)]
 mod watched;

@@ -30,15 +30,15 @@ fn module(name: Name<'_>) -> Item<'_> {
             base_of_image: 0x400000,
             size_of_image: 99,
             checksum: 100,
-            time_date_stamp: 9999,
+            time_date_stamp: 0x5f0a9999,
             module_name_rva: 5,
             version_info: VersionInfo {
                 signature: 0,
                 structure_version: 0,
                 file_version_ms: 0x000a0001,
                 file_version_ls: 0xffff0000,
-                product_version_ms: 0,
-                product_version_ls: 0,
+                product_version_ms: 0x000b0002,
+                product_version_ls: 3,
                 file_flags_mask: 0,
                 file_flags: 0,
                 file_os: 0,
@@ -83,11 +83,12 @@ fn prints_modules(rt: HostRuntime) -> Result<(), Fail> {
     print_item(LineForm::Json, module(Name::Long(70000)), &mut out).map_err(|_| "out")?;
     out.flush().map_err(|_| "out")?;
     let front =
-        "module 0 base 0x0000000000400000 size 99 checksum 100 time 9999 version 10.1.65535.0 cv inside 42@10 misc absent 7 name ";
+        "module 0 base 0x0000000000400000 size 99 checksum 100 time 1594530201 version 10.1.65535.0 cv inside 42@10 misc absent 7 name ";
     let object =
-        "{\"line\":\"module\",\"entry\":1,\"index\":0,\"base\":\"0x0000000000400000\",\"size\":99,\"checksum\":100,\"time\":9999,\"version\":\"10.1.65535.0\",\"cv\":{\"class\":\"inside\",\"size\":42,\"offset\":10},\"misc\":{\"class\":\"absent\",\"size\":7},\"name\":";
+        "{\"line\":\"module\",\"entry\":1,\"index\":0,\"base\":\"0x0000000000400000\",\"size\":99,\"checksum\":100,\"time\":1594530201,\"version\":\"10.1.65535.0\",\"cv\":{\"class\":\"inside\",\"size\":42,\"offset\":10},\"misc\":{\"class\":\"absent\",\"size\":7},\"name\":";
+    let ids = ",\"code_id\":\"5F0A999963\",\"product_version\":\"11.2.0.3\"}\n";
     let expected = format!(in rt.alloc();
-        "{front}\"a\\u005c\"\\u000a\\u00e9\\ud83d\\ude00\\udc00\"\n{object}\"a\\\\\\\"\\né😀\u{fffd}\",\"lossy\":true}}\n{object}{{\"long\":70000}}}}\n"
+        "{front}\"a\\u005c\"\\u000a\\u00e9\\ud83d\\ude00\\udc00\"\n{object}\"a\\\\\\\"\\né😀\u{fffd}\",\"lossy\":true{ids}{object}{{\"long\":70000}}{ids}"
     )?;
     assert_eq!(rt; inner.bytes(), expected.as_bytes());
     Ok(())

@@ -8,9 +8,9 @@ use Rattle.clap.specs.declared.parser.matches.ArgMatches.{ArgMatches}
 use Rattle.clap.specs.declared.parser.matches.ArgMatches.TheViews.{out-ArgMatches}
 use Rattle.clap.proofs.OnLiterals.{clap_on_literals}
 use Rattle.mdmp_words.specs.CommandLine.{commands}
-use Rattle.mdmp_words.specs.Invocations.{AreRefused, AsksFor, AsksIn, IsRunWithin, IsTextOf, IsValid, faults, plain_run, request_in, request_named}
+use Rattle.mdmp_words.specs.Invocations.{AreRefused, AsksFor, AsksIn, IsFor, IsTextOf, bad_in, bad_named, faults, request_in, request_named}
 use Rattle.mdmp_words.specs.declared.invocation.Invocation.{Invocation}
-use Rattle.mdmp_words.specs.declared.invocation.Invocation.TheVariants.{Run, Help, Refused, InvalidValue, Memory}
+use Rattle.mdmp_words.specs.declared.invocation.Invocation.TheVariants.{Run, Summarize, Help, Refused, BadWord as BadOne, InvalidValue, Memory}
 
 -- two parts of what may be there
 both : {X A B : Type 0} (f : X → A) (g : X → B) (x : Option X) (a : A) (b : B) → Some a ≡ option_map f x →
@@ -23,21 +23,6 @@ pub used : (matches : ArgMatches) (name : Text) (rows : List Row) → Some name 
     Some rows ≡ option_map (λ p. p.1) (subcommand_rows_of matches) → subcommand_rows_of matches ≡ Some (name, rows)
 used matches name rows named parted = both _ _ (out-ArgMatches matches).subcommand name rows named parted
 
--- a command that is to be run
-pub valid_run : (asked : Invocation) → IsRunWithin asked → IsValid asked
-valid_run (Run file limits command) within = within
-valid_run (Help text) within = absurd within
-valid_run (Refused text) within = absurd within
-valid_run InvalidValue within = absurd within
-valid_run Memory within = absurd within
-
-pub asks_run : (used : Option (Text × List Row)) (asked : Invocation) → IsRunWithin asked → request_in used ≡ plain_run asked → AsksIn used asked
-asks_run used (Run file limits command) within is = is
-asks_run used (Help text) within is = absurd within
-asks_run used (Refused text) within is = absurd within
-asks_run used InvalidValue within is = absurd within
-asks_run used Memory within is = absurd within
-
 -- `clap` says of these commands which words it takes, and how it parts them
 are_free : is_simple_and_free commands ≡ true
 unfolding clap_on_literals
@@ -49,11 +34,13 @@ are_simple = refl
 
 asks_named : (words : List Text) (used : Option (Text × List Row)) (asked : Invocation) → fault_of commands words ≡ [] → used ≡ subcommand_of commands words →
     AsksIn used asked → AsksFor words asked
-unfolding faults request_named
+unfolding faults request_named bad_named
 asks_named words used (Run file limits command) none is asks = (none, ap request_in (sym is) ∙ asks)
+asks_named words used (Summarize files limits form) none is asks = (none, ap request_in (sym is) ∙ asks)
 asks_named words used (Help text) none is asks = absurd asks
 asks_named words used (Refused text) none is asks = absurd asks
-asks_named words used InvalidValue none is asks = (none, ap request_in (sym is) ∙ asks)
+asks_named words used (BadOne bad) none is asks = (none, (ap request_in (sym is) ∙ asks.0, ap bad_in (sym is) ∙ asks.1))
+asks_named words used InvalidValue none is asks = (none, (ap request_in (sym is) ∙ asks.0, ap bad_in (sym is) ∙ asks.1))
 asks_named words used Memory none is asks = tt
 
 -- a parse that succeeds
@@ -63,14 +50,26 @@ parsed line words matches asked is none has asks =
     asks_named words (subcommand_rows_of matches) asked (ap (λ (a : App). fault_of a words) (sym is) ∙ none (ap is_simple_and_free is ∙ are_free))
     ((has (ap is_simple is ∙ are_simple)).1 ∙ ap (λ (a : App). subcommand_of a words) is) asks
 
+-- a request that has an answer
+pub asks_run : (used : Option (Text × List Row)) (asked : Invocation) → IsFor (request_in used) asked → AsksIn used asked
+asks_run used (Run file limits command) is = is
+asks_run used (Summarize files limits form) is = is
+asks_run used (Help text) is = absurd is
+asks_run used (Refused text) is = absurd is
+asks_run used (BadOne bad) is = absurd is
+asks_run used InvalidValue is = absurd is
+asks_run used Memory is = tt
+
 asks_text : (words : List Text) (error : Error) (asked : Invocation) → HasKind (faults words) error → IsTextOf (kind_of error) asked → AsksFor words asked
 asks_text words error (Run file limits command) has told = absurd told
+asks_text words error (Summarize files limits form) has told = absurd told
 asks_text words error (Help text) (inl memory) (inl help) = absurd cc
 asks_text words error (Help text) (inl memory) (inr version) = absurd cc
 asks_text words error (Help text) (inr among) (inl help) = inl (subst (λ kind. IsAmong kind (faults words)) help among)
 asks_text words error (Help text) (inr among) (inr version) = inr (subst (λ kind. IsAmong kind (faults words)) version among)
 asks_text words error (Refused text) (inl memory) told = absurd (told.2 memory)
 asks_text words error (Refused text) (inr among) told = (kind_of error, among, told.0, told.1)
+asks_text words error (BadOne bad) has told = absurd told
 asks_text words error InvalidValue has told = absurd told
 asks_text words error Memory has told = tt
 

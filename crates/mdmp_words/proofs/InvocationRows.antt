@@ -4,8 +4,10 @@ use Rattle.clap.specs.Words.{Text}
 use Rattle.clap.specs.declared.error.kind.ErrorKind.TheVariants.{DisplayHelp, DisplayVersion, InvalidSubcommand, MissingRequiredArgument, MissingSubcommand, UnknownArgument}
 use Rattle.clap.proofs.OnLiterals.{clap_on_literals}
 use Rattle.mdmp_print.specs.declared.form.LineForm.TheVariants as forms
+use Rattle.mdmp_words.specs.BadWords.{bad_type}
 use Rattle.mdmp_words.specs.OptionWords.{Sizes}
-use Rattle.mdmp_words.specs.Invocations.{Plain, PlainCommand, check, copy, faults, hex, list, request_named, summary}
+use Rattle.mdmp_words.specs.declared.bad_word.WordPlace.TheVariants.{Address, Name, StreamType}
+use Rattle.mdmp_words.specs.Invocations.{Plain, PlainCommand, bad_named, check, copy, faults, hex, list, request_named, summary}
 
 -- the limits without an option
 abbrev usual : Sizes
@@ -17,7 +19,7 @@ untrusted = record { window = 65536; name = 4096; budget = Some 67108864; memory
 
 -- a command over the file of this name, with these limits
 abbrev within : Text → Sizes → PlainCommand → Option Plain
-within file sizes command = Some (record { file = file; sizes = sizes; command = command })
+within file sizes command = Some (record { files = file ∷ []; sizes = sizes; command = command })
 
 -- and the usual ones, but for the window and the name
 abbrev over : Text → ℕ → ℕ → PlainCommand → Option Plain
@@ -36,9 +38,19 @@ check-faults : faults check_words ≡ []
 unfolding clap_on_literals faults
 check-faults = refl
 
-summary-request : request_named (codes "summary" ∷ codes "--untrusted" ∷ codes "a.dmp" ∷ []) ≡ within (codes "a.dmp") untrusted summary
+summary-request : request_named (codes "summary" ∷ codes "--untrusted" ∷ codes "a.dmp" ∷ []) ≡ within (codes "a.dmp") untrusted (summary forms.Text)
 unfolding clap_on_literals request_named
 summary-request = refl
+
+-- `summary` takes files, in their order, and options anywhere among them
+summaries-request : request_named (codes "summary" ∷ codes "b.dmp" ∷ codes "--json" ∷ codes "a.dmp" ∷ codes "b.dmp" ∷ [])
+    ≡ Some (record { files = codes "b.dmp" ∷ codes "a.dmp" ∷ codes "b.dmp" ∷ []; sizes = usual; command = summary forms.Json })
+unfolding clap_on_literals request_named
+summaries-request = refl
+
+no_summary-faults : faults (codes "summary" ∷ codes "--json" ∷ []) ≡ MissingRequiredArgument ∷ []
+unfolding clap_on_literals faults
+no_summary-faults = refl
 
 list-request : request_named (codes "list" ∷ codes "a.dmp" ∷ []) ≡ over (codes "a.dmp") 65536 4096 (list forms.Text false)
 unfolding clap_on_literals request_named
@@ -125,6 +137,26 @@ no_address-request = refl
 no_address-faults : faults no_address-words ≡ []
 unfolding clap_on_literals faults
 no_address-faults = refl
+
+no_address-bad : bad_named no_address-words ≡ Some (record { place = Address; word = codes "0x" })
+unfolding clap_on_literals bad_named
+no_address-bad = refl
+
+-- of several bad words the first is told, those of the options first
+several-bad : bad_named (codes "hex" ∷ codes "f" ∷ codes "0x" ∷ codes "1" ∷ codes "--name" ∷ codes "1073741825" ∷ codes "--budget=x" ∷ [])
+    ≡ Some (record { place = Name; word = codes "1073741825" })
+unfolding clap_on_literals bad_named
+several-bad = refl
+
+type-bad : bad_named (codes "copy" ∷ codes "a" ∷ codes "b" ∷ codes "3" ∷ codes "Threads" ∷ codes "x" ∷ [])
+    ≡ Some (record { place = StreamType; word = codes "Threads" })
+unfolding clap_on_literals bad_named bad_type
+type-bad = refl
+
+-- words that are good alone, and wrong together
+together-bad : bad_named (codes "hex" ∷ codes "f" ∷ codes "0xffffffffffffffff" ∷ codes "2" ∷ []) ≡ None
+unfolding clap_on_literals bad_named
+together-bad = refl
 
 -- ---- words that ask for a text, or are refused
 

@@ -2,6 +2,7 @@
 use Rattle.std.proofs.Common.{◌≡◌, ℕ, [], Option, Some, None, true, false, refl}
 use Rattle.std.specs.Prelude.{codes}
 use Rattle.mdmp_words.specs.declared.number_words.Span.{Span}
+use Rattle.mdmp_words.specs.NearTypes.{nearest_among, nearest_type}
 use Rattle.mdmp_words.specs.NumberWords.{address_named, length_named, span_named}
 use Rattle.mdmp_words.specs.OptionWords.{most_named}
 use Rattle.mdmp_words.specs.TypeNames.{type_named}
@@ -116,6 +117,22 @@ in_header-type = refl
 
 by_number-type : type_named (codes "0016") ≡ Some 16
 by_number-type = refl
+
+upper_case-near : nearest_type (codes "THREADS") ≡ Some (codes "threads")
+unfolding nearest_among
+upper_case-near = refl
+
+one_s-near : nearest_type (codes "threadListStreams") ≡ Some (codes "ThreadListStream")
+unfolding nearest_among
+one_s-near = refl
+
+no_s-near : nearest_type (codes "region") ≡ Some (codes "regions")
+unfolding nearest_among
+no_s-near = refl
+
+two_s-near : nearest_type (codes "memoryss") ≡ None
+unfolding nearest_among
+two_s-near = refl
 
 upper_case-type : type_named (codes "Threads") ≡ None
 upper_case-type = refl

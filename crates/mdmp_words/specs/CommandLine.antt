@@ -40,9 +40,9 @@ limited made = fold with_rule made limit_options
 abbrev pub command : Text → List Rule → Shape
 command name rules = (limited (fold with_rule (new_app name) rules)).top
 
--- `summary FILE`
+-- `summary FILE.. [--json]`
 abbrev pub summary_command : Shape
-summary_command = command (codes "summary") (word (codes "FILE") ∷ [])
+summary_command = command (codes "summary") (words (codes "FILE") ∷ flag (codes "json") ∷ [])
 
 -- `check FILE [--parts] [--json]`
 abbrev pub check_command : Shape

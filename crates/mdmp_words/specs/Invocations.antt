@@ -1,58 +1,54 @@
 -- What the words of a command line ask for. `clap` parts them by `commands`: it gives the name of a command, and rows that
 -- have the words of that command under their ids.
-use Rattle.std.specs.Prelude.{◌≡◌, ◌≢◌, ◌≤◌, ◌+◌, ◌⊎◌, ℕ, Bool, false, if◌then◌else◌, List, [], Option, Some, None, option_map, option_and_then, codes}
-use Rattle.std.specs.Option.{option_map_or}
+use Rattle.std.specs.Prelude.{◌≡◌, ◌≢◌, ◌≤◌, ◌+◌, ◌⊎◌, ℕ, Bool, false, if◌then◌else◌, List, [], ◌∷◌, Option, Some, None, option_map, option_and_then, codes, map}
+use Rattle.std.specs.Option.{option_map_or, option_or}
 use Rattle.std.specs.Str.{bytes_eq}
 use Rattle.clap.specs.Words.{IsAmong, Kinds, Row, Text, all_of, fault_of, first_of, subcommand_of}
 use Rattle.clap.specs.declared.error.kind.ErrorKind.{ErrorKind}
 use Rattle.clap.specs.declared.error.kind.ErrorKind.TheVariants.{DisplayHelp, DisplayVersion, OutOfMemory}
 use Rattle.mdmp_lister.specs.declared.limits.Limits.{Limits}
 use Rattle.mdmp_map.specs.Ranges.{address_end}
+use Rattle.mdmp_words.specs.BadWords.{PlainBad, bad_at, bad_limit, bad_type, plain_bad}
 use Rattle.mdmp_words.specs.CommandLine.{commands}
 use Rattle.mdmp_print.specs.HexText.{length_limit}
 use Rattle.mdmp_words.specs.NumberWords.{span_named}
 use Rattle.mdmp_words.specs.OptionWords.{LimitTexts, Sizes, limits_named, sizes_in_limits, types_named}
 use Rattle.mdmp_words.specs.declared.number_words.Span.{Span}
+use Rattle.mdmp_words.specs.declared.bad_word.WordPlace.TheVariants.{Address, Length}
 use Rattle.mdmp_words.specs.declared.invocation.Invocation.{Invocation}
-use Rattle.mdmp_words.specs.declared.invocation.Invocation.TheVariants.{Run, Help, Refused, InvalidValue, Memory}
+use Rattle.mdmp_words.specs.declared.invocation.Invocation.TheVariants.{Run, Summarize, Help, Refused, BadWord as BadOne, InvalidValue, Memory}
 use Rattle.mdmp_words.specs.declared.invocation.Command.{Command}
-use Rattle.mdmp_words.specs.declared.invocation.Command.TheVariants.{Summary, Check, List as Listing, Hex, Copy}
+use Rattle.mdmp_words.specs.declared.invocation.Command.TheVariants.{Check, List as Listing, Hex, Copy}
 use Rattle.mdmp_print.specs.declared.form.LineForm.{LineForm}
 use Rattle.mdmp_print.specs.declared.form.LineForm.TheVariants as forms
 
 -- ---- commands as plain values
 
--- what is done with a file
+-- what is done with files
 pub data PlainCommand : Type 0 where
-  summary : PlainCommand
+  summary : LineForm → PlainCommand
   check : LineForm → Bool → PlainCommand
   list : LineForm → Bool → PlainCommand
   hex : Span → PlainCommand
   copy : List ℕ → List ℕ → PlainCommand
 
--- a command, the name of its file, and its limits
+-- a command, the names of the files that it reads, in their order, and its limits
 pub record Plain : Type 0 where
-  pub file : List ℕ
+  pub files : List (List ℕ)
   pub sizes : Sizes
   pub command : PlainCommand
 
 abbrev pub plain_command : Command → PlainCommand
-plain_command Summary = summary
 plain_command (Check form parts) = check form parts
 plain_command (Listing form pdb) = list form pdb
 plain_command (Hex span) = hex span
 plain_command (Copy target types) = copy target.now types
 
 abbrev pub plain_over : List ℕ → Limits → Command → Plain
-plain_over file limits command = record { file = file; sizes = sizes_in_limits limits; command = plain_command command }
+plain_over file limits command = record { files = file ∷ []; sizes = sizes_in_limits limits; command = plain_command command }
 
--- the command that is to be run, if one is
-abbrev pub plain_run : Invocation → Option Plain
-plain_run (Run file limits command) = Some (plain_over file.now limits command)
-plain_run (Help text) = None
-plain_run (Refused text) = None
-plain_run InvalidValue = None
-plain_run Memory = None
+abbrev pub plain_summary : List (List ℕ) → Limits → LineForm → Plain
+plain_summary files limits form = record { files = files; sizes = sizes_in_limits limits; command = summary form }
 
 -- ---- what the words of a command ask for
 
@@ -75,7 +71,7 @@ limit_texts rows = record {
 abbrev pub named_over : List Row → Text → PlainCommand → Option Plain
 named_over rows id command =
     option_and_then
-    (λ sizes. option_map (λ file. record { file = file; sizes = sizes; command = command }) (first_of id rows))
+    (λ sizes. option_map (λ file. record { files = file ∷ []; sizes = sizes; command = command }) (first_of id rows))
     (limits_named (limit_texts rows))
 
 -- lines are objects of JSON where the flag is set
@@ -83,7 +79,10 @@ abbrev pub form_named : List Row → LineForm
 form_named rows = if is_set rows (codes "json") then forms.Json else forms.Text
 
 abbrev pub summary_named : List Row → Option Plain
-summary_named rows = named_over rows (codes "FILE") summary
+summary_named rows =
+    option_and_then
+    (λ sizes. option_map (λ files. record { files = files; sizes = sizes; command = summary (form_named rows) }) (all_of (codes "FILE") rows))
+    (limits_named (limit_texts rows))
 
 -- the parts that lie outside are told where the flag is set
 abbrev pub check_named : List Row → Option Plain
@@ -129,17 +128,47 @@ request_in used = option_and_then (λ command. request_by command.0 command.1) u
 unfoldable pub request_named : List Text → Option Plain
 request_named words = request_in (subcommand_of commands words)
 
+-- the first word of a command that is not what is expected at its place: those of the options first
+abbrev pub bad_word : List Row → Option PlainBad
+bad_word rows =
+    option_or (bad_limit (limit_texts rows))
+    (option_or (bad_at Address (first_of (codes "ADDRESS") rows))
+    (option_or (bad_at Length (first_of (codes "LENGTH") rows))
+    (option_and_then bad_type (all_of (codes "TYPE") rows))))
+
+-- that of a command and its words, where there is a command
+abbrev pub bad_in : Option (Text × List Row) → Option PlainBad
+bad_in used = option_and_then (λ command. bad_word command.1) used
+
+-- and that of words
+unfoldable pub bad_named : List Text → Option PlainBad
+bad_named words = bad_in (subcommand_of commands words)
+
 -- what words may be refused for, or ask for in the place of a command
 unfoldable pub faults : List Text → Kinds
 faults words = fault_of commands words
 
--- the answer to a command and its words: a request where they ask for one
+-- the answer to a request: it is run, or memory ran out
+abbrev pub IsFor : Option Plain → Invocation → Type 0
+IsFor wanted (Run file limits command) = wanted ≡ Some (plain_over file.now limits command)
+IsFor wanted (Summarize files limits form) = wanted ≡ Some (plain_summary (map (λ file. file.now) files.items) limits form)
+IsFor wanted (Help text) = ⊥
+IsFor wanted (Refused text) = ⊥
+IsFor wanted (BadOne bad) = ⊥
+IsFor wanted InvalidValue = ⊥
+IsFor wanted Memory = Unit {0}
+
+-- the same of a command: where it has no answer, its words ask for no request
+abbrev pub IsForSome : Option Plain → Option Invocation → Type 0
+IsForSome wanted (Some asked) = IsFor wanted asked
+IsForSome wanted None = wanted ≡ None
+
+-- the answer to a command and its words: a request where they ask for one; or else the first of them that is bad, or that none is
+-- bad alone
 abbrev pub AsksIn : Option (Text × List Row) → Invocation → Type 0
-AsksIn used (Run file limits command) = request_in used ≡ Some (plain_over file.now limits command)
-AsksIn used (Help text) = ⊥
-AsksIn used (Refused text) = ⊥
-AsksIn used InvalidValue = request_in used ≡ None
-AsksIn used Memory = ⊥
+AsksIn used (BadOne bad) = (request_in used ≡ None) × (bad_in used ≡ Some (plain_bad bad))
+AsksIn used InvalidValue = (request_in used ≡ None) × (bad_in used ≡ None)
+AsksIn used asked = IsFor (request_in used) asked
 
 -- the words have a fault that is not the wish for help or the version
 abbrev pub AreRefused : List Text → Type 0
@@ -149,49 +178,48 @@ AreRefused words = (kind : ErrorKind) × IsAmong kind (faults words) × (kind �
 -- where they wish for one; a text that refuses them where they have another fault; want of memory at any time
 abbrev pub AsksFor : List Text → Invocation → Type 0
 AsksFor words (Run file limits command) = (faults words ≡ []) × (request_named words ≡ Some (plain_over file.now limits command))
+AsksFor words (Summarize files limits form) = (faults words ≡ []) × (request_named words ≡ Some (plain_summary (map (λ file. file.now) files.items) limits form))
 AsksFor words (Help text) = IsAmong DisplayHelp (faults words) ⊎ IsAmong DisplayVersion (faults words)
 AsksFor words (Refused text) = AreRefused words
-AsksFor words InvalidValue = (faults words ≡ []) × (request_named words ≡ None)
+AsksFor words (BadOne bad) = (faults words ≡ []) × ((request_named words ≡ None) × (bad_named words ≡ Some (plain_bad bad)))
+AsksFor words InvalidValue = (faults words ≡ []) × ((request_named words ≡ None) × (bad_named words ≡ None))
 AsksFor words Memory = Unit {0}
 
 -- ---- what is true of each answer
 
 -- the addresses whose bytes are to be printed are not too many, and pass no last address
 abbrev pub IsCommandWithin : Command → Type 0
-IsCommandWithin Summary = Unit {0}
 IsCommandWithin (Check form parts) = Unit {0}
 IsCommandWithin (Listing form pdb) = Unit {0}
 IsCommandWithin (Hex span) = (span.length ≤ length_limit) × (span.address + span.length ≤ address_end)
 IsCommandWithin (Copy target types) = Unit {0}
 
--- a command is to be run that can be
-abbrev pub IsRunWithin : Invocation → Type 0
-IsRunWithin (Run file limits command) = IsCommandWithin command
-IsRunWithin (Help text) = ⊥
-IsRunWithin (Refused text) = ⊥
-IsRunWithin InvalidValue = ⊥
-IsRunWithin Memory = ⊥
-
 -- a command that is to be run can be
 abbrev pub IsValid : Invocation → Type 0
 IsValid (Run file limits command) = IsCommandWithin command
+IsValid (Summarize files limits form) = Unit {0}
 IsValid (Help text) = Unit {0}
 IsValid (Refused text) = Unit {0}
+IsValid (BadOne bad) = Unit {0}
 IsValid InvalidValue = Unit {0}
 IsValid Memory = Unit {0}
 
 -- neither a request nor a text that was asked for
 abbrev pub AsksNothing : Invocation → Type 0
 AsksNothing (Run file limits command) = ⊥
+AsksNothing (Summarize files limits form) = ⊥
 AsksNothing (Help text) = ⊥
 AsksNothing (Refused text) = Unit {0}
+AsksNothing (BadOne bad) = Unit {0}
 AsksNothing InvalidValue = Unit {0}
 AsksNothing Memory = Unit {0}
 
 -- the answer to an error: help and the version were asked for
 abbrev pub IsTextOf : ErrorKind → Invocation → Type 0
 IsTextOf kind (Run file limits command) = ⊥
+IsTextOf kind (Summarize files limits form) = ⊥
 IsTextOf kind (Help text) = (kind ≡ DisplayHelp) ⊎ (kind ≡ DisplayVersion)
 IsTextOf kind (Refused text) = (kind ≢ DisplayHelp) × (kind ≢ DisplayVersion) × (kind ≢ OutOfMemory)
+IsTextOf kind (BadOne bad) = ⊥
 IsTextOf kind InvalidValue = ⊥
 IsTextOf kind Memory = Unit {0}

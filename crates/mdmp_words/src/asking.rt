@@ -1,10 +1,12 @@
 //! What the words of a command line ask for.
-ghost use Rattle.std.specs.Prelude.{◌≡◌, [], IfSome, map, option_map, option_and_then};
+ghost use Rattle.std.specs.Prelude.{◌≡◌, [], IfSome, map, option_map};
 ghost use Rattle.clap.specs.Words.{all_of, first_of, found_of, rows_of, subcommand_rows_of};
 ghost use Rattle.clap.specs.Values.{kind_of};
+ghost use Rattle.mdmp_words.specs.BadWords.{plain_bad};
 ghost use Rattle.mdmp_words.specs.OptionWords.{texts_of};
-ghost use Rattle.mdmp_words.specs.Invocations.{AsksFor, AsksIn, AsksNothing, IsRunWithin, IsTextOf, IsCommandWithin, IsValid, check_named, copy_named, form_named, hex_named, is_set, limit_texts, list_named, named_over, plain_command, plain_run, request_by, summary_named};
+ghost use Rattle.mdmp_words.specs.Invocations.{AsksFor, AsksIn, AsksNothing, IsForSome, IsTextOf, IsCommandWithin, IsValid, bad_word, check_named, copy_named, form_named, hex_named, is_set, limit_texts, list_named, named_over, plain_command, request_by, summary_named};
 
+use crate::bad_word::{BadWord, WordPlace, bad_at, bad_limit_of, bad_type_of};
 use crate::command_line::command_line;
 use crate::invocation::{Command, Invocation};
 use crate::number_words::span_of;
@@ -31,7 +33,7 @@ pub fn invocation_of<'a>(alloc: Global, words: &'a [&'a str]) -> Invocation<'a>
         };
     }
     match commands.try_get_matches_from(words) {
-        Ok(matches) => asked_by(&matches),
+        Ok(matches) => asked_by(alloc, &matches),
         Err(error) => told_of(alloc, &error),
     }
 }
@@ -54,26 +56,49 @@ fn told_of<'a>(alloc: Global, error: &Error) -> Invocation<'a>
 }
 
 /// What is asked for by the command that was used.
-fn asked_by<'a>(matches: &ArgMatches<'a>) -> Invocation<'a>
+fn asked_by<'a>(alloc: Global, matches: &ArgMatches<'a>) -> Invocation<'a>
     ensures valid { IsValid result }
     ensures asks { AsksIn (subcommand_rows_of matches.now) result }
 {
     let Some((name, own)) = matches.subcommand() else {
         return Invocation::InvalidValue;
     };
-    match named_invocation(name, own) {
-        Some(invocation) => invocation,
+    if let Some(invocation) = named_invocation(alloc, name, own) {
+        return invocation;
+    }
+    match bad_word_of(own) {
+        Some(bad) => Invocation::BadWord(bad),
         None => Invocation::InvalidValue,
     }
 }
 
+/// The first word of a command that is not what is expected at its place: those of the options first.
+fn bad_word_of<'a>(matches: &ArgMatches<'a>) -> Option<BadWord<'a>>
+    ensures { option_map plain_bad result ≡ bad_word (rows_of (found_of matches.now)) }
+{
+    if let Some(bad) = bad_limit_of(limit_words(matches)) {
+        return Some(bad);
+    }
+    if let Some(bad) = bad_at(WordPlace::Address, word_of(matches, "ADDRESS")) {
+        return Some(bad);
+    }
+    if let Some(bad) = bad_at(WordPlace::Length, word_of(matches, "LENGTH")) {
+        return Some(bad);
+    }
+    bad_type_of(words_of(matches, "TYPE")?)
+}
+
 /// What is asked for by the words of the command of this name.
-fn named_invocation<'a>(name: &str, matches: &ArgMatches<'a>) -> Option<Invocation<'a>>
-    ensures named { option_and_then plain_run result ≡ request_by name.now (rows_of (found_of matches.now)) }
-    ensures within { IfSome result IsRunWithin }
+fn named_invocation<'a>(
+    alloc: Global,
+    name: &str,
+    matches: &ArgMatches<'a>,
+) -> Option<Invocation<'a>>
+    ensures named { IsForSome (request_by name.now (rows_of (found_of matches.now))) result }
+    ensures within { IfSome result IsValid }
 {
     match name {
-        "summary" => summary_invocation(matches),
+        "summary" => summary_invocation(alloc, matches),
         "check" => check_invocation(matches),
         "list" => list_invocation(matches),
         "hex" => hex_invocation(matches),
@@ -82,16 +107,26 @@ fn named_invocation<'a>(name: &str, matches: &ArgMatches<'a>) -> Option<Invocati
     }
 }
 
-fn summary_invocation<'a>(matches: &ArgMatches<'a>) -> Option<Invocation<'a>>
-    ensures named { option_and_then plain_run result ≡ summary_named (rows_of (found_of matches.now)) }
-    ensures within { IfSome result IsRunWithin }
+fn summary_invocation<'a>(alloc: Global, matches: &ArgMatches<'a>) -> Option<Invocation<'a>>
+    ensures named { IsForSome (summary_named (rows_of (found_of matches.now))) result }
+    ensures within { IfSome result IsValid }
 {
-    invocation_over(matches, "FILE", Command::Summary)
+    let limits = limits_of(limit_words(matches))?;
+    let names = words_of(matches, "FILE")?;
+    let Ok(files) = Vec::from_slice(alloc, names) else {
+        return Some(Invocation::Memory);
+    };
+    let form = form_of(matches);
+    Some(Invocation::Summarize {
+        files,
+        limits,
+        form,
+    })
 }
 
 fn check_invocation<'a>(matches: &ArgMatches<'a>) -> Option<Invocation<'a>>
-    ensures named { option_and_then plain_run result ≡ check_named (rows_of (found_of matches.now)) }
-    ensures within { IfSome result IsRunWithin }
+    ensures named { IsForSome (check_named (rows_of (found_of matches.now))) result }
+    ensures within { IfSome result IsValid }
 {
     let form = form_of(matches);
     let parts = is_set(matches, "parts");
@@ -99,8 +134,8 @@ fn check_invocation<'a>(matches: &ArgMatches<'a>) -> Option<Invocation<'a>>
 }
 
 fn list_invocation<'a>(matches: &ArgMatches<'a>) -> Option<Invocation<'a>>
-    ensures named { option_and_then plain_run result ≡ list_named (rows_of (found_of matches.now)) }
-    ensures within { IfSome result IsRunWithin }
+    ensures named { IsForSome (list_named (rows_of (found_of matches.now))) result }
+    ensures within { IfSome result IsValid }
 {
     let form = form_of(matches);
     let pdb = is_set(matches, "pdb");
@@ -119,16 +154,16 @@ fn form_of(matches: &ArgMatches<'_>) -> LineForm
 }
 
 fn hex_invocation<'a>(matches: &ArgMatches<'a>) -> Option<Invocation<'a>>
-    ensures named { option_and_then plain_run result ≡ hex_named (rows_of (found_of matches.now)) }
-    ensures within { IfSome result IsRunWithin }
+    ensures named { IsForSome (hex_named (rows_of (found_of matches.now))) result }
+    ensures within { IfSome result IsValid }
 {
     let span = span_of(word_of(matches, "ADDRESS")?, word_of(matches, "LENGTH")?)?;
     invocation_over(matches, "FILE", Command::Hex(span))
 }
 
 fn copy_invocation<'a>(matches: &ArgMatches<'a>) -> Option<Invocation<'a>>
-    ensures named { option_and_then plain_run result ≡ copy_named (rows_of (found_of matches.now)) }
-    ensures within { IfSome result IsRunWithin }
+    ensures named { IsForSome (copy_named (rows_of (found_of matches.now))) result }
+    ensures within { IfSome result IsValid }
 {
     let target = word_of(matches, "OUT")?;
     let types = types_of(words_of(matches, "TYPE")?)?;
@@ -142,9 +177,8 @@ fn invocation_over<'a>(
     command: Command<'a>,
 ) -> Option<Invocation<'a>>
     requires { IsCommandWithin command }
-    ensures named { option_and_then plain_run result
-        ≡ named_over (rows_of (found_of matches.now)) id.now (plain_command command.entry) }
-    ensures within { IfSome result IsRunWithin }
+    ensures named { IsForSome (named_over (rows_of (found_of matches.now)) id.now (plain_command command.entry)) result }
+    ensures within { IfSome result IsValid }
 {
     let limits = limits_of(limit_words(matches))?;
     let file = word_of(matches, id)?;

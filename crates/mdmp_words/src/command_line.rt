@@ -65,7 +65,8 @@ fn summary_command<'a>(alloc: Global) -> Result<Command<'a>, AllocError>
     ensures local { IfOk result (λ made. has_globals made ≡ false) }
 {
     let made = described(alloc, "summary", help::SUMMARY_ABOUT, help::SUMMARY_AFTER);
-    let made = with_arg(Ok(made), word(alloc, "FILE", help::FILE));
+    let made = with_arg(Ok(made), words(alloc, "FILE", help::FILES));
+    let made = with_arg(made, flag(alloc, "json", help::SUMMARY_JSON));
     with_limits(alloc, made)
 }
 

@@ -31,14 +31,18 @@ pub(crate) const SUMMARY_ABOUT: &str =
 
 /// What `summary` prints.
 pub(crate) const SUMMARY_AFTER: &str = "\
-Prints at most ten lines. The first names the crash, its place and its thread.
-The others have registers, the program, the system, counts, and whether the file
-is good. After an error in an entry, it goes on with the next one: the file is
-damaged then, and the exit status is 1. If parts of records are outside the
-file, the last line says which part is the first.
+Prints at most ten lines for each FILE. The first names the crash, its place and
+its thread. The others have registers, the program, the system, counts, and
+whether the file is good. After an error in an entry, it goes on with the next
+one: the file is damaged then, and the exit status is 1. If parts of records are
+outside the file, the last line says which part is the first. An error that ends
+a summary is one line on standard error, with the name of the file; the next
+FILE follows. The exit status is the worst of all files. With '--json' each
+summary is an object, for programs; messages on standard error stay text.
 
-Example:
-  mdmp summary crash.dmp";
+Examples:
+  mdmp summary crash.dmp
+  mdmp summary --json first.dmp second.dmp";
 
 /// What `check` does, in a line.
 pub(crate) const CHECK_ABOUT: &str = "Checks each entry of the directory";
@@ -118,6 +122,9 @@ Example:
 /// What FILE is.
 pub(crate) const FILE: &str = "The minidump to read";
 
+/// What each FILE of `summary` is.
+pub(crate) const FILES: &str = "The minidumps to read, in this order";
+
 /// What `--window` sets.
 pub(crate) const WINDOW: &str =
     "Read at a time at most N bytes, 168 to 1073741824 [default: 65536]";
@@ -145,6 +152,10 @@ pub(crate) const PARTS: &str = "Print a line for each part of a record that lies
 
 /// What `--pdb` adds.
 pub(crate) const PDB: &str = "Print a line for the symbol file (PDB) of each module that names one";
+
+/// What `--json` changes of `summary`.
+pub(crate) const SUMMARY_JSON: &str =
+    "Print each summary as an object of JSON (RFC 8259), in UTF-8";
 
 /// What `--json` changes.
 pub(crate) const JSON: &str = "Print each line as an object of JSON (RFC 8259), in UTF-8";

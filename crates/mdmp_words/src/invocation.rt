@@ -1,4 +1,5 @@
 //! What a command line asks for.
+use crate::bad_word::BadWord;
 use crate::number_words::Span;
 use mdmp_lister::{Limits, TypeSet};
 use mdmp_print::LineForm;
@@ -15,11 +16,23 @@ pub enum Invocation<'a> {
         /// What is done with the file.
         command: Command<'a>,
     },
+    /// The summaries of some files, one after the other.
+    Summarize {
+        /// The names of the files, in their order.
+        files: Vec<&'a str>,
+        /// The limits within which each is read.
+        limits: Limits,
+        /// How the summaries are printed.
+        form: LineForm,
+    },
     /// Help or the version: this text.
     Help(String),
     /// Nothing, since the words are no command line. This text says why.
     Refused(String),
-    /// Nothing, since a number, a type or a span of addresses among the words is none.
+    /// Nothing, since this word is not what is expected at its place.
+    BadWord(BadWord<'a>),
+    /// Nothing, since words that are good alone are not so together: a span of addresses that passes the last one, or
+    /// too many types.
     InvalidValue,
     /// Nothing that is known, since memory ran out while the words were read.
     Memory,
@@ -28,8 +41,6 @@ pub enum Invocation<'a> {
 /// What is done with a file.
 #[derive(Drop)]
 pub enum Command<'a> {
-    /// What crashed, and whether the file is good, is printed.
-    Summary,
     /// It is printed of each entry whether it is good.
     Check {
         /// How the lines are printed.

@@ -5,7 +5,7 @@ ghost use Rattle.mdmp_print.specs.HexText.{length_limit};
 ghost use Rattle.mdmp_words.specs.NumberWords.{number_in, decimal_number, decimal32_number, half_number, halves_number, hexadecimal_number, address_named, length_named, plain_address, span_named, without_prefix};
 
 /// How many bytes can be asked for.
-const LENGTH_LIMIT: u64 = 1 << 20;
+pub(crate) const LENGTH_LIMIT: u64 = 1 << 20;
 
 /// One behind the last address.
 const ADDRESS_END: u128 = 1 << 64;
