@@ -20,7 +20,8 @@
  *   MDMP_OK                Success: `out` has everything, and `size` or `count` says how much that is.
  *                          `fault` is MDMP_FAULT_NONE.
  *   MDMP_FAULT             The file has an error, and `fault` says which and where. `out` has what precedes the error.
- *                          mdmp_check, mdmp_check_json and mdmp_verdicts go on after an error, and return everything.
+ *                          mdmp_check, mdmp_check_json, mdmp_verdicts and mdmp_parts_outside go on after an error, and
+ *                          return everything.
  *                          mdmp_copy, mdmp_memory, mdmp_header, mdmp_name and mdmp_summary return nothing.
  *                          mdmp_symbols returns zeros.
  *                          If the file cannot be opened, a call returns nothing.
@@ -98,7 +99,7 @@ typedef enum mdmp_fault_kind {
     MDMP_FAULT_NAME_TOO_LONG = 33,       /* entry, index, size: a name's length, which is over the limit */
     MDMP_FAULT_RAW_KNOWN_TYPE = 48,      /* no call returns this */
     MDMP_FAULT_COPY_TOO_LARGE = 49,      /* the copy would be longer than the format allows */
-    MDMP_FAULT_BAD_ENTRIES = 64,         /* size: the number of directory entries that have an error */
+    MDMP_FAULT_BAD_ENTRIES = 64,         /* size: the number of directory entries that have an error, or lose a part */
     MDMP_FAULT_NOT_COPIED = 65,          /* size: a type of stream that is not copied */
     MDMP_FAULT_NO_MEMORY = 66,           /* out of memory: malloc or realloc returned NULL */
     MDMP_FAULT_BAD_LIMITS = 67,          /* a limit is out of its bounds */
@@ -483,6 +484,8 @@ uint32_t mdmp_check_json_(const uint8_t *file, size_t file_size, const mdmp_limi
     size_t room, uint64_t *size, mdmp_fault *fault);
 uint32_t mdmp_verdicts_(const uint8_t *file, size_t file_size, const mdmp_limits *limits, mdmp_fault *out,
     size_t room, uint64_t *count, mdmp_fault *fault);
+uint32_t mdmp_parts_outside_(const uint8_t *file, size_t file_size, const mdmp_limits *limits,
+    mdmp_fault *out, size_t room, uint64_t *count, mdmp_fault *fault);
 uint32_t mdmp_list_(const uint8_t *file, size_t file_size, const mdmp_limits *limits, bool pdb, uint8_t *out,
     size_t room, uint64_t *size, mdmp_fault *fault);
 uint32_t mdmp_list_json_(const uint8_t *file, size_t file_size, const mdmp_limits *limits, bool pdb,
@@ -574,6 +577,18 @@ static inline uint32_t mdmp_verdicts(const uint8_t *file, size_t file_size, cons
     static uint8_t no_file;
     static mdmp_fault no_out;
     return mdmp_verdicts_(file_size != 0 ? file : &no_file, file_size, limits, room != 0 ? out : &no_out,
+        room, count, fault);
+}
+
+/* Returns the parts of records, such as stacks, that are not inside the file, as `mdmp check --parts`
+ * prints them. Each is an MDMP_FAULT_PART_OUTSIDE. They are in the order of the directory; an entry is
+ * read up to its own error. If an entry has an error or such a part, the status is MDMP_FAULT, and `fault`
+ * is MDMP_FAULT_BAD_ENTRIES with the number of these entries. */
+static inline uint32_t mdmp_parts_outside(const uint8_t *file, size_t file_size, const mdmp_limits *limits,
+    mdmp_fault *out, size_t room, uint64_t *count, mdmp_fault *fault) {
+    static uint8_t no_file;
+    static mdmp_fault no_out;
+    return mdmp_parts_outside_(file_size != 0 ? file : &no_file, file_size, limits, room != 0 ? out : &no_out,
         room, count, fault);
 }
 

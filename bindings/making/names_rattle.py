@@ -83,8 +83,9 @@ class Table:
         return f"-- {self.title}. {MADE}\nuse Rattle.std.specs.Prelude.{{{used}}}\n\n" + "\n".join(self.specs)
 
 
-def group_table(group: Group, name: str, doc: str, words: bool, kind: str = "u32") -> Table:
-    table = Table(group.name, name, group.title, kind, "pub " if words else "pub(crate) ")
+def group_table(group: Group, name: str, doc: str, words: bool, kind: str = "u32", is_public: bool = False) -> Table:
+    """The names of a group, or with `words` what its numbers are called in a text, which is public."""
+    table = Table(group.name, name, group.title, kind, "pub " if words or is_public else "pub(crate) ")
     table.split(doc, [(part.told(row.number), row.also if words else row.name) for row, part in group.rows])
     return table
 
@@ -121,6 +122,7 @@ def tables(names: Names) -> list[Table]:
         codes_table(codes["mach_arm_codes"], "mach_arm_code", flags),
         group_table(names.group("platforms"), "platform_words", "What a platform is called.", True),
         group_table(names.group("architectures"), "architecture_words", "What a processor architecture is called.", True, "u16"),
+        group_table(names.group("stream_types"), "stream_name", "The name of a type of streams.", False, is_public=True),
     ]
 
 

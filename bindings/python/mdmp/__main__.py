@@ -105,11 +105,10 @@ def _write(text: Callable[[], str]) -> None:
 
 
 def _summary(dump: mdmp.Dump, arguments: argparse.Namespace) -> None:
-    told = _summary_lines.line if arguments.json else _summary_lines.lines
-    summary = dump.summary
     # The name of a file may have bytes that are no UTF-8.
-    sys.stdout.write(told(summary, os.fsencode(arguments.file).decode("utf-8", "replace")))
-    if summary.bad_entries:
+    file = os.fsencode(arguments.file).decode("utf-8", "replace")
+    sys.stdout.write(_summary_lines.line(dump, file) if arguments.json else _summary_lines.lines(dump.summary, file))
+    if dump.summary.bad_entries:
         raise _BadEntries
 
 
@@ -121,7 +120,8 @@ def _list(dump: mdmp.Dump, arguments: argparse.Namespace) -> None:
 
 
 def _check(dump: mdmp.Dump, arguments: argparse.Namespace) -> None:
-    _write(dump.check_json if arguments.json else dump.check)
+    text = dump.check_json if arguments.json else dump.check
+    _write(lambda: text(parts=arguments.parts))
 
 
 def _hex_lines(address: int, cells: mdmp.Cells) -> Iterator[str]:
@@ -227,6 +227,7 @@ def parser() -> argparse.ArgumentParser:
     summed.add_argument("--json", action="store_true", help="print the summary of each file as a JSON object")
     for each in (listed, checked):
         each.add_argument("--json", action="store_true", help="print each line as a JSON object")
+    checked.add_argument("--parts", action="store_true", help="print each part of a record that lies outside the file")
     listed.add_argument("--pdb", action="store_true", help="print the symbol file of each module too")
     listed.add_argument("--aside", type=_size, metavar="N", help="the most bytes of CodeView records for --pdb")
     printed = _command(commands, _hex, "hex", "prints memory of the dumped process")

@@ -2,19 +2,20 @@
 
 from __future__ import annotations
 
-from ctypes import byref, c_uint8
+from ctypes import byref, c_uint8, sizeof
 from typing import Any, Callable, TypeVar
 from uuid import UUID
 
 from . import _structures
 from ._buffer import Bytes, Lent, bytes_at
-from ._fault import expect_good, output_limit
+from ._fault import Fault, OutputLimit, expect_good, fault_of, output_limit
 from ._ids import ModuleIds, ids_of
 from ._library import Filled, fill, library
 from ._limits import Limits
-from ._output import Counting, row_size
+from ._output import Counting, exception_size, row_size
+from ._part_lines import SHORTEST, first_lines, with_parts
 from ._parts import SymbolFile
-from ._records import Extent, IdKind, NameState, SymbolKind
+from ._records import Extent, FaultKind, IdKind, NameState, SymbolKind
 
 _T = TypeVar("_T")
 
@@ -50,6 +51,11 @@ class Calls:
         if self._data is None:
             raise ValueError("the dump was closed")
         return Lent(self._data)
+
+    def _bytes(self, offset: int, size: int) -> bytes:
+        """A copy of bytes that are inside the file."""
+        with self._lent() as (file, _):
+            return bytes_at(file + offset, size)
 
     def _most(self, size: int) -> int | None:
         """How many items of this size `output` allows, or None if it is no limit."""
@@ -97,6 +103,37 @@ class Calls:
             return tuple(given)
 
         return self._keep(record.__name__, make)
+
+    def _judged(self, call: Any) -> tuple[Fault | None, ...]:
+        """The errors that a check returns as rows, with None for a good entry. That entries are bad is no error of the call."""
+        raw, kept = _structures.Fault, 0
+        given: list[Fault | None] = []
+        filled = self._fill(call, raw, some_records, byref(self._plain), most=self._most(sizeof(raw)))
+        for at in range(filled.given):
+            error = fault_of(filled.items[at]) if filled.items[at].kind else None
+            kept += sizeof(raw) if error is None else exception_size(error)
+            self._expect_room(kept, given)
+            given.append(error)
+        if filled.is_cut or filled.fault.kind != FaultKind.BAD_ENTRIES:
+            self._expect_whole(filled, tuple(given))
+        return tuple(given)
+
+    def _text_with_parts(self, call: Any, line: Callable[[Fault], str]) -> str:
+        """The text of a check, with the lines of the parts outside the file."""
+        most, is_cut = self._limits.output, False
+        try:
+            text = self._text(call)
+        except OutputLimit as reached:
+            text, is_cut = reached.partial, True
+        except Fault as fault:
+            text = fault.partial  # the next call reports the same error, or at least as many bad entries
+        rows = None if most is None else most // SHORTEST + 1  # the lines of so many parts are longer than `output`
+        filled = self._fill(library.mdmp_parts_outside_, _structures.Fault, some_records, byref(self._plain), most=rows)
+        told = with_parts(text, (fault_of(filled.items[at]) for at in range(filled.given)), line)
+        if most is not None and (is_cut or filled.is_cut or len(told) > most):
+            raise output_limit(most, first_lines(told, most))
+        expect_good(filled.status, filled.fault, told)
+        return told
 
     def _text(self, call: Any, *arguments: Any) -> str:
         filled = self._fill(call, c_uint8, some_text, byref(self._plain), *arguments, most=self._limits.output)

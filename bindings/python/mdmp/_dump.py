@@ -11,15 +11,14 @@ from typing import IO, NamedTuple
 from . import _structures
 from ._buffer import Bytes, Lent
 from ._calls import Calls, some_records, some_text
-from ._fault import Fault, expect_good, fault_of
+from ._fault import Fault, expect_good
 from ._images import Images
 from ._library import Filled, array_of, library
 from ._limits import UNTRUSTED, Left, Limits, limits_of, number
 from ._memory import Memory
-from ._output import exception_size
+from ._part_lines import json_line, text_line
 from ._records import (
     ExceptionRecord,
-    FaultKind,
     Header,
     Module,
     Range,
@@ -141,20 +140,26 @@ class Dump(Calls):
         10 STREAM_OUTSIDE entry 10: stream outside the file: offset 1353 size 6
         """
 
-        def make() -> tuple[Fault | None, ...]:
-            raw, kept = _structures.Fault, 0
-            filled = self._fill(library.mdmp_verdicts_, raw, some_records, byref(self._plain), most=self._most(sizeof(raw)))
-            given: list[Fault | None] = []
-            for at in range(filled.given):
-                verdict = fault_of(filled.items[at]) if filled.items[at].kind else None
-                kept += sizeof(raw) if verdict is None else exception_size(verdict)
-                self._expect_room(kept, given)
-                given.append(verdict)
-            if filled.is_cut or filled.fault.kind != FaultKind.BAD_ENTRIES:
-                self._expect_whole(filled, tuple(given))
-            return tuple(given)
+        return self._keep("verdicts", lambda: self._judged(library.mdmp_verdicts_))
 
-        return self._keep("verdicts", make)
+    @property
+    def parts_outside(self) -> tuple[Fault, ...]:
+        """The parts of records, such as stacks, that are not inside the file, as `mdmp check --parts` prints them. Each entry is
+        read up to its own error, so an error in an entry raises no `Fault`.
+
+        >>> import mdmp
+        >>> import pathlib
+        >>> cut = mdmp.Dump(pathlib.Path("crashpad-one.dmp").read_bytes()[:4708])
+        >>> for part in cut.parts_outside:
+        ...     print(part.part.name, part)
+        STACK entry 2 item 0: stack outside the file: offset 4720 size 7264
+        MEMORY entry 7 item 0: memory outside the file: offset 4720 size 7264
+        """
+
+        def make() -> tuple[Fault, ...]:
+            return tuple(part for part in self._judged(library.mdmp_parts_outside_) if part is not None)
+
+        return self._keep("parts_outside", make)
 
     @property
     def summary(self) -> Summary:
@@ -300,8 +305,9 @@ class Dump(Calls):
 
     # ---- texts, and copies
 
-    def check(self) -> str:
-        """The text of `mdmp check`: a line for each entry. If an entry is bad, `partial` of the `Fault` is the text.
+    def check(self, *, parts: bool = False) -> str:
+        """The text of `mdmp check`, or with `parts` of `mdmp check --parts`: a line for each entry. If an entry is bad,
+        `partial` of the `Fault` is the text.
 
         >>> import mdmp
         >>> with mdmp.open("llvm-x86.dmp") as dump:
@@ -310,21 +316,23 @@ class Dump(Calls):
         entry 1: ok
         entry 2: ok
         """
-        return self._text(library.mdmp_check_)
+        return self._text_with_parts(library.mdmp_check_, text_line) if parts else self._text(library.mdmp_check_)
 
     def list(self, *, pdb: bool = False) -> str:
         """The text of `mdmp list`, or with `pdb` of `mdmp list --pdb`. `partial` of a `Fault` is the text before it."""
         return self._text(library.mdmp_list_, pdb)
 
-    def check_json(self) -> str:
-        """The text of `mdmp check --json`: an object for each entry, one a line. If an entry is bad, see `check`.
+    def check_json(self, *, parts: bool = False) -> str:
+        """The text of `mdmp check --json`, or with `parts` of `mdmp check --json --parts`: an object in place of each line
+        of `check`.
 
         >>> import json, mdmp
         >>> with mdmp.open("llvm-x86.dmp") as dump:
         ...     [json.loads(line)["fault"] for line in dump.check_json().splitlines()]
         [None, None, None]
         """
-        return self._text(library.mdmp_check_json_)
+        call = library.mdmp_check_json_
+        return self._text_with_parts(call, json_line) if parts else self._text(call)
 
     def list_json(self, *, pdb: bool = False) -> str:
         """The text of `mdmp list --json`, or with `pdb` of `mdmp list --json --pdb`: an object in place of each line.

@@ -75,7 +75,7 @@ class FaultKind(Numbers):
     NAME_TOO_LONG        entry, index, size: a name's length, which is over the limit
     RAW_KNOWN_TYPE       no call returns this
     COPY_TOO_LARGE       the copy would be longer than the format allows
-    BAD_ENTRIES          size: the number of directory entries that have an error
+    BAD_ENTRIES          size: the number of directory entries that have an error, or lose a part
     NOT_COPIED           size: a type of stream that is not copied
     NO_MEMORY            out of memory: malloc or realloc returned NULL
     BAD_LIMITS           a limit is out of its bounds

@@ -781,6 +781,16 @@ def declare(library: CDLL) -> None:
         POINTER(Fault),
     ]
     library.mdmp_verdicts_.restype = c_uint32
+    library.mdmp_parts_outside_.argtypes = [
+        c_void_p,
+        c_size_t,
+        POINTER(Limits),
+        POINTER(Fault),
+        c_size_t,
+        POINTER(c_uint64),
+        POINTER(Fault),
+    ]
+    library.mdmp_parts_outside_.restype = c_uint32
     library.mdmp_list_.argtypes = [
         c_void_p,
         c_size_t,

@@ -4,12 +4,17 @@ from __future__ import annotations
 
 import json
 from dataclasses import fields
-from typing import Any
+from typing import TYPE_CHECKING, Any, Callable, NamedTuple, TypeVar
 
 from . import names
-from ._parts import Numbers
-from ._records import Access, SummaryModule
+from ._fault import Fault, LimitReached
+from ._records import Access, Extent, Module, SummaryModule, SymbolKind, Thread
 from ._summary import Crash, PlaceInModule, Reached, Summary, SummarySystem
+
+if TYPE_CHECKING:
+    from ._dump import Dump
+
+_T = TypeVar("_T")
 
 _ACCESS = {Access.READ: "read", Access.WRITE: "write", Access.EXECUTE: "execute"}
 _BY = {Access.READ: " by a read", Access.WRITE: " by a write", Access.EXECUTE: " by execution"}
@@ -107,22 +112,36 @@ def lines(summary: Summary, file: str) -> str:
 
 # ---- JSON
 
+# Of a ProcessorArchitecture: what minidump-stackwalk calls it.
+_CPUS = {0: "x86", 10: "x86", 9: "amd64", 5: "arm", 12: "arm64", 0x8003: "arm64"}
+
+
+class _Context(NamedTuple):
+    """Where a context has its instruction pointer, and where the registers end that a summary reads."""
+
+    at: int
+    width: int
+    end: int
+
+
+# The offsets are those of crates/mdmp_summary/src/context.rt.
+_CONTEXTS = {"x86": _Context(184, 4, 200), "amd64": _Context(248, 8, 256), "arm": _Context(64, 4, 68), "arm64": _Context(264, 8, 272)}
+
 
 def _fields(record: Any) -> dict[str, Any]:
     """The fields of a record."""
     return {field.name: getattr(record, field.name) for field in fields(record)}
 
 
+def _hex(number: int, digits: int = 16) -> str:
+    return f"{number:#0{digits + 2}x}"
+
+
 def _module_object(module: SummaryModule | None) -> dict[str, Any] | None:
     if module is None:
         return None
-    return {
-        "name": module.name,
-        "file": None if module.name is None else file_part(module.name),
-        "version": str(module.file_version),
-        "debug_id": module.ids.debug_id,
-        "code_id": module.ids.code_id,
-    }
+    file = None if module.name is None else file_part(module.name)
+    return {"name": module.name, "file": file, "version": str(module.file_version)}
 
 
 def _place_object(place: PlaceInModule | None) -> dict[str, Any] | None:
@@ -131,7 +150,7 @@ def _place_object(place: PlaceInModule | None) -> dict[str, Any] | None:
 
 
 def _reached_object(reached: Reached | None) -> dict[str, Any] | None:
-    return {"address": f"{reached.address:#018x}", "access": _ACCESS.get(reached.access)} if reached else None
+    return {"address": _hex(reached.address), "access": _ACCESS.get(reached.access)} if reached else None
 
 
 def _crash_object(crash: Crash | None, system: SummarySystem | None) -> dict[str, Any] | None:
@@ -139,43 +158,108 @@ def _crash_object(crash: Crash | None, system: SummarySystem | None) -> dict[str
         return None
     registers = crash.registers
     return {
-        "code": f"{crash.exception.exception_code:#010x}",
+        "code": _hex(crash.exception.exception_code, 8),
         "code_name": _code_name(crash, system),
-        "flags": f"{crash.exception.exception_flags:#010x}",
+        "flags": _hex(crash.exception.exception_flags, 8),
         "flags_name": _flags_name(crash),
         "thread": crash.thread_id,
         "thread_name": crash.thread_name,
-        "address": f"{crash.address:#018x}",
-        "exception_address": f"{crash.exception.exception_address:#018x}",
-        "registers": registers and {part: f"{number:#018x}" for part, number in _fields(registers).items()},
+        "address": _hex(crash.address),
+        "exception_address": _hex(crash.exception.exception_address),
+        "registers": registers and {part: _hex(number) for part, number in _fields(registers).items()},
         "reached": _reached_object(crash.reached),
         "module": _place_object(crash.module),
         "near": _place_object(crash.near),
     }
 
 
+def _system_info(system: SummarySystem | None) -> dict[str, Any] | None:
+    if system is None:
+        return None
+    return {
+        "os": names.platform_name(system.platform_id),
+        "os_ver": f"{system.major_version}.{system.minor_version}.{system.build_number}",
+        "cpu_arch": _CPUS.get(system.processor_architecture),
+        "cpu_count": system.number_of_processors,
+    }
+
+
 def _system_object(system: SummarySystem | None) -> dict[str, Any] | None:
     if system is None:
         return None
-    given = {part: int(value) if isinstance(value, Numbers) else value for part, value in _fields(system).items()}
-    del given["cpu"]
-    return given
+    # Its numbers, each as an int that is no IntEnum.
+    return {part: int(value) for part, value in _fields(system).items() if isinstance(value, int)}
 
 
-def line(summary: Summary, file: str) -> str:
+def _good(rows: Callable[[], tuple[_T, ...]]) -> tuple[_T, ...]:
+    """The records before an error of the file."""
+    try:
+        return rows()
+    except LimitReached:
+        raise
+    except Fault as fault:
+        given: tuple[_T, ...] = fault.partial or ()
+        return given
+
+
+def _listed_module(module: Module) -> dict[str, Any]:
+    symbols = module.symbols if module.symbols and module.symbols.kind == SymbolKind.RSDS else None
+    return {
+        "filename": module.name,
+        "base_addr": _hex(module.base_of_image),
+        "end_addr": _hex(min(module.base_of_image + module.size_of_image, (1 << 64) - 1)),
+        "version": str(module.file_version),
+        "code_id": module.ids.code_id,
+        "debug_file": symbols and symbols.name.decode("utf-8", "replace"),
+        "debug_id": module.ids.debug_id,
+    }
+
+
+def _frames(dump: Dump, thread: Thread, system: SummarySystem | None) -> list[dict[str, Any]]:
+    """The frame that the context of a thread says."""
+    context = _CONTEXTS.get(_CPUS.get(system.processor_architecture, "")) if system else None
+    if context is None or thread.context.extent != Extent.INSIDE or thread.context.size < context.end:
+        return []
+    instruction = int.from_bytes(dump._bytes(thread.context.rva + context.at, context.width), "little")
+    return [{"frame": 0, "offset": _hex(instruction), "trust": "context"}]
+
+
+def _thread_object(dump: Dump, thread: Thread, summary: Summary) -> dict[str, Any]:
+    crash = summary.crash
+    name = crash.thread_name if crash and crash.thread_id == thread.thread_id else None
+    return {"thread_id": thread.thread_id, "thread_name": name, "frames": _frames(dump, thread, summary.system)}
+
+
+def _crash_info(crash: Crash | None, system: SummarySystem | None, threads: tuple[Thread, ...]) -> dict[str, Any] | None:
+    if crash is None:
+        return None
+    flags = _flags_name(crash)
+    code = _named(crash.exception.exception_code, _code_name(crash, system))
+    address = crash.reached.address if crash.reached else crash.exception.exception_address
+    index = (at for at, thread in enumerate(threads) if thread.thread_id == crash.thread_id)
+    return {"type": f"{code} / {flags}" if flags else code, "address": _hex(address), "crashing_thread": next(index, None)}
+
+
+def line(dump: Dump, file: str) -> str:
     """An object of JSON on one line. Numbers that may have more than 32 bits are strings."""
-    counts = summary.counts
+    summary, threads = dump.summary, _good(lambda: dump.threads)
     made = {
         "line": "summary",
         "file": file,
+        "status": "OK",
         "time": summary.header.time_date_stamp,
+        "system_info": _system_info(summary.system),
+        "system": _system_object(summary.system),
         "crash": _crash_object(summary.crash, summary.system),
         "program": _module_object(summary.program),
-        "system": _system_object(summary.system),
-        "counts": {kind: str(number) for kind, number in _fields(counts).items()},
+        "counts": {kind: str(number) for kind, number in _fields(summary.counts).items()},
         "bad_entries": summary.bad_entries,
         "first_error": str(summary.first_error) if summary.first_error else None,
         "parts_outside": summary.parts_outside,
         "first_outside": str(summary.first_outside) if summary.first_outside else None,
+        "main_module": 0 if summary.program else None,
+        "modules": [_listed_module(module) for module in _good(lambda: dump.modules)],
+        "threads": [_thread_object(dump, thread, summary) for thread in threads],
+        "crash_info": _crash_info(summary.crash, summary.system, threads),
     }
     return json.dumps(made, ensure_ascii=False, separators=(",", ":")) + "\n"

@@ -81,6 +81,17 @@ impl Filled<u8> {
     }
 }
 
+impl Filled<ffi::Fault> {
+    /// The rows of a check. That entries are bad is no error of the call.
+    fn judged<T>(self, row: impl Fn(ffi::Fault) -> T) -> Result<Vec<T>, Error<Vec<T>>> {
+        let has_all = FaultKind::from(self.fault.kind) == FaultKind::BadEntries;
+        match self.ended(|rows| rows.into_iter().map(row).collect()) {
+            Err(Error::Fault(_, rows)) if has_all => Ok(rows),
+            other => other,
+        }
+    }
+}
+
 /// Calls with a buffer for so many items. If the buffer is too short, calls again with one of the length that the call
 /// asks for, up to the items that `output` of the limits allows.
 fn fill<T: Copy + Default>(
@@ -221,18 +232,35 @@ impl<'a> Dump<'a> {
     /// The result of checking each entry of the directory. It is an error only if the file cannot be opened, a limit is
     /// wrong or reached, or memory runs out.
     pub fn verdicts(&self) -> Result<Vec<Verdict>, Error<Vec<Verdict>>> {
-        let filled = fill(self.room(), &self.limits, |out, count, fault| {
+        fill(self.room(), &self.limits, |out, count, fault| {
             ffi::mdmp_verdicts(self.file, &self.plain, out, count, fault)
-        });
-        let has_all = FaultKind::from(filled.fault.kind) == FaultKind::BadEntries;
-        let verdict = |raw: ffi::Fault| Verdict {
+        })
+        .judged(|raw| Verdict {
             entry: raw.entry,
             fault: (raw.kind != 0).then_some(Fault(raw)),
-        };
-        match filled.ended(|rows| rows.into_iter().map(verdict).collect()) {
-            Err(Error::Fault(_, verdicts)) if has_all => Ok(verdicts),
-            other => other,
-        }
+        })
+    }
+
+    /// The parts of records, such as stacks, that are not inside the file, as `mdmp check --parts` prints them. Each
+    /// entry is read up to its own error, so an error in an entry is no error of the call.
+    ///
+    /// ```
+    /// # fn main() -> Result<(), Box<dyn std::error::Error>> {
+    /// # std::env::set_current_dir(concat!(env!("CARGO_MANIFEST_DIR"), "/../../crates/mdmp_samples/data"))?;
+    /// let bytes = std::fs::read("crashpad-one.dmp")?;
+    /// let cut = mdmp::Dump::new(&bytes[..4708]);
+    /// let parts = cut.parts_outside()?;
+    /// assert_eq!(parts[0].part(), Some(mdmp::Part::Stack));
+    /// let told = "entry 2 item 0: stack outside the file: offset 4720 size 7264";
+    /// assert_eq!(parts[0].to_string(), told);
+    /// # Ok(())
+    /// # }
+    /// ```
+    pub fn parts_outside(&self) -> Result<Vec<Fault>, Error<Vec<Fault>>> {
+        fill(self.room(), &self.limits, |out, count, fault| {
+            ffi::mdmp_parts_outside(self.file, &self.plain, out, count, fault)
+        })
+        .judged(Fault)
     }
 
     /// What the dump says of a crash and of itself. It covers all entries, each up to its own error, so an error in an entry

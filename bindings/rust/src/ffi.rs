@@ -629,6 +629,15 @@ mod symbols {
             count: *mut u64,
             fault: *mut Fault,
         ) -> u32;
+        pub fn mdmp_parts_outside_(
+            file: *const u8,
+            file_size: usize,
+            limits: *const Limits,
+            out: *mut Fault,
+            room: usize,
+            count: *mut u64,
+            fault: *mut Fault,
+        ) -> u32;
         pub fn mdmp_list_(
             file: *const u8,
             file_size: usize,
@@ -930,6 +939,28 @@ pub fn mdmp_verdicts(
     // SAFETY: as `symbols` says.
     unsafe {
         symbols::mdmp_verdicts_(
+            file.as_ptr(),
+            file.len(),
+            limits,
+            out.as_mut_ptr(),
+            out.len(),
+            count,
+            fault,
+        )
+    }
+}
+
+/// `mdmp_parts_outside` of mdmp.h
+pub fn mdmp_parts_outside(
+    file: &[u8],
+    limits: &Limits,
+    out: &mut [Fault],
+    count: &mut u64,
+    fault: &mut Fault,
+) -> u32 {
+    // SAFETY: as `symbols` says.
+    unsafe {
+        symbols::mdmp_parts_outside_(
             file.as_ptr(),
             file.len(),
             limits,

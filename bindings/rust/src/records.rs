@@ -76,7 +76,7 @@ pub enum FaultKind {
     RawKnownType,
     /// The copy would be longer than the format allows.
     CopyTooLarge,
-    /// Size: the number of directory entries that have an error.
+    /// Size: the number of directory entries that have an error, or lose a part.
     BadEntries,
     /// Size: a type of stream that is not copied.
     NotCopied,

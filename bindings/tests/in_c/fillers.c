@@ -15,6 +15,7 @@ FILLER(streams, mdmp_stream, )
 FILLER(check, uint8_t, WITH_LIMITS)
 FILLER(check_json, uint8_t, WITH_LIMITS)
 FILLER(verdicts, mdmp_fault, WITH_LIMITS)
+FILLER(parts_outside, mdmp_fault, WITH_LIMITS)
 FILLER(list, uint8_t, WITH_LIMITS true, )
 FILLER(list_json, uint8_t, WITH_LIMITS true, )
 FILLER(list_part, uint8_t, WITH_LIMITS false, list_skip, )
@@ -45,6 +46,7 @@ const filler FILLERS[FILLERS_COUNT] = {
     [FILL_CHECK] = ROW(check, uint8_t, true),
     [FILL_CHECK_JSON] = ROW(check_json, uint8_t, true),
     [FILL_VERDICTS] = ROW(verdicts, mdmp_fault, true),
+    [FILL_PARTS_OUTSIDE] = ROW(parts_outside, mdmp_fault, true),
     [FILL_LIST] = ROW(list, uint8_t, true),
     [FILL_LIST_JSON] = ROW(list_json, uint8_t, true),
     [FILL_LIST_PART] = ROW(list_part, uint8_t, true),

@@ -26,6 +26,7 @@ static void test_refusals(const mdmp_limits *limits, uint32_t status, mdmp_fault
     count = 1;
     REFUSED(mdmp_list_part(FILE_OF(SYSTEM), limits, false, 0, out, sizeof out, &count, &fault));
     TABLE(mdmp_verdicts, mdmp_fault)
+    TABLE(mdmp_parts_outside, mdmp_fault)
     TABLE(mdmp_threads, mdmp_thread)
     TABLE(mdmp_modules, mdmp_module)
     TABLE(mdmp_exceptions, mdmp_exception)

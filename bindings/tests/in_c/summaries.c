@@ -1,4 +1,4 @@
-/* Summaries of the crash of a sample, whole and cut, and the ids of modules: summaries DUMP */
+/* Summaries of the crash of a sample, whole and cut, its parts outside the file, and the ids of modules: summaries DUMP */
 #include "support.h"
 
 static mdmp_fault fault;
@@ -51,6 +51,46 @@ static void test_sample(blob file) {
     memset(&summary, 0xaa, sizeof summary);
     ASSERT(mdmp_summary(file.bytes, 40, &LIMITS, &summary, &fault) == MDMP_FAULT);
     ASSERT(fault.kind == MDMP_FAULT_DIRECTORY_OUTSIDE && summary.has_crash == 0xaaaaaaaa);
+}
+
+/* The parts of the sample cut inside its stack, with room for all of them and for fewer. */
+static void test_parts(blob file) {
+    static const mdmp_fault PARTS[] = {
+        {.kind = MDMP_FAULT_PART_OUTSIDE, .entry = 2, .offset = 4720, .size = 7264, .part = MDMP_PART_STACK, .has_index = 1},
+        {.kind = MDMP_FAULT_PART_OUTSIDE, .entry = 7, .offset = 4720, .size = 7264, .part = MDMP_PART_MEMORY, .has_index = 1}};
+    mdmp_fault parts[3];
+    uint64_t count;
+    ASSERT(mdmp_parts_outside(file.bytes, file.size, &LIMITS, parts, 3, &count, &fault) == MDMP_OK && count == 0);
+    ASSERT(fault.kind == MDMP_FAULT_NONE);
+    file.size = 4708;
+    for (size_t room = 0; room <= 3; room++) {
+        memset(parts, 0xaa, sizeof parts);
+        const mdmp_fault untouched = parts[2];
+        uint32_t status = mdmp_parts_outside(file.bytes, file.size, &LIMITS, parts, room, &count, &fault);
+        ASSERT(status == (room < 2 ? (uint32_t)MDMP_BUFFER_TOO_SHORT : (uint32_t)MDMP_FAULT) && count == 2);
+        ASSERT(fault.kind == MDMP_FAULT_BAD_ENTRIES && fault.size == 2);
+        for (size_t i = 0; i < 3; i++) {
+            const mdmp_fault *expected = i < room && i < 2 ? &PARTS[i] : &untouched;
+            ASSERT(memcmp(&parts[i], expected, sizeof *expected) == 0);
+        }
+    }
+    char text[80];
+    uint64_t size;
+    ASSERT(mdmp_fault_text(&parts[0], (uint8_t *)text, sizeof text, &size) == MDMP_OK);
+    ASSERT(size == 61 && memcmp(text, "entry 2 item 0: stack outside the file: offset 4720 size 7264", 61) == 0);
+    /* up to where the budget is reached, the first parts are given */
+    mdmp_limits limits = LIMITS;
+    for (limits.budget = 0;; limits.budget += fault.size) {
+        uint32_t status = mdmp_parts_outside(file.bytes, file.size, &limits, parts, 3, &count, &fault);
+        if (status == MDMP_FAULT) {
+            break;
+        }
+        ASSERT(status == MDMP_LIMIT && fault.kind == MDMP_FAULT_BUDGET && fault.size > 0 && count <= 2);
+        ASSERT(memcmp(parts, PARTS, (size_t)count * sizeof *parts) == 0 && limits.budget < 4 * file.size);
+    }
+    ASSERT(count == 2 && fault.kind == MDMP_FAULT_BAD_ENTRIES);
+    ASSERT(mdmp_parts_outside(file.bytes, 40, &LIMITS, parts, 3, &count, &fault) == MDMP_FAULT && count == 0);
+    ASSERT(fault.kind == MDMP_FAULT_DIRECTORY_OUTSIDE);
 }
 
 /* The least budget with which there is a summary: the entries are read twice. No ranges are kept. */
@@ -134,6 +174,7 @@ int main(int argc, char **argv) {
     ASSERT(argc == 2);
     blob file = read_file(argv[1]);
     test_sample(file);
+    test_parts(file);
     test_limits(file);
     test_ids();
     free(file.bytes);

@@ -225,6 +225,22 @@ class Output(unittest.TestCase):
         self.assertTrue(0 < len(partial) < 100)
         self.assertEqual([str(each) for each in partial], [str(each) for each in whole[: len(partial)]])
 
+    def test_parts(self) -> None:
+        file = File(1)
+        file.stream(3, counted([strange_dumps.thread(at, 0, (100, 1 << 31)) for at in range(20)]))
+        data = file.bytes()
+        whole = mdmp.Dump(data).parts_outside
+        partial = self.limited(lambda: mdmp.Dump(data, limits=mdmp.Limits(output=8000)).parts_outside, 8000)
+        self.assertTrue(0 < len(partial) < len(whole) == 20)
+        self.assertEqual([str(each) for each in partial], [str(each) for each in whole[: len(partial)]])
+        for text in (mdmp.Dump.check, mdmp.Dump.check_json):
+            with self.assertRaises(mdmp.Fault) as raised:
+                text(mdmp.Dump(data), parts=True)
+            told = raised.exception.partial
+            for most in range(0, len(told), 3):
+                partial = self.limited(lambda: text(mdmp.Dump(data, limits=mdmp.Limits(output=most)), parts=True), most)
+                self.assertTrue(told.startswith(partial) and partial[-1:] in ("", "\n"))
+
     def test_memory(self) -> None:
         size = 2 * ctypes.sizeof(_structures.Slot)  # an index has two for each range
         self.assertEqual(mdmp.Dump(memory(100), limits=mdmp.Limits(output=100 * size)).memory[0x1063], ord("D"))

@@ -69,6 +69,19 @@ class OfSample(unittest.TestCase):
         self.assertIn("stack outside the file", str(found))
         self.assertGreater(summary.parts_outside, 0)
 
+    def test_parts(self) -> None:
+        whole = CRASHPAD.read_bytes()
+        self.assertEqual(mdmp.Dump(whole).parts_outside, ())
+        cut = mdmp.Dump(whole[:4708])
+        ends = "outside the file: offset 4720 size 7264"
+        self.assertEqual([str(part) for part in cut.parts_outside], [f"entry 2 item 0: stack {ends}", f"entry 7 item 0: memory {ends}"])
+        self.assertEqual([part.part for part in cut.parts_outside], [mdmp.Part.STACK, mdmp.Part.MEMORY])
+        self.assertEqual((cut.summary.parts_outside, str(cut.summary.first_outside)), (2, str(cut.parts_outside[0])))
+        self.assertEqual(cut.verdicts, (None,) * 9)
+        with self.assertRaises(mdmp.Fault) as raised:
+            mdmp.Dump(whole[:40]).parts_outside
+        self.assertEqual((raised.exception.kind, raised.exception.partial), (mdmp.FaultKind.DIRECTORY_OUTSIDE, ()))
+
     def test_limits(self) -> None:
         with self.assertRaises(mdmp.LimitReached) as raised:
             mdmp.open(CRASHPAD, budget=31).summary
@@ -131,7 +144,9 @@ class OfMade(unittest.TestCase):
                 bad = [verdict for verdict in dump.verdicts if verdict is not None]
                 self.assertEqual(summary.bad_entries, len(bad))
                 self.assertEqual(summary.first_error and summary.first_error.args, bad[0].args if bad else None)
-                self.assertEqual(summary.parts_outside > 0, summary.first_outside is not None)
+                parts = dump.parts_outside
+                self.assertEqual(summary.parts_outside, len(parts))
+                self.assertEqual(summary.first_outside and summary.first_outside.args, parts[0].args if parts else None)
 
 
 def with_records(*records: tuple[bytes, int, int, str]) -> tuple[mdmp.Module, ...]:

@@ -308,6 +308,36 @@ class Command(unittest.TestCase):
             told = f"{len(data)}\n{hashlib.sha256(data).hexdigest()}\n"
             self.assertEqual((status, told, err), (0, CRASHPAD.with_suffix(suffix).read_text("ascii"), ""))
 
+    def test_parts(self) -> None:
+        good = [f"entry {number}: ok\n" for number in range(9)]
+        self.assertEqual(self.run_command("check", "--parts", str(CRASHPAD)), (0, "".join(good), ""))
+        lines, objects = list(good), [f'{{"line":"entry","entry":{number},"fault":null}}\n' for number in range(9)]
+        for entry, part in ((2, "stack"), (7, "memory")):
+            lines[entry] = f"entry {entry} item 0: {part} outside the file: offset 4720 size 7264\n{good[entry]}"
+            told = f'{{"line":"part","entry":{entry},"item":"0","part":"{part}","offset":"4720","size":"7264"}}\n'
+            objects[entry] = told + objects[entry]
+        with tempfile.NamedTemporaryFile() as cut:
+            cut.write(CRASHPAD.read_bytes()[:4708])
+            cut.flush()
+            bad = "mdmp: 2 bad entries\n"
+            self.assertEqual(self.run_command("check", cut.name), (0, "".join(good), ""))
+            self.assertEqual(self.run_command("check", "--parts", cut.name), (1, "".join(lines), bad))
+            self.assertEqual(self.run_command("check", cut.name, "--json", "--parts"), (1, "".join(objects), bad))
+        self.assertEqual(self.run_command("check", "--parts", "/dev/null"), (1, "", "mdmp: file of 0 bytes is too short\n"))
+
+    def test_parts_up_to_a_limit(self) -> None:
+        data = CRASHPAD.read_bytes()[:4708]
+        with self.assertRaises(mdmp.Fault) as raised:
+            mdmp.Dump(data).check(parts=True)
+        whole, kinds, texts = raised.exception.partial, set(), set()
+        for budget in range(0, len(data), 50):
+            with self.assertRaises(mdmp.Fault) as raised:
+                mdmp.Dump(data, budget=budget).check(parts=True)
+            kinds.add(raised.exception.kind)
+            texts.add(raised.exception.partial)
+        self.assertEqual(kinds, {mdmp.FaultKind.BUDGET, mdmp.FaultKind.BAD_ENTRIES})
+        self.assertTrue({whole, ""} < texts and all(whole.startswith(text) for text in texts))
+
     def test_memory(self) -> None:
         told = "0x0000000000000fff: ?? 00 01 02 03 ??\n"
         self.assertEqual(self.run_command("hex", str(KINDS), "0xfff", "6"), (0, told, ""))
@@ -381,6 +411,45 @@ class Command(unittest.TestCase):
         self.assertEqual((module["file"], module["offset"], module["name"]), ("cpad", "5336", "/usr/sample/cpad"))
         self.assertEqual(crash["registers"]["instruction"], crash["address"])
         self.assertEqual((other["crash"], other["program"]["file"], other["counts"]["modules"]), (None, "mkdump.exe", "8"))
+        self.assertEqual((other["crash_info"], len(other["modules"]), len(other["threads"])), (None, 8, 4))
+        self.assertEqual(other["threads"][0]["frames"], [{"frame": 0, "offset": "0x000000017000d664", "trust": "context"}])
+
+    def test_object_has_the_keys_of_minidump_stackwalk(self) -> None:
+        status, out, err = self.run_command("summary", "--json", str(CRASHPAD), str(KINDS))
+        self.assertEqual((status, err), (0, ""))
+        linux, windows = map(json.loads, out.split("\n")[:-1])
+        self.assertEqual(linux["system_info"], {"os": "Linux", "os_ver": "6.18.44", "cpu_arch": "amd64", "cpu_count": 4})
+        module = {
+            "filename": "/usr/sample/cpad",
+            "base_addr": "0x000055c6e269d000",
+            "end_addr": "0x000055c6e26a10e8",
+            "version": "0.0.0.0",
+            "code_id": "f8ff14c31729558d2d09b50efc20a6fd6c265072",
+            "debug_file": None,
+            "debug_id": "C314FFF829178D552D09B50EFC20A6FD0",
+        }
+        self.assertEqual(linux["modules"][linux["main_module"]], module)
+        info = {"type": "SIGSEGV / SEGV_MAPERR", "address": "0x0000000000000010", "crashing_thread": 0}
+        self.assertEqual((linux["status"], linux["crash_info"]), ("OK", info))
+        self.assertEqual([(row["thread_id"], row["thread_name"]) for row in linux["threads"]], [(22570, "cpad")])
+        one = windows["modules"][0]
+        self.assertEqual((one["filename"], one["version"], one["code_id"]), ("C:\\dir\\one.exe", "1.2.3.4", "6553F10010000"))
+        self.assertEqual((one["debug_file"], one["debug_id"]), ("one.pdb", "33221100554477668899AABBCCDDEEFF1"))
+        # Its contexts are too short for registers. The third module has no CodeView record inside the file, and no time.
+        self.assertEqual([row["frames"] for row in windows["threads"]], [[], []])
+        self.assertEqual(windows["modules"][2]["code_id"], None)
+        self.assertEqual(windows["crash_info"]["crashing_thread"], 1)
+
+    def test_object_of_a_file_with_errors(self) -> None:
+        with tempfile.NamedTemporaryFile() as cut:
+            cut.write(KINDS.read_bytes()[:1334])
+            cut.flush()
+            status, out, err = self.run_command("summary", "--json", cut.name)
+        told = json.loads(out)
+        self.assertEqual((status, err, told["bad_entries"]), (1, "", 4))
+        self.assertEqual(told["first_error"], "entry 7: stream outside the file: offset 1321 size 14")
+        reached = f"mdmp: {CRASHPAD}: fetch budget reached: offset 0 size 32\n"
+        self.assertEqual(self.run_command("summary", "--json", "--budget", "31", str(CRASHPAD)), (3, "", reached))
 
     def test_help(self) -> None:
         status, out, err = self.run_command("--help")

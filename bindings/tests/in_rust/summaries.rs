@@ -48,6 +48,24 @@ fn sample_has_a_crash() {
 }
 
 #[test]
+fn cut_sample_has_parts_outside() {
+    let bytes = sample();
+    assert_eq!(Dump::new(&bytes).parts_outside().unwrap(), []);
+    let dump = Dump::new(&bytes[..4708]);
+    let parts = dump.parts_outside().unwrap();
+    let told: Vec<String> = parts.iter().map(ToString::to_string).collect();
+    let of = |place| format!("entry {place} outside the file: offset 4720 size 7264");
+    assert_eq!(told, [of("2 item 0: stack"), of("7 item 0: memory")]);
+    assert_eq!(parts[1].part(), Some(Part::Memory));
+    let summary = dump.summary().unwrap();
+    assert_eq!(summary.parts_outside, parts.len() as u64);
+    assert_eq!(summary.first_outside, Some(parts[0]));
+    let error = Dump::new(&bytes[..40]).parts_outside().unwrap_err();
+    let kind = error.fault().unwrap().kind();
+    assert_eq!(kind, FaultKind::DirectoryOutside);
+}
+
+#[test]
 fn cut_sample_lacks_a_stack() {
     let bytes = sample();
     let dump = Dump::new(&bytes[..4708]);

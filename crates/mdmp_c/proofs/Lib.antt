@@ -15,3 +15,4 @@ pub mod Parted
 pub mod Listed
 pub mod Summarized
 pub mod Fronts
+pub mod Losing

@@ -3,8 +3,8 @@ use Rattle.std.proofs.Common.{◌≡◌, ◌∙◌, ◌+◌, ◌*◌, ◌-◌, �
 use Rattle.std.specs.Prelude.{◌==◌, false, true}
 use Rattle.std.proofs.lemmas.Bool.Decides.{nat_tests}
 use Rattle.std.proofs.Math.Seq.{take-append_seam}
-use Rattle.mdmp_dump.specs.declared.fault.PartName.{PartName}
-use Rattle.mdmp_dump.specs.declared.fault.PartName.TheVariants as parts
+use Rattle.mdmp_wire.specs.declared.slot.PartName.{PartName}
+use Rattle.mdmp_wire.specs.declared.slot.PartName.TheVariants as parts
 use Rattle.mdmp_dump.specs.declared.fault.ReadFault.{ReadFault}
 use Rattle.mdmp_dump.specs.declared.fault.ReadFault.TheVariants as reading
 use Rattle.mdmp_lister.specs.declared.fault.FaultKind.{FaultKind}

@@ -1,7 +1,7 @@
 -- The words of a fault, from its plain numbers.
 use Rattle.std.specs.Prelude.{◌≡◌, ◌<◌, ◌+◌, ◌*◌, ◌%◌, ◌^◌, ◌==◌, ℕ, List, [], Option, Some, None, codes, if◌then◌else◌}
-use Rattle.mdmp_dump.specs.declared.fault.PartName.{PartName}
-use Rattle.mdmp_dump.specs.declared.fault.PartName.TheVariants as parts
+use Rattle.mdmp_wire.specs.declared.slot.PartName.{PartName}
+use Rattle.mdmp_wire.specs.declared.slot.PartName.TheVariants as parts
 use Rattle.mdmp_dump.specs.declared.fault.ReadFault.{ReadFault}
 use Rattle.mdmp_dump.specs.declared.fault.ReadFault.TheVariants as reading
 use Rattle.mdmp_lister.specs.declared.fault.FaultKind.{FaultKind}

@@ -19,3 +19,4 @@ pub mod SummaryModules
 pub mod SummaryRows
 pub mod Summary
 pub mod Ids
+pub mod PartsOutside

@@ -30,7 +30,9 @@ mod list_part;
 mod memory;
 mod name;
 mod naming;
+mod outside_rows;
 mod parts;
+mod parts_outside;
 mod ranging;
 mod records;
 mod rows;
@@ -59,6 +61,7 @@ pub use crate::list_part::mdmp_list_part_;
 pub use crate::memory::{mdmp_memory_, mdmp_read_};
 pub use crate::name::mdmp_name_;
 pub use crate::parts::{NamePlace, PartPlace};
+pub use crate::parts_outside::mdmp_parts_outside_;
 pub use crate::records::{
     mdmp_exceptions_, mdmp_modules_, mdmp_ranges_, mdmp_regions_, mdmp_systems_,
     mdmp_thread_names_, mdmp_threads_, mdmp_unloaded_,

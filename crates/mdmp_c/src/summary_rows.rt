@@ -217,7 +217,7 @@ fn part_kind_number(part: PartKind) -> u32
 }
 
 /// A part outside the file as a plain fault.
-fn outside_fault(part: PartOutside) -> PlainFault
+pub(crate) fn outside_fault(part: PartOutside) -> PlainFault
     ensures { result ≡ outside_fault part }
 {
     PlainFault {

@@ -51,7 +51,7 @@ pub extern "C" fn mdmp_verdicts_(
 }
 
 /// What is told where verdicts end so. The store is memory, which does not fail, so a fault is the budget's.
-fn ending_told(bad: u64, fault: Option<ListFault>) -> PlainFault
+pub(crate) fn ending_told(bad: u64, fault: Option<ListFault>) -> PlainFault
     ensures { result ≡ ending_told bad fault }
 {
     match fault {

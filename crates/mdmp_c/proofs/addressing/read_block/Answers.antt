@@ -14,7 +14,7 @@ returns-then-is_full c =
     let content = Some c.args.file.now in
     let z : ℕ = length c.args.file.now in
     let same : length c.loop-row.known ≡ length c.loop-row.out = omega (arith, c.loop-row.auto.out, c.loop-row.auto.known, c.requires.same) in
-    let full : (place : ℕ) → place < c.loop-row.paint.count → is_painted c.loop-row.paint place ≡ true = c.is_full.ensures.full (search rules) in
+    let full : (place : ℕ) → place < c.loop-row.paint.count → is_painted c.loop-row.paint place ≡ true = c.is_full.ensures.full.0 (search rules) in
     cells_read content (kept_ranges z c.args.rows.now) c.args.address c.loop-row.out c.loop-row.known same
     (subst (λ a. AreCells content (kept_ranges z c.args.rows.now) a c.loop-row.out c.loop-row.known) before.start
     (kept_full content z c.args.rows.now c.loop-row.row-index c.loop-row.paint c.loop-row.out c.loop-row.known same before.painted full
