@@ -20,7 +20,7 @@ IS_ALIGNED(mdmp_summary_record);
 
 void test_file(blob file, uint64_t seed) {
     static void (*const ORACLES[])(const reading *) = {test_header, test_streams, test_list, test_check, test_part, test_json,
-        test_names, test_chosen_name, test_symbols, test_counts, test_crash, test_memory, test_lengths, test_index, test_where, test_copy, test_window,
+        test_names, test_chosen_name, test_symbols, test_counts, test_parts, test_crash, test_memory, test_lengths, test_index, test_where, test_copy, test_window,
         test_name_limit, test_budget, test_memory_limit, test_aside, test_copy_budget, test_bad_limits, test_mapped,
         test_refused};
     const long live = live_blocks();

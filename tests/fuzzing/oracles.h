@@ -65,6 +65,7 @@ void test_strange_places(blob file);
 
 /* ---- totals.c */
 void test_counts(const reading *given);
+void test_parts(const reading *given);
 void test_crash(const reading *given);
 
 /* ---- memory.c */

@@ -118,6 +118,42 @@ void test_counts(const reading *given) {
     }
 }
 
+/* Whether this part has a byte after the end of the file. */
+static bool is_outside(const mdmp_fault *part, size_t file_size) {
+    return part->kind == MDMP_FAULT_PART_OUTSIDE && part->size != 0 &&
+           (part->high != 0 || part->size > file_size || part->offset > file_size - part->size);
+}
+
+/* The parts outside the file are those that the summary counts, in the order of the entries. The bad entries have an error or
+ * such a part. */
+void test_parts(const reading *given) {
+    const filled *parts = &given->of[FILL_PARTS_OUTSIDE], *verdicts = &given->of[FILL_VERDICTS];
+    const mdmp_fault *rows = ROWS_OF(given, FILL_PARTS_OUTSIDE, mdmp_fault), *faults = ROWS_OF(given, FILL_VERDICTS, mdmp_fault);
+    const mdmp_summary_record *summary = ROWS_OF(given, FILL_SUMMARY, mdmp_summary_record);
+    uint64_t at = 0, bad = 0;
+    if (rows == NULL || faults == NULL) {
+        return;
+    }
+    for (uint64_t entry = 0; entry < verdicts->count; entry++) {
+        const uint64_t first = at;
+        for (; at < parts->count && rows[at].entry == entry; at++) {
+            test_fault(&rows[at]);
+            ASSERT(is_outside(&rows[at], given->file.size));
+        }
+        bad += faults[entry].kind != MDMP_FAULT_NONE || at != first;
+    }
+    ASSERT(at == parts->count);
+    if (bad == 0) {
+        ASSERT(is_same_fault(&parts->fault, &verdicts->fault));
+    } else {
+        ASSERT(parts->fault.kind == MDMP_FAULT_BAD_ENTRIES && parts->fault.size == bad);
+    }
+    if (parts->fault.kind == MDMP_FAULT_NONE || bad != 0) {
+        ASSERT(given->of[FILL_SUMMARY].count == 1 && summary->parts_outside == at);
+        ASSERT(at == 0 || is_same_fault(&rows[0], &summary->first_outside));
+    }
+}
+
 static bool is_module(const mdmp_summary_module *summed, const mdmp_module *row) {
     return summed->base_of_image == row->base_of_image && summed->size_of_image == row->size_of_image &&
            summed->checksum == row->checksum && summed->time_date_stamp == row->time_date_stamp &&

@@ -14,6 +14,7 @@ from . import minidumps
 from .minidumps import ENTRY_SIZE, HEADER_SIZE, VERSION, File, Part, Parts, numbers, units, wide_numbers
 
 LISTS = (3, 4, 5, 9, 14, 16, 24)
+CRASH = (7, 4, 6, 24, 4, 3, 6)  # types of which most files have some
 UNPARSED = (1, 10, 11, 12, 13, 15, 17, 0x43500001, 65536, 65537, 0xFFFFFFFF)
 EDGES = (0, 1, 2, 0x7FFFFFFF, 0x80000000, 0xFFFFFFFE, 0xFFFFFFFF)
 WIDE_EDGES = (*EDGES, 1 << 32, 1 << 60, (1 << 63) - 1, 1 << 63, (1 << 64) - 2, (1 << 64) - 1)
@@ -23,6 +24,14 @@ NO_TEXT = (b"\xed\xa0\x80", b"\xe2\x82", b"\xff", b"\xc0\x80")
 BYTES = (b'"', b"\\", b"/", b"\0", b"\t\r", b"\x7f", b"\xc3\xa9", b"\xf0\x9f\x98\x80", *NO_TEXT)
 # Where ranges of memory begin: they overlap, and some reach past the last address.
 STARTS = (0x1000, 0x1004, 0x1010, 0x1030, (1 << 64) - 16, (1 << 64) - 1, 0, 0x7FFE00000000)
+# What a crash has: where its modules and its addresses are, the processor and the platform, the code and the flags, and what the
+# thread did at an address.
+PLACES = (0x400000, 0x400000, 0x7FF600000000, (1 << 64) - 0x4000)
+PROCESSORS = (0, 5, 9, 9, 9, 10, 12, 0x8003)
+PLATFORMS = (1, 2, 2, 3, 0x8101, 0x8102, 0x8201, 0x8201, 0x8203)
+CODES = (*range(1, 32), 0x80000003, 0x80000004, 0xC0000005, 0xC0000005, 0xC0000006, 0xE06D7363, 0xFFFFFFFF)
+CODE_FLAGS = (*range(16), 0x80, 0x101, 0x10003, 0xFFFFFFFA)
+ACCESSES = (0, 1, 2, 8)
 # What `hex` prints of each file.
 SPANS = ((0x0FF8, 72), ((1 << 64) - 24, 24), (0, 17))
 
@@ -34,9 +43,14 @@ class Maker:
         self.chance = Random(number)
         self.errors = (0.0, 0.04, 0.15)[number % 3]
         self.end = end
-        count = self.chance.choice((0, 1, 2, 3, 5, 8, 13))
+        self.place = self.chance.choice(PLACES)
+        count = self.chance.choice((0, 1, 2, 3, 5, 5, 8, 8, 13))
         self.data = bytearray(HEADER_SIZE + ENTRY_SIZE * count)
-        entries = [self.entry() for _ in range(count)]
+        kinds = [self.chance.choice((*LISTS, *LISTS, 6, 7, 0, self.chance.choice(UNPARSED))) for _ in range(count)]
+        if self.chance.random() < 0.7:
+            kinds = [*CRASH, *kinds][:count]
+            self.chance.shuffle(kinds)
+        entries = [self.entry(kind) for kind in kinds]
         for index, entry in enumerate(entries):
             if index and self.chance.random() < 0.1:
                 entry = self.chance.choice(entries)
@@ -62,6 +76,21 @@ class Maker:
         chance = self.chance
         return chance.choice((chance.choice(WIDE_EDGES), chance.randrange(1 << 64), chance.randrange(1 << 32)))
 
+    def address(self) -> int:
+        """An address of a crash: mostly one in a module, or a little below or above it."""
+        return self.place + self.chance.randrange(0x4000) if self.chance.random() < 0.85 else self.wide()
+
+    def thread(self) -> int:
+        """The number of a thread."""
+        return self.chance.choice((1, 1, 2, self.number()))
+
+    def context(self) -> bytes:
+        """The registers of a thread, each an address, or a part of them."""
+        length = self.chance.choice((40, 100, 204, 272, 1232))
+        if self.chance.random() < 0.5:
+            return wide_numbers(*[self.address() for _ in range(154)])[:length]
+        return numbers(*[self.address() & 0xFFFFFFFF for _ in range(308)])[:length]
+
     def put(self, data: bytes) -> int:
         """Where these bytes are, mostly at a multiple of 4."""
         if self.chance.random() < 0.8:
@@ -82,7 +111,7 @@ class Maker:
             return 0, self.number()
         if chosen < 0.2:
             return self.chance.choice((len(data), self.number())), 0
-        if self.is_bad():
+        if self.chance.random() < 3 * self.errors:
             size = self.chance.choice((len(data), self.number()))
             return size, self.bad_place(size)
         if chosen < 0.3:
@@ -127,11 +156,13 @@ class Maker:
         number, wide = self.number, self.wide
         if kind == 3:
             return minidumps.thread(
-                number(), number(), number(), number(), wide(), wide(), self.part(self.some(24)), self.part(self.some(40))
+                self.thread(), number(), number(), number(), wide(), wide(), self.part(self.some(24)), self.part(self.context())
             )
         if kind == 4:
+            near = self.place + 0x1000 * self.chance.randrange(4), self.chance.choice((0x800, 0x1000))
+            base, size = self.chance.choice((near, near, near, (wide(), number())))
             return minidumps.module(
-                wide(), number(), number(), number(), self.name(), self.version(),
+                base, size, number(), number(), self.name(), self.version(),
                 self.part(self.codeview()), self.part(self.some(16)), self.chance.randbytes(16),
             )
         if kind == 5:
@@ -143,7 +174,7 @@ class Maker:
             return minidumps.unloaded_module(wide(), number(), number(), number(), self.name())
         if kind == 16:
             return minidumps.region(wide(), wide(), number(), number(), wide(), number(), number(), number(), number())
-        return minidumps.thread_name(number(), self.name() + (1 << 32 if self.is_bad() else 0))
+        return minidumps.thread_name(self.thread(), self.name() + (1 << 32 if self.is_bad() else 0))
 
     def start(self) -> int:
         return self.chance.choice((*STARTS, self.wide()))
@@ -151,14 +182,17 @@ class Maker:
     def exception(self) -> bytes:
         count = self.chance.choice((*range(16), 16, self.number()))
         number, wide = self.number, self.wide
+        code, flags = (self.chance.choice((*some, number())) for some in (CODES, CODE_FLAGS))
         return minidumps.exception(
-            number(), number(), number(), number(), wide(), wide(), count, number(),
-            [wide() for _ in range(15)], self.part(self.some(40)),
+            self.thread(), number(), code, flags, wide(), self.address(), count, number(),
+            [self.chance.choice((*ACCESSES, wide())), *[wide() for _ in range(14)]], self.part(self.context()),
         )
 
     def system(self) -> bytes:
-        name = self.name()
-        return self.chance.randbytes(8) + numbers(*[self.number() for _ in range(4)], name) + self.chance.randbytes(28)
+        name, chance = self.name(), self.chance
+        processor, platform = (chance.choice((*some, self.number())) for some in (PROCESSORS, PLATFORMS))
+        head = units(processor & 0xFFFF) + chance.randbytes(6) + numbers(*[self.number() for _ in range(3)], platform, name)
+        return head + chance.randbytes(28)
 
     def list_of(self, kind: int) -> bytes:
         """A list with its head."""
@@ -188,9 +222,8 @@ class Maker:
         padding = self.chance.choice((b"", b"", bytes(4), b"pads"))
         return numbers(counted) + padding + b"".join(records) + (b"" if padding else slack)
 
-    def entry(self) -> tuple[int, int, int]:
+    def entry(self, kind: int) -> tuple[int, int, int]:
         """The type, the size and the place of a stream."""
-        kind = self.chance.choice((*LISTS, *LISTS, 6, 7, 0, self.chance.choice(UNPARSED)))
         if kind == 0:
             return 0, self.number(), self.number()
         makers: dict[int, Callable[[], bytes]] = {6: self.exception, 7: self.system}
@@ -273,11 +306,11 @@ def large(path: str, out: str) -> Iterator[tuple[str, bytes, list[str]]]:
     rows = [minidumps.unloaded_module(k, 1, 2, 3) + bytes(69976) for k in range(3)]
     far = minidumps.unloaded_modules(rows, 80000, 70000, bytes(79988))
     windows = [f"list {path} --window {window}" for window in (168, 4096, 70000, 1 << 20)]
-    yield "records", file_of((14, far), again=2), [*lists, *windows, f"copy {path} {out} 14"]
+    yield "records", file_of((14, far), again=2), [*lists, f"summary {path}", *windows, f"copy {path} {out} 14"]
     # Names around the limit, and around what a block of output has.
     lengths = (4094, 4096, 4098, 65534, 65536, 80000)
     names, records = Parts(44 + 4 + 12 * len(lengths), alignment=1), list[bytes]()
     for k, length in enumerate(lengths):
         records.append(minidumps.thread_name(k, names.string(bytes([0x61 + k, 0x20 * (k % 2)]) * (length // 2))))
-    more = [f"{line} --name {limit}" for line in (*lists, f"copy {path} {out} 24") for limit in (4094, 65536, 80000, 1 << 20)]
+    more = [f"{line} --name {limit}" for line in (*lists, f"copy {path} {out} 24", f"summary {path}") for limit in (4094, 65536, 80000, 1 << 20)]
     yield "names", file_of((24, minidumps.counted(records)), rest=b"".join(names.parts)), [*lists, *more, f"copy {path} {out} 24"]

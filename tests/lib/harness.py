@@ -8,7 +8,7 @@ import subprocess
 from collections.abc import Iterator
 from pathlib import Path
 
-from .needs import DATA, TOP, stop
+from .needs import TOP, stop, stored_dumps
 
 FOLDER = TOP / "tests/fuzzing"
 CORPUS = FOLDER / "corpus"
@@ -50,7 +50,7 @@ def module() -> Path:
 
 def corpus() -> list[Path]:
     """The files that the harness runs over: those of the corpus, and the samples."""
-    return [*sorted(CORPUS.iterdir()), *sorted(DATA.glob("*.dmp"))]
+    return [*sorted(CORPUS.iterdir()), *stored_dumps()]
 
 
 def run(*words: str | Path, env: dict[str, str] | None = None) -> None:

@@ -10,6 +10,7 @@ from typing import NoReturn
 
 TOP = Path(__file__).resolve().parent.parent.parent
 DATA = TOP / "crates/mdmp_samples/data"
+SAMPLES = TOP / "tests/samples"
 
 
 def stop(why: str) -> NoReturn:
@@ -17,6 +18,11 @@ def stop(why: str) -> NoReturn:
     script = Path(sys.argv[0]).resolve()
     name = script.relative_to(TOP) if script.is_relative_to(TOP) else script.name
     sys.exit(f"{name}: {why}")
+
+
+def stored_dumps() -> list[Path]:
+    """The dumps of both folders, which docs/samples.md describes. No two have one name."""
+    return [*sorted(DATA.glob("*.dmp")), *sorted(SAMPLES.glob("*.dmp"))]
 
 
 def need(*packages: str) -> None:

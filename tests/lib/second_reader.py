@@ -13,6 +13,7 @@ import re
 import sys
 from collections.abc import Collection, Iterator, Sequence
 from contextlib import suppress
+from pathlib import Path
 from struct import Struct, iter_unpack, pack, unpack_from
 from typing import IO, Any, NamedTuple
 
@@ -28,7 +29,7 @@ UNIT, BYTE = "\\u%04x", "\\x%02x"
 # A field without a name is alignment.
 RECORDS = {
     3: "id:I suspend:I class:I priority:I teb:Q start:Q stack.size:I stack.rva:I context.size:I context.rva:I",
-    4: "base:Q size:I checksum:I time:I name.rva:I structure:Q ms:I ls:I product:36s cv.size:I cv.rva:I misc.size:I misc.rva:I "
+    4: "base:Q size:I checksum:I time:I name.rva:I structure:Q ms:I ls:I pms:I pls:I rest:28s cv.size:I cv.rva:I misc.size:I misc.rva:I "
     "reserved:16s",
     5: "start:Q memory.size:I memory.rva:I",
     6: "thread:I :4x code:I flags:I record:Q address:Q parameters:I :4x information:120s context.size:I context.rva:I",
@@ -54,6 +55,10 @@ LINES = {
     16: "region base:address allocation:address initial size:wide state protect type",
     24: "threadname id name:name",
 }
+# The names of types of streams, as a page has them.
+PAGE = (Path(__file__).resolve().parent.parent.parent / "docs/reference/names.md").read_text(encoding="utf-8")
+STREAM_PART = PAGE.partition("## Types of streams")[2].partition("\n## ")[0]
+STREAMS = {int(number, 0): name for number, name in re.findall(r"^\| (\w+) \| `(\w+)` \|$", STREAM_PART, re.M)}
 COPIED = (0, 3, 4, 5, 6, 7, 9, 10, 11, 14, 15, 16, 24)  # and from 65,536
 
 
@@ -200,6 +205,15 @@ def located(part: Part, number: type = int) -> tuple[str, Members]:
     return "".join(words[:kept]), dict(members[:kept])
 
 
+def halves(values: Members, *keys: str) -> str:
+    """The high and the low half of each number, with points between them."""
+    return ".".join(str(half) for key in keys for half in divmod(values[key], 65536))
+
+
+def stamped(time: int, number: int) -> str:
+    return f"{time:08X}{number:x}"
+
+
 def shown(record: Record, key: str, form: str) -> tuple[str, Members]:
     values, value = record.values, record.values.get(key)
     if form in ("part", "stack"):
@@ -214,7 +228,7 @@ def shown(record: Record, key: str, form: str) -> tuple[str, Members]:
         given = [hexadecimal(one) for (one,) in iter_unpack("<Q", values["information"])][:value]
         return " ".join([str(value), *given]), {key: value, "information": given}
     if form == "halves":
-        value = ".".join(str(half) for one in ("ms", "ls") for half in divmod(values[one], 65536))
+        value = halves(values, "ms", "ls")
     elif form == "version":
         value = f"{values['major']}.{values['minor']}.{values['build']}"
     elif form:
@@ -234,7 +248,15 @@ def record_line(is_json: bool, record: Record) -> bytes:
         text, more = shown(record, key, form)
         words.append(text if form == "range" else f"{key} {text}")
         members |= more
+    if first == "module":
+        time, size = record.values["time"], record.values["size"]
+        members |= {"code_id": stamped(time, size) if time else None, "product_version": halves(record.values, "pms", "pls")}
     return line(is_json, " ".join(words), members)
+
+
+def guid_of(data: bytes) -> str:
+    one, two, three, four = unpack_from("<IHH8s", data)
+    return f"{one:08x}-{two:04x}-{three:04x}-{four[:2].hex()}-{four[2:].hex()}"
 
 
 def codeview_line(is_json: bool, record: Record, data: bytes, longest: int) -> bytes:
@@ -244,9 +266,13 @@ def codeview_line(is_json: bool, record: Record, data: bytes, longest: int) -> b
         return line(is_json, f"pdb short {size}", {**members, "kind": "short", "size": size})
     if begin != b"RSDS":
         members |= {"kind": "other", "signature": begin.hex(), "size": size}
+        if begin == b"LEpB":
+            built = guid_of(data[4:20].ljust(16, b"\0")).replace("-", "").upper() + "0"
+            members |= {"build_id": data[4:24].hex(), "build_id_cut": size > 24, "debug_id": built}
+        elif begin == b"NB10" and size >= 16:
+            members["debug_id"] = stamped(*unpack_from("<II", data, 8))
         return line(is_json, f"pdb other {begin.hex()} size {size}", members)
-    one, two, three, four, age = unpack_from("<IHH8sI", data, 4)
-    guid = f"{one:08x}-{two:04x}-{three:04x}-{four[:2].hex()}-{four[2:].hex()}"
+    guid, (age,) = guid_of(data[4:20]), unpack_from("<I", data, 20)
     debug_id = f"{guid.replace('-', '')}{age:x}".upper()
     name, end, _ = data[24 : 24 + longest].partition(b"\0")
     read = name.decode("utf-8", "replace")
@@ -263,7 +289,7 @@ def run_list(dump: Dump, options: Collection[str], operands: Sequence[str]) -> I
     yield line(is_json, " ".join(["dump", *(f"{key} {value}" for key, value in members.items())]), {"line": "dump", **members})
     for entry in entries:
         number, kind, size, rva = entry
-        members = {"line": "stream", "entry": number, "type": kind, "size": size, "rva": rva}
+        members = {"line": "stream", "entry": number, "type": kind, "size": size, "rva": rva, "name": STREAMS.get(kind)}
         yield line(is_json, f"stream {number} type {kind} size {size} rva {rva}", members)
         for record in dump.records(entry):
             yield record_line(is_json, record)

@@ -68,10 +68,14 @@ SMALL_DUMPS = {
     # A list of one thread that is a byte too short.
     "threads.dmp": dump(1, 3, 51, 44, 1, *[0] * 12),
     "module.dmp": module(30, rsds(1, b"a.pdb")),
-    # CodeView records: a name that is no UTF-8, another kind, and a part of one.
+    # CodeView records: a name that is no UTF-8, one of PDB 2.0, and a part of one.
     "lossy.dmp": module(30, rsds(0xABCDEF, b'"\xffa\xe2\x82')),
-    "other.dmp": module(16, b"NB10" + bytes(12)),
+    "other.dmp": module(16, b"NB10" + numbers(0, 0x0A5B7C9D, 0x1F)),
     "brief.dmp": module(3, b"RSD"),
+    # A module with a size, a time and a version of its product, and a build id that is a byte too long.
+    "build.dmp": dump(1, 4, 112, 44, 1, 0, 0, 0x1A000, 0, 0x5F3759DF, *[0] * 5, 0xA0001, 0x4A610002, *[0] * 7, 25, 156, *[0] * 6)
+    + b"LEpB"
+    + bytes(range(1, 22)),
     "names.dmp": dump(1, 24, 88, 44, 7, *THREADS) + b"".join(NAMES),
     # A system with its name, a crash, no modules, no ranges of memory, and a stream of four bytes.
     "six.dmp": dump(6, 7, 56, 104, 3, 52, 196, 4, 4, 260, 6, 168, 264, 5, 4, 436, 12, 4, 440)
