@@ -155,6 +155,7 @@ class Calls:
             "mdmp_header": self.header,
             "mdmp_streams": lambda: fill(library.mdmp_streams_, _structures.Stream),
             "mdmp_verdicts": lambda: fill(library.mdmp_verdicts_, _structures.Fault, limits),
+            "mdmp_parts_outside": lambda: fill(library.mdmp_parts_outside_, _structures.Fault, limits),
             "mdmp_check": lambda: fill(library.mdmp_check_, c_uint8, limits),
             "mdmp_check_json": lambda: fill(library.mdmp_check_json_, c_uint8, limits),
             "mdmp_list": lambda: fill(library.mdmp_list_, c_uint8, limits, True),
@@ -191,7 +192,7 @@ def opened(path: str, is_strangers: bool, name: int) -> mdmp.Dump:
 
 def properties(dump: mdmp.Dump, address: int) -> dict[str, Callable[[], Any]]:
     """Each property and method of a dump."""
-    names = ["header", "streams", "verdicts", *TABLES, "memory", "summary"]
+    names = ["header", "streams", "verdicts", "parts_outside", *TABLES, "memory", "summary"]
     asked: dict[str, Callable[[], Any]] = {name: lambda name=name: getattr(dump, name) for name in names}  # type: ignore[misc]
     asked["memory.read"] = lambda: dump.memory.read(address, LENGTH).data
     asked["where, 1,000 times"] = lambda: [dump.where((1 << 64) - number) for number in range(1, 1001)]
