@@ -152,13 +152,20 @@ def messages() -> list[Message]:
     return [*made, *messages_of_code()]
 
 
+PIECES_OF_A_BAD_WORD = {"place_name place": "<place>", "shown word": "<word>", "expected_text place": "<words>"}
+
+
 def messages_of_code() -> list[Message]:
     """Those that no definition of a fault has: of names and of words."""
     code = (CRATES / "mdmp_tool/src/words.rt").read_text(encoding="utf-8")
-    name = int(found(r"print_error_named\(.+\);\n\s+(\d)\n", code, "line of a name in words.rt")[1])
+    name = int(found(r"(?s)fn refuse_name.+?\n    \};\n    (\d)\n", code, "line of a name in words.rt")[1])
     bad, status = found(r'print_error\(err, b"([\w ]+)"\);\n\s+(\d)\n', code, "line of bad words in words.rt").groups()
     names = re.findall(r'refuse_name\(b"([\w ]+)", \w+, err\)', code)
-    return [*[Message(f"{why}<name>", name) for why in dict.fromkeys(names)], Message(bad, int(status))]
+    told = (CRATES / "mdmp_tool/specs/BadWordText.antt").read_text(encoding="utf-8")
+    parts = found(r"bad_word_text place word =\n\s+concat \((.+)\n", told, "text of a bad word in BadWordText.antt")[1]
+    pieces = [re.sub('^codes "(.*)"$', r"\1", piece) for piece in parts.split(" ∷ ")]
+    word = "".join(PIECES_OF_A_BAD_WORD.get(piece, piece) for piece in pieces)
+    return [*[Message(f"{why}<name>", name) for why in dict.fromkeys(names)], Message(word, int(status)), Message(bad, int(status))]
 
 
 # ---- the table
@@ -289,7 +296,7 @@ def lines_text() -> str:
     for line in printed:
         of, says = table.lines[line.name]
         parts.append(f"### `{line.name}`\n\n{of}{heading(line)}\n\n{key_table(line.objects, says)}")
-    parts += [f"{PARTS.strip()}\n\n{key_table(part_object(), table.objects['part'])}", NAMES.strip("\n")]
+    parts += [f"{PARTS.strip()}\n\n{key_table(part_object(), table.objects['part'])}", NAMES.strip("\n"), IDS.strip("\n")]
     parts += [f"{FAULTS.strip()}\n\n{key_table(fault_object(), table.objects['fault'])}", ERRORS.strip("\n")]
     parts.append(block([message.form for message in told]))
     listed = ["| error line | status | meaning |", "|---|---|---|"]
@@ -300,7 +307,7 @@ def lines_text() -> str:
 INTRO = """
 # Printed lines
 
-This page has every line that the commands print, as text and as JSON.
+This page has every line that the commands print, as text and as JSON, except the lines of [summary](../format.md#a-summary).
 `docs/generate` makes it from the definitions in [crates/mdmp_print/specs](../../crates/mdmp_print/specs) and from [lines.toml](lines.toml).
 [format.md](../format.md) has the rules, and [cli.md](../cli.md) has the commands.
 
@@ -356,7 +363,8 @@ With `--json`, `list` and `check` print each line as one JSON object (RFC 8259) 
 The order of lines is that of the text. Error lines stay text.
 [line.schema.json](line.schema.json) is a JSON Schema (draft 2020-12) of each line, and [tests/schema](../../tests/schema) compares the program with it.
 
-- Keys come in the order of the tables, which is also that of the schema. Outside of strings there are no blanks.
+- Keys come in the order of the tables, which is also that of the schema. Only `debug_id` of a `pdb` of the kind `other` is the last key.
+  Outside of strings there are no blanks.
 - In a string, `\\` comes before `"` and `\\`. A character below U+0020 is `\\b`, `\\t`, `\\n`, `\\f` or `\\r`, else `\\u` and 4 digits of lower case.
   Every other character stands for itself.
 - A later version may print more keys, and more values of `line`. Ignore what you do not know. The schema is strict, and describes this version only.
@@ -384,6 +392,20 @@ NAMES = """
 The name of a PDB is a string: its bytes as UTF-8. U+FFFD is in the place of bytes that are not UTF-8.
 If they begin a character, one U+FFFD replaces as many of them as can begin one. Any other byte has one of its own.
 If U+FFFD replaced something, `"lossy":true` follows the string. Otherwise there is no `lossy`.
+"""
+
+IDS = """
+### Ids of modules
+
+Symbol servers find a module's file by its `code_id`, and its debug information by its `debug_id`. `%08X%x` is what C's `printf` makes of two numbers.
+
+| id | of | is |
+|---|---|---|
+| `code_id` of `module` | a PE file | `%08X%x` of TimeDateStamp and SizeOfImage, null if TimeDateStamp is 0 |
+| `debug_id` of `pdb` | a record that begins with `RSDS` | the 32 digits of the GUID and the age in hexadecimal, in upper case |
+| `build_id` of `pdb` | a record that begins with the bytes `4c 45 70 42`, of an ELF file | the bytes after these four, at most 20, in lower case. Breakpad's code id |
+| `debug_id` of `pdb` | such a record | as Breakpad makes it: the first 16 bytes of the build id, or zeros after a shorter one, as a GUID, and the age 0 |
+| `debug_id` of `pdb` | a record of PDB 2.0, which begins with `NB10` and has at least 16 bytes | `%08X%x` of its time and its age |
 """
 
 FAULTS = """

@@ -51,8 +51,10 @@ class Object:
 
 
 def either(one: Key, other: Key) -> Key:
-    """A member that is told in two ways: both are constants."""
-    values = [*one.schema.get("enum", [one.schema.get("const")]), other.schema.get("const")]
+    """A member that is told in two ways: both are constants, or texts of different digits."""
+    if "pattern" in one.schema and "pattern" in other.schema:
+        return replace(one, words=f"{one.words}, or {other.words}", schema={"anyOf": [one.schema, other.schema]})
+    values = list(dict.fromkeys([*one.schema.get("enum", [one.schema.get("const")]), other.schema.get("const")]))
     if None in values:
         raise Mistake(f"{one.name} has two types")
     return replace(one, words=", ".join(f"`{value}`" for value in values), schema={"enum": values})
@@ -91,7 +93,13 @@ def hexadecimal(digits: int) -> tuple[str, dict[str, Any]]:
 
 GUID = {"type": "string", "pattern": "^[0-9a-f]{8}-[0-9a-f]{4}-[0-9a-f]{4}-[0-9a-f]{4}-[0-9a-f]{12}$"}
 DEBUG_ID = {"type": "string", "pattern": "^[0-9A-F]{32}(0|[1-9A-F][0-9A-F]{0,7})$"}
+STAMP_ID = {"type": "string", "pattern": "^[0-9A-F]{8}(0|[1-9a-f][0-9a-f]{0,7})$"}
+BUILD_ID = {"type": "string", "pattern": "^([0-9a-f]{2}){0,20}$"}
+STREAM_NAME = {"type": "string", "pattern": "^[A-Z_a-z][0-9A-Z_a-z]*$"}
 SIGNATURE = {"type": "string", "pattern": "^[0-9a-f]{8}$"}
+STAMP_WORDS = "9 to 16 digits as of `%08X%x`"
+# What a text is that may be null, by the definition of it.
+TEXTS = {"pe_id_of": (STAMP_WORDS, STAMP_ID), "stream_name": ("name of a constant", STREAM_NAME)}
 # The definitions whose texts are some words, and the files that have them.
 WORDS = {"kind_words": "FaultWords.antt", "part_words": "PartLines.antt"}
 LOSSY = Key("lossy", "`true`", {"const": True}, is_required=False)
@@ -183,6 +191,9 @@ def keyed(scope: Scope, structure: Structure | None, member: tuple[Any, ...]) ->
         schema = {"oneOf": [{"type": "null"}, {"type": "string"}, long]}
         source = structure.fields["name"].doc.split("`")[1] if structure else ""
         return named("[name](#names)", schema, source, name)
+    if first == "text_or_null":
+        of, schema = TEXTS[tokens[2][1]]
+        return [Key(name, f"{of}, or null", {"oneOf": [{"type": "null"}, schema]})]
     if first == "bytes_value":
         return named("[bytes](#names)", {"type": "string"}, "", name)
     if first == "boolean":
@@ -202,6 +213,9 @@ def told(scope: Scope, structure: Structure | None, member: tuple[Any, ...]) -> 
     head = member[1]
     if head == "part_members":
         return part_forms(scope, member)
+    if head == "other_ids":
+        clauses = definitions(SPECS / "JsonLines.antt")["other_ids"].clauses
+        return [form for clause in clauses for form in object_of(scope, structure, clause.expression).variants]
     name = text_of(member[2])
     if head == "line_of":
         return [[Key("line", *constant(name))]]
@@ -234,6 +248,12 @@ def of_text(scope: Scope, name: str, expression: Expression) -> Key:
         return Key(name, "GUID, digits of lower case", GUID)
     if head == "debug_id":
         return Key(name, "33 to 40 digits of upper case", DEBUG_ID)
+    if head == "build_debug_id":
+        return Key(name, "33 digits of upper case", DEBUG_ID)
+    if head == "stamp_id":
+        return Key(name, STAMP_WORDS, STAMP_ID)
+    if head == "build_id_text":
+        return Key(name, "at most 40 hexadecimal digits", BUILD_ID)
     if head == "digits_text":
         return Key(name, "8 hexadecimal digits", SIGNATURE)
     if head in WORDS:

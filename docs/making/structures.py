@@ -125,7 +125,7 @@ def kinds(layouts: dict[str, Layout]) -> list[Kind]:
         head = None if cost.isdigit() else layouts[cost.removesuffix("_size")]
         record = layouts[fields["record_size"].removesuffix("_size")]
         size = head.size if head else int(cost)
-        is_named, is_memory = fields["has_names"] == "true", fields["lists_ranges"] == "true"
+        is_named, is_memory = fields["name"] != "None", fields["lists_ranges"] == "true"
         made.append(Kind(number, names[number], record, head, size, is_named, is_memory))
     return made
 
