@@ -1,6 +1,6 @@
 //! A visitor of all items, and what is read outside the listing.
 use crate::files::{LINUX, crash_file};
-use crate::same::assert_same_at;
+use crate::same::{assert_same, assert_same_at};
 use mdmp_lister::{Choice, Item, Limits, Stopped, Walker};
 use mdmp_source::{Location, MemoryStore, PatchyStore, Source, Store};
 use mdmp_summary::{
@@ -99,23 +99,20 @@ fn store_that_fails_at_a_call_ends_the_visit(rt: HostRuntime) {
     assert_same_at(&rt, &"calls", calls, 6);
 }
 
-/// The CodeView record at a location of a store, read with room for four bytes of a name, and these.
+/// The CodeView record at a location of a store, the end of which is read into `name`.
 fn symbols_over<S: Store + Drop>(
     rt: &impl Abort,
     alloc: Global,
     store: S,
     at: Location,
-) -> Option<(Option<SymbolsRead>, [u8; 4])> {
+    name: &mut [u8],
+) -> Option<Option<SymbolsRead>> {
     let source = Source::new(store);
     let walker = Walker::open(alloc, source, Limits::default(), Choice::All);
     let Ok(mut walker) = walker else {
         panic!(rt; "a walker");
     };
-    let mut name = [0; 4];
-    match read_symbols(&mut walker, at, &mut name) {
-        Ok(read) => Some((read, name)),
-        Err(_) => None,
-    }
+    read_symbols(&mut walker, at, name).ok()
 }
 
 const RECORD: Location = Location { size: 30, rva: 156 };
@@ -123,19 +120,22 @@ const RECORD: Location = Location { size: 30, rva: 156 };
 #[test]
 fn symbols_are_read_up_to_the_room(rt: HostRuntime) {
     let file = module_file(rt.alloc(), 30, CODEVIEW_RECORD).expect(&rt, "a file");
-    let told = symbols_over(&rt, rt.alloc(), MemoryStore::new(&file), RECORD);
-    let Some((Some(read), name)) = told else {
+    let mut name = [0; 4];
+    let told = symbols_over(&rt, rt.alloc(), MemoryStore::new(&file), RECORD, &mut name);
+    let Some(Some(read)) = &told else {
         panic!(rt; "a record");
     };
     assert_same_at(&rt, &"read", (read.rest, read.size), (4, 30));
-    assert_eq!(rt; &read.head[..], &CODEVIEW_RECORD[..24], "head");
-    assert_eq!(rt; &name[..], &CODEVIEW_RECORD[24..28], "name");
+    let record = CODEVIEW_RECORD;
+    let head = read.head;
+    assert_same(&rt, &head[..], &record[..24]);
+    assert_same(&rt, &name[..], &record[24..28]);
     let outside = Location {
         size: 300,
         rva: 156,
     };
-    let told = symbols_over(&rt, rt.alloc(), MemoryStore::new(&file), outside);
-    assert_same_at(&rt, &"outside", matches!(&told, Some((None, _))), true);
+    let told = symbols_over(&rt, rt.alloc(), MemoryStore::new(&file), outside, &mut name);
+    assert_same_at(&rt, &"outside", matches!(&told, Some(None)), true);
 }
 
 #[test]
@@ -144,9 +144,14 @@ fn store_that_fails_at_a_call_gives_no_symbols(rt: HostRuntime) {
     // The header and the directory are read before: two calls.
     for (call, is_read) in [(2, false), (3, false), (4, true)] {
         let store = PatchyStore::new(&file, &[1 << 20], Some(call));
-        let told = symbols_over(&rt, rt.alloc(), store, RECORD);
+        let told = symbols_over(&rt, rt.alloc(), store, RECORD, &mut [0; 4]);
         assert_same_at(&rt, &call, told.is_some(), is_read);
     }
+}
+
+/// The system of the crash file.
+fn system_in(rt: &impl Abort, file: &[u8]) -> SystemRecord {
+    SystemRecord::read(file.get(540..596).expect(rt, "a system"))
 }
 
 /// The registers in the context of the crash file, read as those of a system of this architecture.
@@ -171,7 +176,7 @@ fn registers_over<S: Store + Drop>(
 #[test]
 fn registers_are_read_by_the_system(rt: HostRuntime) {
     let file = crash_file(&rt, rt.alloc(), LINUX);
-    let system = SystemRecord::read(&file[540..596]);
+    let system = system_in(&rt, &file);
     let told = registers_over(&rt, rt.alloc(), MemoryStore::new(&file), Some(system));
     let Some(Some(registers)) = told else {
         panic!(rt; "registers");
@@ -184,7 +189,7 @@ fn registers_are_read_by_the_system(rt: HostRuntime) {
 #[test]
 fn store_that_fails_at_a_call_gives_no_registers(rt: HostRuntime) {
     let file = crash_file(&rt, rt.alloc(), LINUX);
-    let system = SystemRecord::read(&file[540..596]);
+    let system = system_in(&rt, &file);
     // The header and the directory are read before: two calls.
     for (call, is_read) in [(2, false), (3, true)] {
         let store = PatchyStore::new(&file, &[1 << 20], Some(call));
