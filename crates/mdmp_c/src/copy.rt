@@ -5,6 +5,7 @@ ghost use Rattle.mdmp_c.specs.Limits.{AreLimits};
 
 use crate::fault::{PlainFault, of_kind};
 use crate::giving::{give_or_want, refuse};
+use crate::kinds;
 use crate::limits::{PlainLimits, limits_of};
 use crate::tool_fault::copy_answer;
 use mdmp_engines::run_copy;
@@ -29,10 +30,10 @@ pub extern "C" fn mdmp_copy_(
     ensures types { AreLimits limits.now → (AreTypes types.now → ⊥) → Fails bad_types result size.new fault.new out.old out.new }
 {
     let Some(limits) = limits_of(limits) else {
-        return refuse(of_kind(67), size, fault);
+        return refuse(of_kind(kinds::BAD_LIMITS), size, fault);
     };
     let Some(types) = TypeSet::new(types) else {
-        return refuse(of_kind(68), size, fault);
+        return refuse(of_kind(kinds::BAD_TYPES), size, fault);
     };
     let mut bytes = WriteOut::new(Vec::new(alloc));
     let answer = run_copy(alloc, MemoryStore::new(file), limits, types, &mut bytes);

@@ -2,6 +2,7 @@
 ghost use Rattle.std.specs.Prelude.{◌≡◌};
 ghost use Rattle.mdmp_c.specs.Fault.{budget_fault, kind_number, plain_list_fault, of_kind, open_fault, status_of, wide_fault};
 
+use crate::kinds;
 use mdmp_lister::{FaultKind, ListFault, OpenFault};
 use std::mem::size_of;
 
@@ -58,7 +59,7 @@ pub(crate) fn budget_fault(offset: u64, size: u64) -> PlainFault
     PlainFault {
         offset,
         size,
-        ..of_kind(71)
+        ..of_kind(kinds::BUDGET)
     }
 }
 
@@ -78,22 +79,25 @@ pub(crate) fn open_fault(fault: OpenFault) -> PlainFault
     ensures { result ≡ open_fault fault }
 {
     match fault {
-        OpenFault::TooShort { size } => PlainFault { size, ..of_kind(1) },
-        OpenFault::BadSignature => of_kind(2),
+        OpenFault::TooShort { size } => PlainFault {
+            size,
+            ..of_kind(kinds::FILE_TOO_SHORT)
+        },
+        OpenFault::BadSignature => of_kind(kinds::BAD_SIGNATURE),
         OpenFault::BadVersion { low } => PlainFault {
             size: u64::from(low),
-            ..of_kind(3)
+            ..of_kind(kinds::BAD_VERSION)
         },
         OpenFault::DirectoryOutside { offset, size } => PlainFault {
             offset,
             size,
-            ..of_kind(4)
+            ..of_kind(kinds::DIRECTORY_OUTSIDE)
         },
-        OpenFault::TooManyRanges { count } => wide_fault(5, count),
-        OpenFault::Memory => of_kind(66),
-        OpenFault::Source(_) => of_kind(69),
+        OpenFault::TooManyRanges { count } => wide_fault(kinds::TOO_MANY_RANGES, count),
+        OpenFault::Memory => of_kind(kinds::NO_MEMORY),
+        OpenFault::Source(_) => of_kind(kinds::STORE),
         OpenFault::Budget { offset, size } => budget_fault(offset, size),
-        OpenFault::MemoryLimit { held } => wide_fault(72, held),
+        OpenFault::MemoryLimit { held } => wide_fault(kinds::MEMORY_LIMIT, held),
     }
 }
 
@@ -102,16 +106,16 @@ fn kind_of(kind: FaultKind) -> u32
     ensures { result ≡ kind_number kind }
 {
     match kind {
-        FaultKind::StreamOutside => 16,
-        FaultKind::ShortStream => 17,
-        FaultKind::BadHeaderSize => 18,
-        FaultKind::BadEntrySize => 19,
-        FaultKind::BadCount => 20,
-        FaultKind::NameLengthOutside => 21,
-        FaultKind::NameOdd => 22,
-        FaultKind::NameUnitsOutside => 23,
-        FaultKind::Source(_) => 69,
-        FaultKind::Budget => 71,
+        FaultKind::StreamOutside => kinds::STREAM_OUTSIDE,
+        FaultKind::ShortStream => kinds::SHORT_STREAM,
+        FaultKind::BadHeaderSize => kinds::BAD_HEADER_SIZE,
+        FaultKind::BadEntrySize => kinds::BAD_ENTRY_SIZE,
+        FaultKind::BadCount => kinds::BAD_COUNT,
+        FaultKind::NameLengthOutside => kinds::NAME_LENGTH_OUTSIDE,
+        FaultKind::NameOdd => kinds::NAME_ODD,
+        FaultKind::NameUnitsOutside => kinds::NAME_OUTSIDE,
+        FaultKind::Source(_) => kinds::STORE,
+        FaultKind::Budget => kinds::BUDGET,
     }
 }
 
@@ -142,9 +146,9 @@ pub(crate) fn status_of(fault: &PlainFault) -> u32
 {
     match fault.kind {
         0 => 0,
-        65 | 67 | 68 | 70 => 2,
-        66 | 69 => 3,
-        71 | 72 | 73 | 74 => 5,
+        kinds::NOT_COPIED | kinds::BAD_LIMITS | kinds::BAD_TYPES | kinds::LENGTHS_DIFFER => 2,
+        kinds::NO_MEMORY | kinds::STORE => 3,
+        kinds::BUDGET | kinds::MEMORY_LIMIT | kinds::ASIDE_LIMIT | kinds::COPY_BUDGET => 5,
         _ => 1,
     }
 }

@@ -4,12 +4,10 @@ ghost use Rattle.mdmp_c.specs.Fault.{status_of};
 ghost use Rattle.mdmp_c.specs.Giving.{GivesList, GivesOrWants, put_front};
 
 use crate::fault::{PlainFault, of_kind, status_of};
+use crate::kinds;
 
 /// The status of a call whose buffer was too short.
 pub(crate) const TOO_SHORT: u32 = 4;
-
-/// The kind of fault that is want of memory.
-pub(crate) const NO_MEMORY: u32 = 66;
 
 /// Puts a text at the front of a buffer, as much as it holds.
 pub(crate) fn copy_text(text: &[u8], out: &mut [u8])
@@ -61,8 +59,8 @@ pub(crate) fn give_or_want(
 ) -> u32
     ensures { GivesOrWants told text.now result size.new fault.new out.old out.new }
 {
-    if told.kind == NO_MEMORY {
-        return refuse(of_kind(NO_MEMORY), size, fault);
+    if told.kind == kinds::NO_MEMORY {
+        return refuse(of_kind(kinds::NO_MEMORY), size, fault);
     }
     give(told, text, out, size, fault)
 }

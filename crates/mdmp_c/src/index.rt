@@ -7,6 +7,7 @@ ghost use Rattle.mdmp_c.specs.Index.{GivesIndex, IsOwner, ReadsIndexed, image_ra
 use crate::addressing::kept_range;
 use crate::fault::{NO_FAULT, PlainFault, of_kind};
 use crate::giving::{TOO_SHORT, refuse};
+use crate::kinds;
 use crate::rows::{ModuleRow, RangeRow};
 use mdmp_index::{IndexSlot, Ranges, index, read, slot_at};
 use mdmp_map::Range;
@@ -137,7 +138,7 @@ pub extern "C" fn mdmp_read_index_(
 {
     let mut none = 0;
     if out.len() != known.len() {
-        return refuse(of_kind(70), &mut none, fault);
+        return refuse(of_kind(kinds::LENGTHS_DIFFER), &mut none, fault);
     }
     read(file, slots, address, out, known);
     *fault = NO_FAULT;

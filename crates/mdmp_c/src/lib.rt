@@ -25,6 +25,7 @@ mod giving;
 mod header_rows;
 mod ids;
 mod index;
+mod kinds;
 mod limits;
 mod list_part;
 mod memory;

@@ -14,6 +14,7 @@ ghost use Rattle.mdmp_print.specs.declared.form.LineForm.TheVariants.{Text};
 
 use crate::fault::{PlainFault, of_kind, open_fault};
 use crate::giving::refuse;
+use crate::kinds;
 use crate::limits::{PlainLimits, limits_of};
 use crate::text_part::TextPart;
 use crate::tool_fault::list_answer;
@@ -68,7 +69,7 @@ pub(crate) fn give_list(
     ensures { Ends (IsListPart form pdb skip file.now limits.now.name) (AreLimits limits.now) (KeepsMemory limits.now file.now All) (EndsText limits.now file.now pdb) bad_limits result size.new fault.new out.old out.new }
 {
     let Some(limits) = limits_of(limits) else {
-        return refuse(of_kind(67), size, fault);
+        return refuse(of_kind(kinds::BAD_LIMITS), size, fault);
     };
     let source = Source::new(MemoryStore::new(file));
     let mut lister = match Lister::open(alloc, source, limits, Choice::All) {

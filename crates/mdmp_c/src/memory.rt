@@ -5,6 +5,7 @@ ghost use Rattle.mdmp_c.specs.Memory.{ReadsKept, ReadsMemory};
 use crate::addressing::read_by;
 use crate::fault::{NO_FAULT, PlainFault, of_kind, open_fault, plain_list_fault, status_of};
 use crate::giving::refuse;
+use crate::kinds;
 use crate::limits::{PlainLimits, limits_of};
 use crate::ranging::list_ranges;
 use crate::rows::RangeRow;
@@ -43,10 +44,10 @@ fn read_memory(
     ensures { ReadsMemory file.now limits.now address (status_of result) result out.old out.new known.old known.new }
 {
     if out.len() != known.len() {
-        return of_kind(70);
+        return of_kind(kinds::LENGTHS_DIFFER);
     }
     let Some(limits) = limits_of(limits) else {
-        return of_kind(67);
+        return of_kind(kinds::BAD_LIMITS);
     };
     let source = Source::new(MemoryStore::new(file));
     let mut lister = match Lister::open(alloc, source, limits, Choice::memory_lists()) {
@@ -60,7 +61,7 @@ fn read_memory(
     match lister.read_address(address, out, known) {
         Ok(()) => NO_FAULT,
         // The store is memory, which does not fail.
-        Err(_) => of_kind(69),
+        Err(_) => of_kind(kinds::STORE),
     }
 }
 
@@ -79,7 +80,7 @@ pub extern "C" fn mdmp_read_(
 {
     let mut none = 0;
     if out.len() != known.len() {
-        return refuse(of_kind(70), &mut none, fault);
+        return refuse(of_kind(kinds::LENGTHS_DIFFER), &mut none, fault);
     }
     read_by(file, ranges, address, out, known);
     *fault = NO_FAULT;

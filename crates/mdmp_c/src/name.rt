@@ -3,7 +3,8 @@ ghost use Rattle.mdmp_c.specs.Giving.{Ends, bad_limits};
 ghost use Rattle.mdmp_c.specs.Names.{IsToldName};
 
 use crate::fault::{NO_FAULT, PlainFault, of_kind};
-use crate::giving::{NO_MEMORY, give, refuse};
+use crate::giving::{give, refuse};
+use crate::kinds;
 use crate::naming::{long_fault, name_fault};
 use mdmp_lister::{Name, name_at};
 use std::alloc::Global;
@@ -26,7 +27,7 @@ pub extern "C" fn mdmp_name_(
         Ok(Name::None) => give(NO_FAULT, &[], out, size, fault),
         Ok(Name::Units(units)) => match units.to_utf8(alloc) {
             Ok(text) => give(NO_FAULT, text.as_bytes(), out, size, fault),
-            Err(_) => refuse(of_kind(NO_MEMORY), size, fault),
+            Err(_) => refuse(of_kind(kinds::NO_MEMORY), size, fault),
         },
         Ok(Name::Long(length)) => give(long_fault(length), &[], out, size, fault),
         Err(found) => give(name_fault(found), &[], out, size, fault),

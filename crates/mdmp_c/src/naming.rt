@@ -3,6 +3,7 @@ ghost use Rattle.std.specs.Prelude.{◌≡◌};
 ghost use Rattle.mdmp_c.specs.Names.{long_fault, name_fault};
 
 use crate::fault::{PlainFault, of_kind, plain_list_fault};
+use crate::kinds;
 use mdmp_lister::{Fault, ListFault};
 
 /// A name has more bytes than the limit.
@@ -11,7 +12,7 @@ pub(crate) fn long_fault(length: u32) -> PlainFault
 {
     PlainFault {
         size: u64::from(length),
-        ..of_kind(33)
+        ..of_kind(kinds::NAME_TOO_LONG)
     }
 }
 

@@ -7,6 +7,7 @@ ghost use Rattle.mdmp_lister.specs.Memory.{walk_fault};
 ghost use Rattle.mdmp_summary.specs.Summary.{file_summary};
 
 use crate::fault::{NO_FAULT, PlainFault, of_kind, open_fault, plain_list_fault, status_of};
+use crate::kinds;
 use crate::limits::{PlainLimits, limits_of};
 use crate::summary_rows::{SummaryRow, summary_row};
 use mdmp_lister::{Choice, Limits, Walker};
@@ -27,7 +28,7 @@ pub extern "C" fn mdmp_summary_(
     ensures { EndsSummary file.now limits.now result fault.new out.old out.new }
 {
     let Some(given) = limits_of(limits) else {
-        *fault = of_kind(67);
+        *fault = of_kind(kinds::BAD_LIMITS);
         return status_of(fault);
     };
     match sum_up(alloc, file, limits, given) {
@@ -77,6 +78,6 @@ fn summary_fault(fault: SummaryFault) -> PlainFault
     match fault {
         SummaryFault::Opening(fault) => open_fault(fault),
         SummaryFault::List(fault) => plain_list_fault(fault),
-        SummaryFault::Source(_) => of_kind(69),
+        SummaryFault::Source(_) => of_kind(kinds::STORE),
     }
 }

@@ -5,6 +5,7 @@ ghost use Rattle.mdmp_c.specs.SummaryRows.{access_told, address_reached, counts_
 
 use crate::fault::{NO_FAULT, PlainFault, of_kind};
 use crate::header_rows::{HeaderRow, header_row};
+use crate::kinds;
 use crate::parts::{NamePlace, PartPlace};
 use crate::rows::{ExceptionRow, exception_fields};
 use crate::summary_modules::{
@@ -228,7 +229,7 @@ pub(crate) fn outside_fault(part: PartOutside) -> PlainFault
         high: (part.offset / (1 << 64)) as u64,
         part: part_kind_number(part.part),
         has_index: 1,
-        ..of_kind(32)
+        ..of_kind(kinds::PART_OUTSIDE)
     }
 }
 

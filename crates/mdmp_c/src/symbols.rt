@@ -5,6 +5,7 @@ ghost use Rattle.mdmp_c.specs.Limits.{AreLimits};
 ghost use Rattle.mdmp_c.specs.Symbols.{GivesSymbols, IsPlaceInside, RefusesLimits, RefusesPlace, place_location, symbols_row};
 
 use crate::fault::{NO_FAULT, PlainFault, of_kind, status_of};
+use crate::kinds;
 use crate::limits::{PlainLimits, limits_of};
 use crate::parts::PartPlace;
 use mdmp_source::inside;
@@ -62,7 +63,7 @@ pub extern "C" fn mdmp_symbols_(
 {
     let Some(limits) = limits_of(limits) else {
         *out = NO_SYMBOLS;
-        *fault = of_kind(67);
+        *fault = of_kind(kinds::BAD_LIMITS);
         return status_of(fault);
     };
     let at = u64::from(place.rva);
@@ -73,7 +74,7 @@ pub extern "C" fn mdmp_symbols_(
             offset: at,
             size,
             part: 3,
-            ..of_kind(32)
+            ..of_kind(kinds::PART_OUTSIDE)
         };
         return 1;
     }

@@ -9,6 +9,7 @@ ghost use Rattle.mdmp_lister.specs.declared.choice.Choice.TheVariants.{Types};
 use crate::collecting::collect;
 use crate::fault::{NO_FAULT, PlainFault, of_kind, open_fault, plain_list_fault, status_of};
 use crate::giving::{TOO_SHORT, refuse};
+use crate::kinds;
 use crate::limits::{PlainLimits, limits_of};
 use crate::rows::PlainRow;
 use mdmp_lister::{Choice, ListFault, Lister, TypeSet};
@@ -39,7 +40,7 @@ pub(crate) fn give_rows<T: PlainRow>(
     ensures { Ends (IsTable T.row_of file.now choice limits.now.name) (AreLimits limits.now) (KeepsMemory limits.now file.now choice) (EndsListing limits.now file.now choice) bad_limits result count.new fault.new out.old out.new }
 {
     let Some(limits) = limits_of(limits) else {
-        return refuse(of_kind(67), count, fault);
+        return refuse(of_kind(kinds::BAD_LIMITS), count, fault);
     };
     let source = Source::new(MemoryStore::new(file));
     let mut lister = match Lister::open(alloc, source, limits, choice) {

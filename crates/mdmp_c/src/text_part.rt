@@ -5,7 +5,8 @@ ghost use Rattle.mdmp_c.specs.Giving.{Fails, GivesOrWants, told_count};
 ghost use Rattle.mdmp_c.specs.TextPart.{IsPartOf};
 
 use crate::fault::{PlainFault, of_kind};
-use crate::giving::{NO_MEMORY, copy_text, refuse};
+use crate::giving::{copy_text, refuse};
+use crate::kinds;
 use crate::table::tell;
 use std::alloc::{AllocError, Global};
 
@@ -62,8 +63,8 @@ impl TextPart {
             → GivesOrWants told part result size.new fault.new out.old out.new }
         ensures wants { told ≡ no_memory → Fails no_memory result size.new fault.new out.old out.new }
     {
-        if told.kind == NO_MEMORY {
-            return refuse(of_kind(NO_MEMORY), size, fault);
+        if told.kind == kinds::NO_MEMORY {
+            return refuse(of_kind(kinds::NO_MEMORY), size, fault);
         }
         copy_text(&self.kept, out);
         tell(self.size, told, out.len(), size, fault)

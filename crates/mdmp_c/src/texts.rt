@@ -7,6 +7,7 @@ ghost use Rattle.mdmp_print.specs.declared.form.LineForm.TheVariants.{Json, Text
 
 use crate::fault::{PlainFault, of_kind};
 use crate::giving::{give_or_want, refuse};
+use crate::kinds;
 use crate::limits::{PlainLimits, limits_of};
 use crate::list_part::give_list;
 use crate::tool_fault::check_answer;
@@ -91,7 +92,7 @@ fn check_in(
     ensures { Ends (IsCheck form file.now limits.now.name) (AreLimits limits.now) (KeepsMemory limits.now file.now All) (EndsChecking limits.now file.now) bad_limits result size.new fault.new out.old out.new }
 {
     let Some(limits) = limits_of(limits) else {
-        return refuse(of_kind(67), size, fault);
+        return refuse(of_kind(kinds::BAD_LIMITS), size, fault);
     };
     let source = Source::new(MemoryStore::new(file));
     let mut text = WriteOut::new(Vec::new(alloc));

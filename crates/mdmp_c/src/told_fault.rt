@@ -3,6 +3,7 @@ ghost use Rattle.std.specs.Prelude.{◌≡◌, ◌+◌, ◌*◌, ◌^◌};
 ghost use Rattle.mdmp_c.specs.FaultText.{fault_in, kind_by_number, opening_in, part_by_number, reading_in, rest_in};
 
 use crate::fault::PlainFault;
+use crate::kinds;
 use mdmp_dump::{PartName, ReadFault};
 use mdmp_engines::ToolFault;
 use mdmp_lister::{FaultKind, ListFault, OpenFault};
@@ -20,16 +21,16 @@ fn opening_in(fault: &PlainFault) -> Option<OpenFault>
     ensures { result ≡ opening_in fault.now }
 {
     match fault.kind {
-        1 => Some(OpenFault::TooShort { size: fault.size }),
-        2 => Some(OpenFault::BadSignature),
-        3 => Some(OpenFault::BadVersion {
+        kinds::FILE_TOO_SHORT => Some(OpenFault::TooShort { size: fault.size }),
+        kinds::BAD_SIGNATURE => Some(OpenFault::BadSignature),
+        kinds::BAD_VERSION => Some(OpenFault::BadVersion {
             low: (fault.size % (1 << 16)) as u16,
         }),
-        4 => Some(OpenFault::DirectoryOutside {
+        kinds::DIRECTORY_OUTSIDE => Some(OpenFault::DirectoryOutside {
             offset: fault.offset,
             size: fault.size,
         }),
-        5 => Some(OpenFault::TooManyRanges {
+        kinds::TOO_MANY_RANGES => Some(OpenFault::TooManyRanges {
             count: whole(fault.high, fault.size),
         }),
         _ => None,
@@ -41,14 +42,14 @@ fn kind_by_number(kind: u32) -> Option<FaultKind>
     ensures { result ≡ kind_by_number kind }
 {
     match kind {
-        16 => Some(FaultKind::StreamOutside),
-        17 => Some(FaultKind::ShortStream),
-        18 => Some(FaultKind::BadHeaderSize),
-        19 => Some(FaultKind::BadEntrySize),
-        20 => Some(FaultKind::BadCount),
-        21 => Some(FaultKind::NameLengthOutside),
-        22 => Some(FaultKind::NameOdd),
-        23 => Some(FaultKind::NameUnitsOutside),
+        kinds::STREAM_OUTSIDE => Some(FaultKind::StreamOutside),
+        kinds::SHORT_STREAM => Some(FaultKind::ShortStream),
+        kinds::BAD_HEADER_SIZE => Some(FaultKind::BadHeaderSize),
+        kinds::BAD_ENTRY_SIZE => Some(FaultKind::BadEntrySize),
+        kinds::BAD_COUNT => Some(FaultKind::BadCount),
+        kinds::NAME_LENGTH_OUTSIDE => Some(FaultKind::NameLengthOutside),
+        kinds::NAME_ODD => Some(FaultKind::NameOdd),
+        kinds::NAME_OUTSIDE => Some(FaultKind::NameUnitsOutside),
         _ => None,
     }
 }
@@ -58,11 +59,11 @@ fn part_by_number(part: u32) -> Option<PartName>
     ensures { result ≡ part_by_number part }
 {
     match part {
-        1 => Some(PartName::Stack),
-        2 => Some(PartName::Context),
-        3 => Some(PartName::CodeView),
-        4 => Some(PartName::Misc),
-        5 => Some(PartName::Memory),
+        kinds::PART_STACK => Some(PartName::Stack),
+        kinds::PART_CONTEXT => Some(PartName::Context),
+        kinds::PART_CODEVIEW => Some(PartName::CodeView),
+        kinds::PART_MISC => Some(PartName::Misc),
+        kinds::PART_MEMORY => Some(PartName::Memory),
         _ => None,
     }
 }
@@ -72,7 +73,7 @@ fn reading_in(fault: &PlainFault) -> Option<ReadFault>
     ensures { result ≡ reading_in fault.now }
 {
     match fault.kind {
-        32 => match part_by_number(fault.part) {
+        kinds::PART_OUTSIDE => match part_by_number(fault.part) {
             Some(part) => Some(ReadFault::PartOutside {
                 entry: fault.entry,
                 index: fault.index,
@@ -82,7 +83,7 @@ fn reading_in(fault: &PlainFault) -> Option<ReadFault>
             }),
             None => None,
         },
-        33 => Some(ReadFault::NameTooLong {
+        kinds::NAME_TOO_LONG => Some(ReadFault::NameTooLong {
             entry: fault.entry,
             index: fault.index,
             length: (fault.size % (1 << 32)) as u32,
@@ -96,22 +97,24 @@ fn rest_in(fault: &PlainFault) -> Option<ToolFault>
     ensures { result ≡ rest_in fault.now }
 {
     match fault.kind {
-        48 => Some(ToolFault::Layout(LayoutFault::RawKnownType { stream: fault.size })),
-        49 => Some(ToolFault::Layout(LayoutFault::TooLarge)),
-        65 => Some(ToolFault::NotCopied((fault.size % (1 << 32)) as u32)),
-        66 => Some(ToolFault::Memory),
-        71 => Some(ToolFault::Budget {
+        kinds::RAW_KNOWN_TYPE => Some(ToolFault::Layout(LayoutFault::RawKnownType {
+            stream: fault.size,
+        })),
+        kinds::COPY_TOO_LARGE => Some(ToolFault::Layout(LayoutFault::TooLarge)),
+        kinds::NOT_COPIED => Some(ToolFault::NotCopied((fault.size % (1 << 32)) as u32)),
+        kinds::NO_MEMORY => Some(ToolFault::Memory),
+        kinds::BUDGET => Some(ToolFault::Budget {
             offset: fault.offset,
             size: fault.size,
         }),
-        72 => Some(ToolFault::MemoryLimit {
+        kinds::MEMORY_LIMIT => Some(ToolFault::MemoryLimit {
             held: whole(fault.high, fault.size),
         }),
-        73 => Some(ToolFault::AsideLimit {
+        kinds::ASIDE_LIMIT => Some(ToolFault::AsideLimit {
             offset: fault.offset,
             size: fault.size,
         }),
-        74 => Some(ToolFault::CopyBudget {
+        kinds::COPY_BUDGET => Some(ToolFault::CopyBudget {
             needed: whole(fault.high, fault.size),
         }),
         _ => None,

@@ -5,6 +5,7 @@ ghost use Rattle.mdmp_c.specs.ToolFault.{check_answer, copy_answer, list_answer,
 use crate::fault::{
     NO_FAULT, PlainFault, budget_fault, of_kind, open_fault, plain_list_fault, wide_fault,
 };
+use crate::kinds;
 use mdmp_dump::{PartName, ReadFault};
 use mdmp_engines::ToolFault;
 use mdmp_writer::LayoutFault;
@@ -14,11 +15,11 @@ fn part_of(part: PartName) -> u32
     ensures { result ≡ part_number part }
 {
     match part {
-        PartName::Stack => 1,
-        PartName::Context => 2,
-        PartName::CodeView => 3,
-        PartName::Misc => 4,
-        PartName::Memory => 5,
+        PartName::Stack => kinds::PART_STACK,
+        PartName::Context => kinds::PART_CONTEXT,
+        PartName::CodeView => kinds::PART_CODEVIEW,
+        PartName::Misc => kinds::PART_MISC,
+        PartName::Memory => kinds::PART_MEMORY,
     }
 }
 
@@ -36,7 +37,7 @@ pub(crate) fn read_fault(fault: ReadFault) -> PlainFault
             offset,
             size,
         } => PlainFault {
-            kind: 32,
+            kind: kinds::PART_OUTSIDE,
             entry,
             index,
             offset: (offset % (1 << 64)) as u64,
@@ -51,7 +52,7 @@ pub(crate) fn read_fault(fault: ReadFault) -> PlainFault
             index,
             length,
         } => PlainFault {
-            kind: 33,
+            kind: kinds::NAME_TOO_LONG,
             entry,
             index,
             offset: 0,
@@ -61,9 +62,9 @@ pub(crate) fn read_fault(fault: ReadFault) -> PlainFault
             has_index: 1,
             reserved: [0; 4],
         },
-        ReadFault::PartsTooLarge { .. } => of_kind(49),
-        ReadFault::Memory => of_kind(66),
-        ReadFault::Source(_) => of_kind(69),
+        ReadFault::PartsTooLarge { .. } => of_kind(kinds::COPY_TOO_LARGE),
+        ReadFault::Memory => of_kind(kinds::NO_MEMORY),
+        ReadFault::Source(_) => of_kind(kinds::STORE),
     }
 }
 
@@ -78,23 +79,23 @@ pub(crate) fn tool_fault(fault: ToolFault) -> PlainFault
         ToolFault::Reading(fault) => read_fault(fault),
         ToolFault::Layout(LayoutFault::RawKnownType { stream }) => PlainFault {
             size: stream,
-            ..of_kind(48)
+            ..of_kind(kinds::RAW_KNOWN_TYPE)
         },
-        ToolFault::Layout(LayoutFault::TooLarge) => of_kind(49),
+        ToolFault::Layout(LayoutFault::TooLarge) => of_kind(kinds::COPY_TOO_LARGE),
         ToolFault::NotCopied(stream_type) => PlainFault {
             size: u64::from(stream_type),
-            ..of_kind(65)
+            ..of_kind(kinds::NOT_COPIED)
         },
-        ToolFault::Out | ToolFault::Memory => of_kind(66),
-        ToolFault::Source(_) => of_kind(69),
+        ToolFault::Out | ToolFault::Memory => of_kind(kinds::NO_MEMORY),
+        ToolFault::Source(_) => of_kind(kinds::STORE),
         ToolFault::Budget { offset, size } => budget_fault(offset, size),
-        ToolFault::MemoryLimit { held } => wide_fault(72, held),
+        ToolFault::MemoryLimit { held } => wide_fault(kinds::MEMORY_LIMIT, held),
         ToolFault::AsideLimit { offset, size } => PlainFault {
             offset,
             size,
-            ..of_kind(73)
+            ..of_kind(kinds::ASIDE_LIMIT)
         },
-        ToolFault::CopyBudget { needed } => wide_fault(74, needed),
+        ToolFault::CopyBudget { needed } => wide_fault(kinds::COPY_BUDGET, needed),
     }
 }
 
@@ -106,7 +107,7 @@ pub(crate) fn check_answer(answer: Result<u64, ToolFault>) -> PlainFault
         Ok(0) => NO_FAULT,
         Ok(bad) => PlainFault {
             size: bad,
-            ..of_kind(64)
+            ..of_kind(kinds::BAD_ENTRIES)
         },
         Err(fault) => tool_fault(fault),
     }

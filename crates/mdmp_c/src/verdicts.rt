@@ -7,6 +7,7 @@ ghost use Rattle.mdmp_lister.specs.declared.choice.Choice.TheVariants.{All};
 
 use crate::fault::{PlainFault, of_kind, open_fault, plain_list_fault};
 use crate::giving::refuse;
+use crate::kinds;
 use crate::limits::{PlainLimits, limits_of};
 use crate::table::tell;
 use crate::tool_fault::check_answer;
@@ -31,7 +32,7 @@ pub extern "C" fn mdmp_verdicts_(
     ensures { Ends (AreVerdicts file.now limits.now.name) (AreLimits limits.now) (KeepsMemory limits.now file.now All) (EndsChecking limits.now file.now) bad_limits result count.new fault.new out.old out.new }
 {
     let Some(limits) = limits_of(limits) else {
-        return refuse(of_kind(67), count, fault);
+        return refuse(of_kind(kinds::BAD_LIMITS), count, fault);
     };
     let source = Source::new(MemoryStore::new(file));
     let mut lister = match Lister::open(alloc, source, limits, Choice::All) {

@@ -4,7 +4,8 @@ ghost use Rattle.std.specs.Option.{option_map};
 ghost use Rattle.mdmp_c.specs.FaultText.{TellsWords, fault_in, fixed_words};
 
 use crate::fault::{NO_FAULT, PlainFault, of_kind};
-use crate::giving::{NO_MEMORY, give, refuse};
+use crate::giving::{give, refuse};
+use crate::kinds;
 use crate::told_fault::fault_in;
 use mdmp_engines::{ToolFault, fault_line};
 use mdmp_source::WriteOut;
@@ -16,10 +17,10 @@ fn fixed_words(kind: u32) -> Option<&'static str>
 {
     match kind {
         0 => Some(""),
-        67 => Some("bad limits"),
-        68 => Some("between 1 and 16 types of streams are copied at a time"),
-        69 => Some("store failed"),
-        70 => Some("lengths differ"),
+        kinds::BAD_LIMITS => Some("bad limits"),
+        kinds::BAD_TYPES => Some("between 1 and 16 types of streams are copied at a time"),
+        kinds::STORE => Some("store failed"),
+        kinds::LENGTHS_DIFFER => Some("lengths differ"),
         _ => None,
     }
 }
@@ -41,7 +42,7 @@ fn give_line(
     let line = line.into_inner();
     match written {
         Ok(()) => give(NO_FAULT, &line[6..line.len() - 1], out, size, &mut ignored),
-        Err(_) => refuse(of_kind(NO_MEMORY), size, &mut ignored),
+        Err(_) => refuse(of_kind(kinds::NO_MEMORY), size, &mut ignored),
     }
 }
 
@@ -56,7 +57,7 @@ pub(crate) fn give_words(alloc: Global, plain: &PlainFault, out: &mut [u8], size
     if plain.kind == 64 {
         return match format!(in alloc; "{} bad entries", plain.size) {
             Ok(text) => give(NO_FAULT, text.as_bytes(), out, size, &mut ignored),
-            Err(_) => refuse(of_kind(NO_MEMORY), size, &mut ignored),
+            Err(_) => refuse(of_kind(kinds::NO_MEMORY), size, &mut ignored),
         };
     }
     match fixed_words(plain.kind) {
