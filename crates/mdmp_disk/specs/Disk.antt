@@ -1,5 +1,5 @@
 -- What is known of the files of a disk, and what its calls change.
-use Rattle.std.specs.Prelude.{◌≡◌, ℕ, Bool, true, false, List, Option, None, IsTrue}
+use Rattle.std.specs.Prelude.{◌≡◌, ℕ, Bool, true, false, List, [], Option, None, IsTrue, option_map}
 use Rattle.mdmp_source.specs.Count.{raised}
 use Rattle.mdmp_source.specs.Output.{OutState, unlent}
 use Rattle.mdmp_source.specs.Store.{StoreState, IsNew}
@@ -23,6 +23,8 @@ pub data FileAt : Type 0 where
 pub record DiskState : Type 0 where
   -- what is known of each name
   pub files : List ℕ → FileAt
+  -- what standard input still gives, and whether it is read without fail
+  pub input : FileState
   -- what a file holds that was just made, where it is known what such files take
   pub blank : Option (List ℕ)
   -- whether a file is being made under a name, and may be closed
@@ -46,6 +48,10 @@ abbrev pub make_counted : Bool → Requests → Requests
 make_counted true before = record before { made = raised before.made 1 }
 make_counted false before = record before { refused = raised before.refused 1 }
 
+abbrev pub read_counted : Bool → Requests → Requests
+read_counted true before = record before { inputs = raised before.inputs 1 }
+read_counted false before = record before { refused = raised before.refused 1 }
+
 -- the disk after a call of `open` that succeeded or was refused: its files stay
 abbrev pub after_open : Bool → DiskState → DiskState
 after_open is_opened before = record before { requests = open_counted is_opened before.requests }
@@ -56,6 +62,13 @@ opened_once = after_open true
 
 abbrev pub open_refused : DiskState → DiskState
 open_refused = after_open false
+
+-- the disk after a call of `read_input` that succeeded or was refused: nothing is left of a known input, and files stay
+abbrev pub after_reading : Bool → DiskState → DiskState
+after_reading is_read before = record before {
+  input = record before.input { bytes = option_map (λ _. []) before.input.bytes };
+  requests = read_counted is_read before.requests;
+}
 
 -- ---- what a call gives
 

@@ -1,3 +1,4 @@
 pub mod Disk
+pub mod Input
 pub mod Memory
 pub mod System

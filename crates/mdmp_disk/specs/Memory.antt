@@ -1,14 +1,23 @@
 -- A disk in memory, as its callers see it.
-use Rattle.std.specs.Prelude.{◌≡◌, ℕ, Bool, false, ◌&&◌, List, [], ◌∷◌, Option, Some, None, is_none, if◌then◌else◌}
+use Rattle.std.specs.Prelude.{◌≡◌, ℕ, Bool, true, false, ◌&&◌, List, [], ◌∷◌, Option, Some, None, is_none, if◌then◌else◌}
 use Rattle.std.specs.Str.{bytes_eq}
 use denote.Ref.{Bor}
 use Rattle.mdmp_disk.specs.declared.disk.Requests.{Requests}
 use Rattle.mdmp_disk.specs.declared.memory_disk.GivenFile.{GivenFile}
-use Rattle.mdmp_disk.specs.Disk.{DiskState, FileAt, absent, present}
+use Rattle.mdmp_disk.specs.declared.memory_disk.GivenInput.{GivenInput}
+use Rattle.mdmp_disk.specs.Disk.{DiskState, FileAt, FileState, absent, present}
 
 -- a file that was given, which is read without fail where no read of it fails
 abbrev pub given_file : GivenFile → FileAt
 given_file file = present (record { bytes = Some file.bytes.now; is_reliable = is_none file.fail_at })
+
+-- the input that was given, which is read without fail where it does not fail
+abbrev pub given_input : GivenInput → FileState
+given_input input = record { bytes = Some input.bytes.now; is_reliable = is_none input.fail_at }
+
+-- an input of no bytes, which is read without fail
+abbrev pub no_input : FileState
+no_input = record { bytes = Some []; is_reliable = true }
 
 -- a file of these bytes, which may be refused
 abbrev pub kept_file : List ℕ → FileAt
@@ -29,9 +38,10 @@ abbrev pub IsShown : Option (Bor (List ℕ)) → Option (List ℕ) → Type 0
 IsShown (Some lent) wanted = Some lent.now ≡ wanted
 IsShown None wanted = None ≡ wanted
 
--- a disk of these files, and of one more where it was made
-abbrev pub memory_state : List GivenFile → Bool → List ℕ → List ℕ → Requests → DiskState
-memory_state given has_made made_name made_bytes requests = record {
+-- a disk of these files and this input, and of one file more where it was made
+abbrev pub memory_state : List GivenFile → FileState → Bool → List ℕ → List ℕ → Requests → DiskState
+memory_state given input has_made made_name made_bytes requests = record {
+  input = input;
   files = λ name. if has_made && bytes_eq made_name name then kept_file made_bytes else given_at given name;
   blank = Some [];
   is_making = λ name. has_made && bytes_eq made_name name;

@@ -1,26 +1,30 @@
-//! What opens and makes files by their names.
+//! What opens and makes files by their names, and reads standard input.
 
+use crate::input::InputRefused;
 use mdmp_source::{Out, Store};
+use std::alloc::Allocator;
 
 /// A file could not be opened, or not be made.
 #[derive(Clone, Copy, Debug, PartialEq, Eq)]
 pub struct DiskRefused;
 
-/// How many files a disk opened and made, and how often it refused. A count that has reached its
-/// greatest value stays there.
+/// How many files a disk opened and made, how often it read standard input, and how often it refused. A count
+/// that has reached its greatest value stays there.
 #[derive(Clone, Copy, Debug, PartialEq, Eq)]
 pub struct Requests {
     /// Files that were opened.
     pub opened: u128,
     /// Files that were made.
     pub made: u128,
+    /// How often standard input was read to its end.
+    pub inputs: u128,
     /// Calls that answered an error.
     pub refused: u128,
 }
 
 impl Requests {
     ghost use Rattle.std.specs.Prelude.{◌≡◌};
-    ghost use Rattle.mdmp_disk.specs.Disk.{open_counted, make_counted};
+    ghost use Rattle.mdmp_disk.specs.Disk.{open_counted, make_counted, read_counted};
     ghost use Rattle.mdmp_disk.specs.System.{no_requests};
 
     /// No calls yet.
@@ -30,6 +34,7 @@ impl Requests {
         Requests {
             opened: 0,
             made: 0,
+            inputs: 0,
             refused: 0,
         }
     }
@@ -55,17 +60,29 @@ impl Requests {
             self.refused = self.refused.saturating_add(1);
         }
     }
+
+    /// Counts a call of `read_input` with this answer.
+    pub fn count_read(&mut self, is_read: bool)
+        ensures { self.new ≡ read_counted is_read self.old }
+    {
+        if is_read {
+            self.inputs = self.inputs.saturating_add(1);
+        } else {
+            self.refused = self.refused.saturating_add(1);
+        }
+    }
 }
 
-/// Files by their names, of which some can be read, and others made.
+/// Files by their names, of which some can be read, and others made, and standard input.
 ///
 /// No call changes a file that is there, and none removes one. Of the system's files nothing is
 /// known; a disk in memory knows all of its own. A program that is proved over every disk is proved
 /// over those in memory, so it opens and makes the files that it was told to, of the system too.
 // `std::rt::Files` can remove, rename and write over files, so no clause over it could say what is left.
 pub trait Disk {
-    ghost use Rattle.std.specs.Prelude.{◌≡◌, IfOk, IsOk, IsTrue, OnErr, is_ok};
-    ghost use Rattle.mdmp_disk.specs.Disk.{DiskState, FileState, IsClosed, IsMade, IsOpenedFile, after_open, present, open_refused};
+    ghost use Rattle.std.specs.Prelude.{◌≡◌, IfErr, IfOk, IsOk, IsTrue, OnErr, is_ok};
+    ghost use Rattle.mdmp_disk.specs.Disk.{DiskState, FileState, IsClosed, IsMade, IsOpenedFile, after_open, after_reading, present, open_refused};
+    ghost use Rattle.mdmp_disk.specs.Input.{IsInput, MayRefuseInput};
 
     /// A file that was opened.
     type File: Store + Drop;
@@ -73,7 +90,7 @@ pub trait Disk {
     /// A file that was made, and takes bytes. It can't be dropped: it is closed.
     type Made: Out;
 
-    /// What is known of each name, and the calls so far.
+    /// What is known of each name and of standard input, and the calls so far.
     ghost state: { Self → DiskState };
 
     /// Opens the file of this name, to be read from its start. No file is changed.
@@ -91,4 +108,12 @@ pub trait Disk {
     fn close(&mut self, name: &str, made: Self::Made)
         requires { IsTrue ((state self.old).is_making name.now) }
         ensures { IsClosed (state self.old) name.now (Self.Made.state made) (state self.new) };
+
+    /// Reads standard input into memory, to its end. Nothing is left for the next call, which finds no bytes. No file
+    /// is changed.
+    // The bytes are owned, and no store: a `MemoryStore` over them is one whose content is known.
+    fn read_input<A: Allocator>(&mut self, alloc: A, most: u64) -> Result<Vec<u8, A>, InputRefused>
+        ensures read { IfOk result (λ bytes. IsInput (state self.old).input most bytes.items) }
+        ensures refused { IfErr result (MayRefuseInput (state self.old).input most) }
+        ensures state { state self.new ≡ after_reading (is_ok result) (state self.old) };
 }

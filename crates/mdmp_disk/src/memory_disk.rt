@@ -1,8 +1,10 @@
 //! A disk in memory: for tests, and for programs that have their files there.
-ghost use Rattle.std.specs.Prelude.{◌≡◌};
-ghost use Rattle.mdmp_disk.specs.Memory.{given_at, known_of};
+ghost use Rattle.std.specs.Prelude.{◌≡◌, IfErr, IfOk};
+ghost use Rattle.mdmp_disk.specs.Input.{IsInput, MayRefuseInput};
+ghost use Rattle.mdmp_disk.specs.Memory.{given_at, given_input, known_of};
 
 use crate::disk::{Disk, DiskRefused, Requests};
+use crate::input::InputRefused;
 use mdmp_source::{PatchyStore, WriteOut};
 use std::alloc::Allocator;
 
@@ -18,12 +20,36 @@ pub struct GivenFile<'a> {
     pub fail_at: Option<u64>,
 }
 
-/// A disk in memory: files that it borrows, which it opens without fail, and at most one file that is made.
-/// A second is refused.
+/// What standard input gives to a disk in memory.
+#[derive(Clone, Copy)]
+pub struct GivenInput<'a> {
+    pub bytes: &'a [u8],
+    /// Behind how many bytes reading fails, or none.
+    pub fail_at: Option<u64>,
+}
+
+impl GivenInput<'_> {
+    /// Reads all bytes, of which at most so many are wanted.
+    fn read<A: Allocator>(self, alloc: A, most: u64) -> Result<Vec<u8, A>, InputRefused>
+        ensures read { IfOk result (λ bytes. IsInput (given_input self.entry) most bytes.items) }
+        ensures refused { IfErr result (MayRefuseInput (given_input self.entry) most) }
+    {
+        let size = self.bytes.len() as u64;
+        match self.fail_at {
+            Some(at) if at <= size.min(most) => Err(InputRefused::Failed { at }),
+            _ if size > most => Err(InputRefused::TooLong),
+            _ => Vec::from_slice(alloc, self.bytes).map_err(|_| InputRefused::Memory),
+        }
+    }
+}
+
+/// A disk in memory: files that it borrows, which it opens without fail, at most one file that is made, and
+/// standard input. A second file is not made: that is refused.
 #[derive(Drop)]
 pub struct MemoryDisk<'a, A: Allocator> {
     alloc: A,
     given: &'a [GivenFile<'a>],
+    input: GivenInput<'a>,
     /// Whether a file was made, or is being made.
     has_made: bool,
     made_name: Vec<u8, A>,
@@ -34,16 +60,28 @@ pub struct MemoryDisk<'a, A: Allocator> {
 impl<'a, A: Allocator + Copy> MemoryDisk<'a, A> {
     ghost use Rattle.std.specs.Prelude.{◌≡◌, false, List, [], ℕ, Some, IfSome};
     ghost use Rattle.mdmp_disk.specs.Disk.{absent, bytes_of_file};
-    ghost use Rattle.mdmp_disk.specs.Memory.{IsShown, given_at, memory_state};
+    ghost use Rattle.mdmp_disk.specs.Memory.{IsShown, given_at, given_input, memory_state, no_input};
     ghost use Rattle.mdmp_disk.specs.System.{no_requests};
 
-    /// The disk of these files.
+    /// The disk of these files. Standard input has no bytes.
     pub fn new(alloc: A, given: &'a [GivenFile<'a>]) -> Self
-        ensures { ⟦<MemoryDisk<'a, A> as Disk>⟧.state result ≡ memory_state given.now false [] [] no_requests }
+        ensures { ⟦<MemoryDisk<'a, A> as Disk>⟧.state result ≡ memory_state given.now no_input false [] [] no_requests }
+    {
+        let input = GivenInput {
+            bytes: b"",
+            fail_at: None,
+        };
+        Self::with_input(alloc, given, input)
+    }
+
+    /// The disk of these files and this standard input.
+    pub fn with_input(alloc: A, given: &'a [GivenFile<'a>], input: GivenInput<'a>) -> Self
+        ensures { ⟦<MemoryDisk<'a, A> as Disk>⟧.state result ≡ memory_state given.now (given_input input.entry) false [] [] no_requests }
     {
         MemoryDisk {
             alloc,
             given,
+            input,
             has_made: false,
             made_name: Vec::new(alloc),
             made_bytes: Vec::new(alloc),
@@ -100,13 +138,13 @@ fn find_given<'a>(files: &'a [GivenFile<'a>], name: &str) -> Option<GivenFile<'a
 }
 
 impl<'a, A: Allocator + Copy> Disk for MemoryDisk<'a, A> {
-    ghost use Rattle.mdmp_disk.specs.Memory.{memory_state};
+    ghost use Rattle.mdmp_disk.specs.Memory.{given_input, memory_state};
 
     type File = PatchyStore<'a>;
 
     type Made = WriteOut<Vec<u8, A>>;
 
-    ghost state = { λ d. memory_state d.given.now d.has_made d.made_name.items d.made_bytes.items d.requests };
+    ghost state = { λ d. memory_state d.given.now (given_input d.input) d.has_made d.made_name.items d.made_bytes.items d.requests };
 
     /// The file that was made is not opened.
     fn open(&mut self, name: &str) -> Result<PatchyStore<'a>, DiskRefused> {
@@ -141,5 +179,16 @@ impl<'a, A: Allocator + Copy> Disk for MemoryDisk<'a, A> {
 
     fn close(&mut self, _name: &str, made: Self::Made) {
         self.made_bytes = made.into_inner();
+    }
+
+    fn read_input<B: Allocator>(
+        &mut self,
+        alloc: B,
+        most: u64,
+    ) -> Result<Vec<u8, B>, InputRefused> {
+        let answer = self.input.read(alloc, most);
+        self.input.bytes = b"";
+        self.requests.count_read(answer.is_ok());
+        answer
     }
 }

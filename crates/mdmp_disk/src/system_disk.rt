@@ -3,21 +3,24 @@ ghost use Rattle.std.specs.Prelude.{IfOk, None, false};
 ghost use Rattle.mdmp_source.specs.Store.{IsNew};
 
 use crate::disk::{Disk, DiskRefused, Requests};
+use crate::input::{InputRefused, read_all};
 use mdmp_source::{FileStore, Out, OutFailed, Store, WriteOut};
-use std::alloc::Alloc;
+use std::alloc::{Alloc, Allocator};
 use std::fs::{self, Metadata, OpenOptions};
 use std::io::Read;
 use std::os::unix::fs::FileTypeExt;
 use std::rt::Files;
 
-/// The files of the system. No contract knows any of them.
+/// The files of the system, and standard input. No contract knows any of them.
 #[derive(Drop)]
 pub struct SystemDisk<'a, R> {
     rt: &'a R,
+    /// Whether standard input was read, to its end or not.
+    has_read: bool,
     requests: Requests,
 }
 
-impl<'a, R: Files + Alloc> SystemDisk<'a, R> {
+impl<'a, R: Files + Input + Alloc> SystemDisk<'a, R> {
     ghost use Rattle.std.specs.Prelude.{◌≡◌};
     ghost use Rattle.mdmp_disk.specs.System.{no_requests, system};
 
@@ -27,12 +30,13 @@ impl<'a, R: Files + Alloc> SystemDisk<'a, R> {
     {
         SystemDisk {
             rt,
+            has_read: false,
             requests: Requests::new(),
         }
     }
 }
 
-impl<R: Files + Alloc> Disk for SystemDisk<'_, R> {
+impl<R: Files + Input + Alloc> Disk for SystemDisk<'_, R> {
     ghost use Rattle.mdmp_disk.specs.System.{system};
 
     type File = FileStore<R::File, R::A>;
@@ -70,6 +74,22 @@ impl<R: Files + Alloc> Disk for SystemDisk<'_, R> {
 
     /// The file is closed where it is dropped.
     fn close(&mut self, _name: &str, _made: Self::Made) {}
+
+    /// A pipe and a terminal are read as well as a file, once: later calls find no bytes.
+    fn read_input<A: Allocator>(
+        &mut self,
+        alloc: A,
+        most: u64,
+    ) -> Result<Vec<u8, A>, InputRefused> {
+        let answer = if self.has_read {
+            Ok(Vec::new(alloc))
+        } else {
+            read_all(self.rt.reader(), alloc, most)
+        };
+        self.has_read = true;
+        self.requests.count_read(answer.is_ok());
+        answer
+    }
 }
 
 /// Opens the file of this name, if it can be a dump.
