@@ -72,7 +72,7 @@ none_of a b text cut = record {
   took = subst (λ (sent : List ℕ). Takes a sent b) (sent_none cut.sent cut.rest cut.whole) cut.took;
 }
 
-all : (a b : Option (List ℕ)) (text : List ℕ) → Takes a text b → TakesPrefix a text b
+pub all : (a b : Option (List ℕ)) (text : List ℕ) → Takes a text b → TakesPrefix a text b
 all a b text took = record { sent = text; rest = []; whole = sym (append-nil text); took = took }
 
 -- ---- the flush behind a run
@@ -83,12 +83,12 @@ with_pending inner pending = record { taken = append_known inner.taken pending; 
 
 -- what happened to the output: before the run it was a with nothing pending, behind it b with the bytes pending, and
 -- behind the flush c with what is left
-record Flush (a b c : OutState) (old pending left : List ℕ) : Type 0 where
+pub record Flush (a b c : OutState) (old pending left : List ℕ) : Type 0 where
   pub none : old ≡ []
   pub moved : MovesFront b pending c left
 
 -- a text that was written is out after a flush that went through
-all_out : (a b c : OutState) (old pending left text : List ℕ) → Flush a b c old pending left → left ≡ [] → c.failures ≡ b.failures
+pub all_out : (a b c : OutState) (old pending left text : List ℕ) → Flush a b c old pending left → left ≡ [] → c.failures ≡ b.failures
     → PutsAll (with_pending a old) text (with_pending b pending) → PutsAll a text c
 all_out a b c old pending left text f done same put = record {
   took = Takes-flushed a b c old pending left text f.none done f.moved put.took;
@@ -96,7 +96,7 @@ all_out a b c old pending left text f done same put = record {
 }
 
 -- and so is the first part of one
-first_out : (a b c : OutState) (old pending left text : List ℕ) → Flush a b c old pending left → left ≡ [] → c.failures ≡ b.failures
+pub first_out : (a b c : OutState) (old pending left text : List ℕ) → Flush a b c old pending left → left ≡ [] → c.failures ≡ b.failures
     → StopsShort (with_pending a old) text (with_pending b pending) → StopsShort a text c
 first_out a b c old pending left text f done same short = record {
   took = record {
@@ -109,7 +109,7 @@ first_out a b c old pending left text f done same short = record {
 }
 
 -- where the output refused, a first part of the text is out
-part_out : (a b c : OutState) (old pending left text : List ℕ) → Flush a b c old pending left → HasRefused a.failures c.failures
+pub part_out : (a b c : OutState) (old pending left text : List ℕ) → Flush a b c old pending left → HasRefused a.failures c.failures
     → TakesPrefix (with_pending a old).taken text (with_pending b pending).taken → RefusesWithin a text c
 part_out a b c old pending left text f risen cut = record {
   within = first_part-taken a.taken c.taken old left text f.none (TakesPrefix-Keeps _ _ _ text cut (Keeps-moved b pending c left f.moved));
@@ -149,12 +149,12 @@ WritesText-prefix pace text a b (Err Out) cut = cut.took
 WritesText-prefix pace text a b (Err fault) never = absurd never
 
 -- where a run was not refused, the refusals are as they were
-not_refused : {T : Type 0} (a b : OutState) (r : Result T ToolFault) → r ≢ Err Out → HasOutCause a r b → b.failures ≡ a.failures
+pub not_refused : {T : Type 0} (a b : OutState) (r : Result T ToolFault) → r ≢ Err Out → HasOutCause a r b → b.failures ≡ a.failures
 not_refused a b (Err Out) other cause = absurd (other refl)
 not_refused a b r other cause = cause
 
 -- so behind one refusal more there is one more
-one_refused : (before now after : Refusals) → now ≡ before → after ≡ refused_once now → HasRefused before after
+pub one_refused : (before now after : Refusals) → now ≡ before → after ≡ refused_once now → HasRefused before after
 one_refused before now after same once = subst (HasRefused before) (sym (once ∙ ap refused_once same)) (HasRefused-once before)
 
 -- ---- a run that is flushed

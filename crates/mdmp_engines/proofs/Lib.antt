@@ -17,6 +17,7 @@ pub mod JsonReads
 pub mod JsonStrings
 pub mod Listings
 pub mod NamesRead
+pub mod ObjectBlocks
 pub mod ObjectIds
 pub mod ObjectNames
 pub mod ObjectPasses
@@ -31,4 +32,5 @@ pub mod Rows
 pub mod SameRuns
 pub mod Summarizing
 pub mod SummaryNames
+pub mod SymbolRooms
 pub mod Symbols

@@ -1,23 +1,19 @@
 -- The texts of names and ids in an object, by what was read.
-use Rattle.std.proofs.Common.{◌≡◌, ◌∙◌, ℕ, List, [], ◌++◌, Bool, true, false, Option, Some, None, Result, Ok, Err, ap, min, refl, sym, take}
+use Rattle.std.proofs.Common.{◌≡◌, ◌∙◌, ℕ, List, Some, None, Result, Ok, Err, min, refl, take}
 use Rattle.mdmp_source.specs.Output.{OutState, Puts}
 use Rattle.mdmp_source.specs.declared.output.OutFailed.{OutFailed}
 use Rattle.mdmp_source.specs.declared.location.Extent.{Extent}
 use Rattle.mdmp_source.specs.declared.location.Extent.TheVariants.{Empty, Absent, Inside, Outside}
 use Rattle.mdmp_wire.specs.declared.module.ModuleRecord.{ModuleRecord}
-use Rattle.mdmp_lister.specs.declared.codeview.CodeViewBytes.{CodeViewBytes}
-use Rattle.mdmp_lister.specs.declared.item.Item.{Item}
-use Rattle.mdmp_lister.specs.declared.item.Item.TheVariants as items
-use Rattle.mdmp_lister.specs.Format.Item.{plain}
 use Rattle.mdmp_lister.specs.Format.Name.{plain_name}
 use Rattle.mdmp_lister.specs.declared.name.Name.{Name}
 use Rattle.mdmp_lister.specs.declared.name.Name.TheVariants as names
-use Rattle.mdmp_summary.specs.Symbols.{AreSymbolsOf, symbols_head, symbols_rest}
+use Rattle.mdmp_summary.specs.Symbols.{AreSymbolsOf, symbols_rest}
 use Rattle.mdmp_summary.specs.declared.codeview_reading.SymbolsRead.{SymbolsRead}
 use Rattle.mdmp_summary_lines.specs.JsonIds.{codeview_ids_text, module_ids_text}
 use Rattle.mdmp_summary_lines.specs.JsonText.{file_string, name_string}
 use Rattle.mdmp_engines.specs.ObjectVisits.{HasOut}
-use Rattle.mdmp_engines.specs.SummaryObject.{ids_in_class, module_begun, module_front}
+use Rattle.mdmp_engines.specs.SummaryObject.{ids_in_class}
 
 -- ---- ids
 

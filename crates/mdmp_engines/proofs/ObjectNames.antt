@@ -1,11 +1,11 @@
 -- What is printed and read of an object around its names.
-use Rattle.std.proofs.Common.{◌≡◌, ℕ, List, [], ◌++◌, Option, Result, Ok, Err, refl}
+use Rattle.std.proofs.Common.{ℕ, List, [], Result, Ok, Err, refl}
 use Rattle.mdmp_source.specs.Output.{OutState}
 use Rattle.mdmp_source.specs.OutputLaws.{PutsAll-nothing}
 use Rattle.mdmp_source.specs.Source.{SourceState}
 use Rattle.mdmp_engines.specs.Causes.{HasOutCause, HasSourceCause}
 use Rattle.mdmp_engines.specs.KeptNames.{IsNameFault}
-use Rattle.mdmp_engines.specs.ObjectRuns.{PrintsAnswer}
+use Rattle.mdmp_engines.specs.ObjectRuns.{IsPrintEnd, IsQuietObject, PrintsThrough}
 use Rattle.mdmp_engines.specs.SummaryRuns.{IsUnreadFault}
 use Rattle.mdmp_engines.specs.declared.fault.ToolFault.{ToolFault}
 use Rattle.mdmp_engines.specs.declared.fault.ToolFault.TheVariants as tool
@@ -14,7 +14,7 @@ use Rattle.mdmp_engines.proofs.Summarizing.{last_told}
 
 -- ---- a name that was not read
 
-pub unread_prints : (old new : SourceState) (f : ToolFault) (text : List ℕ) (bad : ℕ) (before : OutState) → IsNameFault old new f → PrintsAnswer text bad before (Err f) before
+pub unread_prints : (old new : SourceState) (f : ToolFault) (text : List ℕ) (bad : ℕ) (before : OutState) → IsNameFault old new f → PrintsThrough text bad before (Err f) before
 unread_prints old new tool.Memory text bad before is = (tt, short_put before before [] text (PutsAll-nothing before))
 unread_prints old new (tool.Source s) text bad before is = (tt, short_put before before [] text (PutsAll-nothing before))
 unread_prints old new f text bad before is = absurd is
@@ -31,7 +31,7 @@ unread_out old new f before is = absurd is
 
 -- ---- bytes of the listing that were not read
 
-pub unread_answer : (f : ToolFault) (text : List ℕ) (bad : ℕ) (before : OutState) → IsUnreadFault f → PrintsAnswer text bad before (Err f) before
+pub unread_answer : (f : ToolFault) (text : List ℕ) (bad : ℕ) (before : OutState) → IsUnreadFault f → PrintsThrough text bad before (Err f) before
 unread_answer (tool.Source s) text bad before is = (tt, short_put before before [] text (PutsAll-nothing before))
 unread_answer (tool.Budget offset size) text bad before is = (tt, short_put before before [] text (PutsAll-nothing before))
 unread_answer tool.Memory text bad before is = (tt, short_put before before [] text (PutsAll-nothing before))
@@ -42,3 +42,20 @@ unread_steady (tool.Source s) before is = refl
 unread_steady (tool.Budget offset size) before is = refl
 unread_steady tool.Memory before is = refl
 unread_steady f before is = absurd is
+
+-- ---- nothing was printed
+
+pub quiet_untouched : (r : Result ℕ ToolFault) (untouched : Type 0) → untouched → IsQuietObject r untouched
+quiet_untouched (Ok bad) untouched is = tt
+quiet_untouched (Err tool.Out) untouched is = tt
+quiet_untouched (Err (tool.Source s)) untouched is = tt
+quiet_untouched (Err (tool.Budget offset size)) untouched is = tt
+quiet_untouched (Err f) untouched is = is
+
+-- or no such error ended it
+pub quiet_printed : (r : Result ℕ ToolFault) (untouched : Type 0) → IsPrintEnd r → IsQuietObject r untouched
+quiet_printed (Ok bad) untouched stops = tt
+quiet_printed (Err tool.Out) untouched stops = tt
+quiet_printed (Err (tool.Source s)) untouched stops = tt
+quiet_printed (Err (tool.Budget offset size)) untouched stops = tt
+quiet_printed (Err f) untouched stops = absurd stops

@@ -1,8 +1,8 @@
 -- The passes of an object, one after the other.
-use Rattle.std.proofs.Common.{◌≡◌, ◌+◌, ◌*◌, ◌∙◌, ◌≤◌, ℕ, List, [], ◌++◌, Option, Result, Ok, Err, ap, append_assoc, arith, drop, refl, subst, sym}
+use Rattle.std.proofs.Common.{◌≡◌, ◌+◌, ◌*◌, ◌∙◌, ◌≤◌, ℕ, List, [], ◌++◌, Option, Result, Ok, Err, arith, refl, subst, sym}
 use Rattle.std.proofs.lemmas.List.{append-nil}
 use Rattle.std.specs.Prelude.{sum_by}
-use Rattle.mdmp_source.specs.Output.{HasRefused, OutState, PutsAll, PutsPrefix, Refusals}
+use Rattle.mdmp_source.specs.Output.{HasRefused, OutState, PutsAll, Refusals}
 use Rattle.mdmp_source.specs.OutputLaws.{PutsAll-PutsAll, PutsPrefix-front, PutsPrefix-last}
 use Rattle.mdmp_lister.specs.declared.item.Item.{Item}
 use Rattle.mdmp_lister.specs.declared.meter.Amount.{Amount}
@@ -15,7 +15,6 @@ use Rattle.mdmp_summary.specs.Walking.{IsSameListing}
 use Rattle.mdmp_summary.proofs.Paying.{few_names}
 use Rattle.mdmp_summary.proofs.Told.{good_still, same_listing_none, same_listing_then}
 use Rattle.mdmp_engines.specs.Causes.{HasOutCause}
-use Rattle.mdmp_engines.specs.Engines.{StopsShort}
 use Rattle.mdmp_engines.specs.ObjectRuns.{LeavesPasses, PrintsAnswer, PrintsWhileRead, ReadsItems, ReadsLists}
 use Rattle.mdmp_engines.specs.ObjectVisits.{module_room, thread_room}
 use Rattle.mdmp_engines.specs.declared.fault.ToolFault.{ToolFault}
@@ -90,6 +89,7 @@ leaves_both old mid new r first then =
       cause = cause_then _ old.list.source mid.list.source new.list.source r fetches then.cause;
       over = then.over;
       going = then.going;
+      stops = then.stops;
     }
 
 -- the first pass was not ended
@@ -101,17 +101,18 @@ leaves_first old new f first = record {
   cause = first.cause;
   over = first.over;
   going = tt;
+  stops = first.stops;
 }
 
 -- the output refused between them, or before
 pub leaves_out : (old new : WalkerState) → LeavesPasses {T = Unit {0}} 1 old (Ok tt) new → LeavesPasses {T = Unit {0}} 2 old (Err tool.Out) new
-leaves_out old new first = record { pays = pays_more old new first.pays; same = first.same; good = λ file good. tt; cause = tt; over = tt; going = tt }
+leaves_out old new first = record { pays = pays_more old new first.pays; same = first.same; good = λ file good. tt; cause = tt; over = tt; going = tt; stops = tt }
 
 pub refused_pass : (old new : WalkerState) → LeavesPasses {T = Unit {0}} 1 old (Ok tt) new → LeavesPasses {T = Unit {0}} 1 old (Err tool.Out) new
-refused_pass old new first = record { pays = first.pays; same = first.same; good = λ file good. tt; cause = tt; over = tt; going = tt }
+refused_pass old new first = record { pays = first.pays; same = first.same; good = λ file good. tt; cause = tt; over = tt; going = tt; stops = tt }
 
 pub leaves_none : {T : Type 0} (v : WalkerState) → LeavesPasses {T = T} 2 v (Err tool.Out) v
-leaves_none v = record { pays = pays_none v; same = same_listing_none v.list; good = λ file good. tt; cause = tt; over = tt; going = tt }
+leaves_none v = record { pays = pays_none v; same = same_listing_none v.list; good = λ file good. tt; cause = tt; over = tt; going = tt; stops = tt }
 
 -- ---- what they read beside the listing
 

@@ -1,5 +1,5 @@
 -- What the visitors of a summary's object have printed.
-use Rattle.std.proofs.Common.{◌≡◌, ◌∙◌, ℕ, List, [], ◌∷◌, ◌++◌, Bool, Option, Some, None, Result, Ok, Err, ap, append_assoc, inl, inr, refl, subst, sym}
+use Rattle.std.proofs.Common.{◌≡◌, ◌∙◌, ℕ, List, [], ◌∷◌, ◌++◌, Bool, Option, Some, Result, ap, append_assoc, inl, inr, refl, subst, sym}
 use Rattle.std.proofs.lemmas.List.{append-nil}
 use Rattle.mdmp_source.specs.Output.{HasRefused, OutState, PutsAll, PutsPrefix, Refusals, TakesPrefix}
 use Rattle.mdmp_source.specs.OutputLaws.{PutsAll-PutsAll, PutsAll-nothing, PutsPrefix-front, PutsPrefix-last, TakesPrefix-behind, TakesPrefix-front}
@@ -10,7 +10,7 @@ use Rattle.mdmp_summary.specs.Visiting.{EndedAmong, EndedAt, Visited, VisitedAll
 use Rattle.mdmp_summary.specs.declared.visiting.VisitEnd.{VisitEnd}
 use Rattle.mdmp_summary.specs.declared.visiting.VisitEnd.TheVariants as ends
 use Rattle.mdmp_engines.specs.Engines.{StopsShort}
-use Rattle.mdmp_engines.specs.ObjectVisits.{LooksModule, LooksThread, ModulesAt, PutsOf, TakesModule, TakesThread, ThreadsAt}
+use Rattle.mdmp_engines.specs.ObjectVisits.{LooksModule, LooksThread, ModulesAt, TakesModule, TakesThread, ThreadsAt}
 use Rattle.mdmp_engines.specs.SummaryObject.{CrashedThread, count_with, first_still, found_among, found_with, ids_of, module_begun, module_front, module_text, modules_text, thread_begun, thread_text, threads_text}
 
 -- ---- a text that is cut

@@ -1,5 +1,5 @@
 -- How a pass that prints objects ended, and what it printed.
-use Rattle.std.proofs.Common.{◌≡◌, ◌∙◌, ℕ, List, [], ◌∷◌, ◌++◌, Option, Result, Ok, Err, ap, refl, subst, sym, false}
+use Rattle.std.proofs.Common.{◌≡◌, ◌∙◌, ℕ, List, ◌++◌, Option, Result, Ok, Err, ap, subst, sym}
 use Rattle.std.specs.Prelude.{IfOk}
 use Rattle.mdmp_source.specs.Output.{HasRefused, OutState, PutsAll, PutsPrefix}
 use Rattle.mdmp_source.specs.OutputLaws.{PutsPrefix-front}
@@ -15,7 +15,7 @@ use Rattle.mdmp_summary.specs.declared.visiting.VisitFault.{VisitFault}
 use Rattle.mdmp_summary.specs.declared.visiting.VisitFault.TheVariants as faults
 use Rattle.mdmp_engines.specs.Causes.{HasBudgetCause, HasOutCause, HasSourceCause, IsNoSourceFault}
 use Rattle.mdmp_engines.specs.Engines.{StopsShort}
-use Rattle.mdmp_engines.specs.ObjectRuns.{AreItems, IsUnreadPass, PrintsWhileRead, outcome_told, visit_told}
+use Rattle.mdmp_engines.specs.ObjectRuns.{AreItems, IsPrintEnd, IsUnreadPass, PrintsWhileRead, outcome_told, visit_told}
 use Rattle.mdmp_engines.specs.ObjectVisits.{ThreadsAt}
 use Rattle.mdmp_engines.specs.SummaryObject.{found_among}
 use Rattle.mdmp_engines.specs.declared.fault.ToolFault.{ToolFault}
@@ -93,6 +93,11 @@ pub over_visit : (T : Type 0) (old new : ListerState) (fault : VisitFault) → I
 over_visit T old new (faults.List f) is = over_listing T f new is.look.refused is.look.next
 over_visit T old new (faults.Ended ends.Stopped) is = tt
 over_visit T old new (faults.Ended (ends.Source f)) is = tt
+
+pub stops_visit : (T : Type 0) (fault : VisitFault) → IsUnreadPass (Err fault) → IsPrintEnd {T = T} (Err (visit_told fault))
+stops_visit T (faults.List f) unread = told-source (λ (r : Result T ToolFault). IsPrintEnd r) f f.kind unread (λ s same. tt) tt
+stops_visit T (faults.Ended ends.Stopped) unread = tt
+stops_visit T (faults.Ended (ends.Source f)) unread = tt
 
 pub are_items : (all items : List Item) (outcome : Result (Unit {0}) VisitFault) → AreShown all items outcome → AreItems all items (outcome_told outcome)
 are_items all items (Ok done) is = is

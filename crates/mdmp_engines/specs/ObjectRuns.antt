@@ -25,8 +25,8 @@ use Rattle.mdmp_summary.specs.declared.visiting.VisitEnd.{VisitEnd}
 use Rattle.mdmp_summary.specs.declared.visiting.VisitEnd.TheVariants as ends
 use Rattle.mdmp_summary.specs.declared.visiting.VisitFault.{VisitFault}
 use Rattle.mdmp_summary.specs.declared.visiting.VisitFault.TheVariants as faults
-use Rattle.mdmp_engines.specs.Causes.{HasBudgetCause, HasOutCause, HasSourceCause, IsNoSourceFault}
-use Rattle.mdmp_engines.specs.Engines.{StopsShort}
+use Rattle.mdmp_engines.specs.Causes.{HasBudgetCause, HasSourceCause, IsNoSourceFault}
+use Rattle.mdmp_engines.specs.Engines.{RefusesWithin, StopsShort}
 use Rattle.mdmp_engines.specs.KeptNames.{IsNameFault, names_cost}
 use Rattle.mdmp_engines.specs.ObjectVisits.{module_room, thread_room}
 use Rattle.mdmp_engines.specs.SummaryObject.{object_text}
@@ -55,6 +55,14 @@ abbrev pub PrintsWhileRead : {T : Type 0} → List ℕ → OutState → Result T
 PrintsWhileRead text before (Ok x) after = PutsAll before text after
 PrintsWhileRead text before (Err tool.Out) after = PutsPrefix before text after
 PrintsWhileRead text before (Err fault) after = IsUnreadFault fault × StopsShort before text after
+
+-- what may end the printing of an object: that the output refused, or that bytes were not read
+abbrev pub IsPrintEnd : {T : Type 0} → Result T ToolFault → Type 0
+IsPrintEnd (Ok x) = Unit {0}
+IsPrintEnd (Err tool.Out) = Unit {0}
+IsPrintEnd (Err (tool.Source fault)) = Unit {0}
+IsPrintEnd (Err (tool.Budget offset size)) = Unit {0}
+IsPrintEnd (Err fault) = ⊥
 
 -- ---- what is read, whatever the file holds
 
@@ -94,6 +102,7 @@ pub record LeavesPasses {T : Type 0} (passes : ℕ) (old : WalkerState) (result 
   pub cause : HasSourceCause old.list.source result new.list.source
   pub over : HasBudgetCause result new.list
   pub going : IfOk result (λ x. is_failed new.list.stop ≡ false)
+  pub stops : IsPrintEnd result
 
 -- the items of both passes
 pub record ReadsLists {T : Type 0} (limit : ℕ) (content : Option (List ℕ)) (result : Result T ToolFault) (old new : Amount) : Type 0 where
@@ -108,22 +117,38 @@ abbrev pub PrintsAnswer : List ℕ → ℕ → OutState → Result ℕ ToolFault
 PrintsAnswer text bad before (Ok n) after = (n ≡ bad) × PutsAll before text after
 PrintsAnswer text bad before (Err fault) after = PrintsWhileRead {T = ℕ} text before (Err fault) after
 
--- how an open file was read after the passes of its summary: a name was not read, or memory ran out; or both lists were printed
-pub data ReadsObject (old : WalkerState) (answer : Result ℕ ToolFault) (new : WalkerState) : Type 0 where
-  unread : IfErr answer (IsNameFault old.list.source new.list.source) → ReadsOutside (names_cost old.list.limit) old new → ReadsObject old answer new
+-- the same through blocks, the last of which is flushed
+abbrev pub PrintsThrough : List ℕ → ℕ → OutState → Result ℕ ToolFault → OutState → Type 0
+PrintsThrough text bad before (Err tool.Out) after = RefusesWithin before text after
+PrintsThrough text bad before answer after = PrintsAnswer text bad before answer after
+
+-- how an open file was read after the passes of its summary: a name was not read, or memory ran out, and nothing was printed; or
+-- both lists were printed
+pub data ReadsObject (old : WalkerState) (before : OutState) (answer : Result ℕ ToolFault) (new : WalkerState) (after : OutState) : Type 0 where
+  unread : IfErr answer (IsNameFault old.list.source new.list.source) → ReadsOutside (names_cost old.list.limit) old new → after ≡ before
+      → ReadsObject old before answer new after
   printed : (named : WalkerState) → ReadsOutside (names_cost old.list.limit) old named → LeavesPasses 2 named answer new
-      → ReadsLists old.list.limit old.list.source.store.content answer named.list.counts.aside new.list.counts.aside → ReadsObject old answer new
+      → ReadsLists old.list.limit old.list.source.store.content answer named.list.counts.aside new.list.counts.aside → ReadsObject old before answer new after
 
 -- how the source was read, whatever it holds: the file was not opened; or the passes of its summary were made, or ended by an error
--- that has its cause and its place in them; or its object was printed too. They read no more than is said here
-pub data IsObjectThrough (limits : Limits) (old : SourceState) (answer : Result ℕ ToolFault) (new : SourceState) : Type 0 where
-  refused : (fault : OpenFault) → IsRefusedWalker (within_object limits) old fault new → answer ≡ Err (opening_beside (object_held limits) fault)
-      → IsObjectThrough limits old answer new
+-- that has its cause and its place in them; or its object was printed too. They read no more than is said here. Nothing was printed
+-- before the passes of the summary were made and the names were read
+pub data IsObjectThrough (limits : Limits) (old : SourceState) (before : OutState) (answer : Result ℕ ToolFault) (new : SourceState) (after : OutState) : Type 0 where
+  refused : (fault : OpenFault) → IsRefusedWalker (within_object limits) old fault new → answer ≡ Err (opening_beside (object_held limits) fault) → after ≡ before
+      → IsObjectThrough limits old before answer new after
   unread : (opened ended : WalkerState) (fault : SummaryFault) → IsNewWalker old All (within_object limits) opened → SpendsPasses 2 1 opened ended
-      → IsSameListing opened.list ended.list → IsCallFault opened.list ended.list fault → answer ≡ Err (summary_told fault) → new ≡ ended.list.source
-      → IsObjectThrough limits old answer new
+      → IsSameListing opened.list ended.list → IsCallFault opened.list ended.list fault → answer ≡ Err (summary_told fault) → new ≡ ended.list.source → after ≡ before
+      → IsObjectThrough limits old before answer new after
   printed : (opened ended last : WalkerState) → IsNewWalker old All (within_object limits) opened → SpendsPasses 2 1 opened ended
-      → IsSameListing opened.list ended.list → ReadsObject ended answer last → new ≡ last.list.source → IsObjectThrough limits old answer new
+      → IsSameListing opened.list ended.list → ReadsObject ended before answer last after → new ≡ last.list.source → IsObjectThrough limits old before answer new after
+
+-- an error leaves the output as it was, but the output's own, and that bytes were not read
+abbrev pub IsQuietObject : Result ℕ ToolFault → Type 0 → Type 0
+IsQuietObject (Ok bad) untouched = Unit {0}
+IsQuietObject (Err tool.Out) untouched = Unit {0}
+IsQuietObject (Err (tool.Source fault)) untouched = Unit {0}
+IsQuietObject (Err (tool.Budget offset size)) untouched = Unit {0}
+IsQuietObject (Err fault) untouched = untouched
 
 -- ---- the object
 
@@ -132,5 +157,5 @@ pub data IsObjectThrough (limits : Limits) (old : SourceState) (answer : Result 
 pub data PrintsObject (name F : List ℕ) (limits : Limits) (before : OutState) (answer : Result ℕ ToolFault) (after : OutState) : Type 0 where
   refused : (fault : OpenFault) → IsWalkRefusal (within_object limits) F fault → answer ≡ Err (opening_beside (object_held limits) fault) → after ≡ before
       → PrintsObject name F limits before answer after
-  printed : walk_fault (within_object limits) F ≡ None → PrintsAnswer (object_text name F limits.name) (file_summary F limits.name).bad.count before answer after
+  printed : walk_fault (within_object limits) F ≡ None → PrintsThrough (object_text name F limits) (file_summary F limits.name).bad.count before answer after
       → PrintsObject name F limits before answer after

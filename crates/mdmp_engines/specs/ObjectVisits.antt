@@ -1,10 +1,9 @@
 -- What the visitors do that print the modules and the threads of a summary's object.
-use Rattle.std.specs.Prelude.{◌≡◌, ℕ, List, Bool, Option, None, Some, Result, Ok, Err}
+use Rattle.std.specs.Prelude.{◌≡◌, ◌≤◌, ℕ, List, Bool, Option, None, Some, Result, Ok, Err, length, min}
 use Rattle.mdmp_source.specs.Output.{HasRefused, OutState, PutsAll, PutsPrefix}
 use Rattle.mdmp_wire.specs.declared.module.ModuleRecord.{ModuleRecord}
 use Rattle.mdmp_wire.specs.declared.thread.ThreadRecord.{ThreadRecord}
 use Rattle.mdmp_lister.specs.declared.item.Item.{Item}
-use Rattle.mdmp_lister.specs.declared.item.Item.TheVariants as items
 use Rattle.mdmp_lister.specs.declared.meter.Amount.{Amount}
 use Rattle.mdmp_lister.specs.declared.sink.Stopped.{Stopped}
 use Rattle.mdmp_summary.specs.Spending.{context_cost}
@@ -50,6 +49,11 @@ module_cost room None = nothing_read
 
 abbrev pub module_room : ℕ → Item → Amount
 module_room room x = module_cost room (module_begun x)
+
+-- room for the name of a symbol file, of at most `limit` bytes: of a known file as much as it can need, since the name is inside
+pub record HasSymbolsRoom (content : Option (List ℕ)) (limit room : ℕ) : Type 0 where
+  pub most : room ≤ limit
+  pub enough : (file : List ℕ) → content ≡ Some file → room ≡ min limit (length file)
 
 -- ---- threads
 

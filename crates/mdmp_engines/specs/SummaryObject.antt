@@ -1,5 +1,5 @@
 -- The object that `summary --json` prints of a file.
-use Rattle.std.specs.Prelude.{ℕ, ◌+◌, ◌-◌, ◌^◌, ◌==◌, List, [], ◌∷◌, ◌++◌, Bool, true, false, Option, Some, None, length, min, if◌then◌else◌}
+use Rattle.std.specs.Prelude.{ℕ, ◌+◌, ◌-◌, ◌/◌, ◌^◌, ◌==◌, List, [], ◌∷◌, ◌++◌, Bool, true, false, Option, Some, None, length, max, min, if◌then◌else◌}
 use Rattle.mdmp_source.specs.Extent.{extent_of}
 use Rattle.mdmp_source.specs.declared.location.Extent.{Extent}
 use Rattle.mdmp_source.specs.declared.location.Extent.TheVariants.{Empty, Absent, Inside, Outside}
@@ -8,6 +8,7 @@ use Rattle.mdmp_wire.specs.declared.system.SystemRecord.{SystemRecord}
 use Rattle.mdmp_wire.specs.declared.thread.ThreadRecord.{ThreadRecord}
 use Rattle.mdmp_lister.specs.declared.item.Item.{Item}
 use Rattle.mdmp_lister.specs.declared.item.Item.TheVariants as items
+use Rattle.mdmp_lister.specs.declared.limits.Limits.{Limits}
 use Rattle.mdmp_lister.specs.declared.name.Name.{Name}
 use Rattle.mdmp_lister.specs.declared.name.Name.TheVariants as names
 use Rattle.mdmp_summary.specs.BadEntries.{all_items}
@@ -123,14 +124,27 @@ threads_and_end F summary name items =
 abbrev pub lists_text : List ℕ → ℕ → FileSummary → Name → List Item → List ℕ
 lists_text F limit summary name items = modules_text F limit true items ++ (threads_front_text ++ threads_and_end F summary name items)
 
--- all that is printed of F, a file of this name, with this summary and these names
-abbrev pub named_object : (name F : List ℕ) → ℕ → FileSummary → SummaryNames → List ℕ
-named_object name F limit summary told = summary_head_text name summary told ++ lists_text F limit summary told.thread (all_items F limit)
+-- all that is printed of F, a file of this name, with this summary and these names, and with names of symbol files of at most
+-- `symbols` bytes
+abbrev pub named_object : (name F : List ℕ) → (limit symbols : ℕ) → FileSummary → SummaryNames → List ℕ
+named_object name F limit symbols summary told = summary_head_text name summary told ++ lists_text F symbols summary told.thread (all_items F limit)
 
 -- with the names that it tells
-abbrev pub told_object : (name F : List ℕ) → ℕ → FileSummary → List ℕ
-told_object name F limit summary = named_object name F limit summary (told_names F limit summary)
+abbrev pub told_object : (name F : List ℕ) → (limit symbols : ℕ) → FileSummary → List ℕ
+told_object name F limit symbols summary = named_object name F limit symbols summary (told_names F limit summary)
 
--- and its own summary, with names of at most `limit` bytes
-abbrev pub object_text : (name F : List ℕ) → ℕ → List ℕ
-object_text name F limit = told_object name F limit (file_summary F limit)
+-- how many bytes of the name of a symbol file are told, of a file with so many modules: as many as the limit of names says, and
+-- no more than the share of each module in the limit of what is read aside, behind the 24 bytes that begin a record
+abbrev pub symbols_share : Option ℕ → (limit modules : ℕ) → ℕ
+symbols_share None limit modules = limit
+symbols_share (Some aside) limit modules = min limit (aside / max modules 1 - 24)
+
+abbrev pub symbols_most : Limits → ℕ → ℕ
+symbols_most limits modules = symbols_share limits.aside limits.name modules
+
+abbrev pub limited_object : (name F : List ℕ) → Limits → FileSummary → List ℕ
+limited_object name F limits summary = told_object name F limits.name (symbols_most limits summary.counts.modules) summary
+
+-- and its own summary
+abbrev pub object_text : (name F : List ℕ) → Limits → List ℕ
+object_text name F limits = limited_object name F limits (file_summary F limits.name)

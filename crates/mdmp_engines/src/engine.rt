@@ -201,14 +201,27 @@ fn flushed<T: Copy, S: Store + Drop, O: Out>(
     ensures source { result.source ≡ answered.source }
 {
     let Outcome { answer, source } = answered;
+    Outcome {
+        answer: flush_after(answer, blocks),
+        source,
+    }
+}
+
+/// Writes what is pending after a run that answered this, and answers the same, or the output's fault where the inner
+/// output refuses.
+pub(crate) fn flush_after<T: Copy, O: Out>(
+    answer: Result<T, ToolFault>,
+    blocks: &mut LineOut<'_, O>,
+) -> Result<T, ToolFault>
+    ensures ends { EndsFlushed answer result blocks.old.inner blocks.new.inner }
+    ensures moved { MovesFront blocks.old.inner blocks.old.pending blocks.new.inner blocks.new.pending }
+    ensures flushed { IsFlushed result blocks.new.pending }
+{
     if let Err(ToolFault::Out) = answer {
-        return Outcome { answer, source };
+        return answer;
     }
     match blocks.flush() {
-        Ok(()) => Outcome { answer, source },
-        Err(OutFailed) => Outcome {
-            answer: Err(ToolFault::Out),
-            source,
-        },
+        Ok(()) => answer,
+        Err(OutFailed) => Err(ToolFault::Out),
     }
 }

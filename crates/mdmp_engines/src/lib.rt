@@ -13,7 +13,7 @@
 //! (`specs/JsonLines.antt` of mdmp_print); all else is the same. [`objects_are_json_texts`] is the law that of any
 //! file these objects are JSON Lines: each is a line of UTF-8 that reads back as it.
 //! [`summary_source`] prints the summary of a dump, by `specs/SummaryText.antt` of mdmp_summary_lines. If a read fails, it
-//! prints nothing.
+//! prints nothing. [`summary_json_source`] prints it as an object, by `specs/SummaryObject.antt`, through blocks.
 //! A [`ToolFault`] has the exit status of [`status`] and the line of [`fault_line`]; [`report`] writes the line, and
 //! [`report_summary`] with the name of the file in front.
 //!

@@ -1,5 +1,5 @@
 //! The object of `summary --json`.
-ghost use Rattle.std.specs.Prelude.{◌≡◌, ℕ, List, Some, IfOk, false, true, length};
+ghost use Rattle.std.specs.Prelude.{◌≡◌, ◌≤◌, ℕ, List, [], Some, IfOk, false, true, length};
 ghost use Rattle.mdmp_source.specs.Store.{IsGood};
 ghost use Rattle.mdmp_lister.specs.Format.Name.{plain_name};
 ghost use Rattle.mdmp_lister.specs.Walker.{is_failed};
@@ -7,13 +7,13 @@ ghost use Rattle.mdmp_lister.specs.declared.choice.Choice.TheVariants.{All};
 ghost use Rattle.mdmp_summary.specs.BadEntries.{all_items};
 ghost use Rattle.mdmp_summary.specs.Walking.{IsSameListing};
 ghost use Rattle.mdmp_engines.specs.Causes.{HasOutCause, HasSourceCause, IsNoSourceFault};
-ghost use Rattle.mdmp_engines.specs.Engines.{ReadsSource};
+ghost use Rattle.mdmp_engines.specs.Engines.{IsFlushed, ReadsSource};
 ghost use Rattle.mdmp_engines.specs.KeptNames.{kept_names};
-ghost use Rattle.mdmp_engines.specs.ObjectRuns.{IsObjectThrough, LeavesPasses, PrintsAnswer, PrintsObject, PrintsWhileRead, ReadsItems, ReadsLists, ReadsObject, ShowsAll, visit_told};
-ghost use Rattle.mdmp_engines.specs.ObjectVisits.{module_room, thread_room};
-ghost use Rattle.mdmp_engines.specs.SummaryObject.{crashed_id, found_among, lists_text, modules_text, named_object, threads_and_end, threads_text, told_object};
+ghost use Rattle.mdmp_engines.specs.ObjectRuns.{IsObjectThrough, IsQuietObject, LeavesPasses, PrintsAnswer, PrintsObject, PrintsThrough, PrintsWhileRead, ReadsItems, ReadsLists, ReadsObject, ShowsAll, visit_told};
+ghost use Rattle.mdmp_engines.specs.ObjectVisits.{HasSymbolsRoom, module_room, thread_room};
+ghost use Rattle.mdmp_engines.specs.SummaryObject.{crashed_id, found_among, lists_text, modules_text, named_object, symbols_most, threads_and_end, threads_text, told_object};
 
-use crate::engine::refused_beside;
+use crate::engine::{flush_after, refused_beside};
 use crate::fault::{ToolFault, told_list};
 use crate::kept_name::{KeptNames, read_names};
 use crate::module_objects::ModuleObjects;
@@ -21,8 +21,8 @@ use crate::outcome::Outcome;
 use crate::summary::told_summary;
 use crate::thread_objects::ThreadObjects;
 use mdmp_lister::{Choice, Limits, Name, Walker};
-use mdmp_print::Printer;
-use mdmp_source::{OutFailed, Source, Store};
+use mdmp_print::{LineOut, Printer};
+use mdmp_source::{Out, OutFailed, Source, Store};
 use mdmp_summary::{
     Crash, FileSummary, VisitEnd, VisitFault, Visitor, summarize_listing, visit_all,
 };
@@ -30,26 +30,31 @@ use mdmp_summary_lines::{print_summary_end, print_summary_head, print_threads_fr
 use std::alloc::Allocator;
 
 /// Prints the summary of a file as one object of JSON on a line, with all its modules and threads, and hands the source
-/// back. `file` is the file's name. The answer is how many entries are bad.
+/// back. `file` is the file's name. The answer is how many entries are bad. The object reaches the inner output in
+/// blocks, and what is pending at the end, or before an error, is flushed.
 ///
 /// After the passes of a summary, one pass prints the modules and one the threads, each as it is read: no list is
 /// kept. All passes count against the read limit. Outside the listing are read three names, of each module at most
 /// 24 bytes and a name of its CodeView record, and of each thread at most 272 bytes of its context.
 ///
-/// Beside the window, the directory and a name it holds four names, and takes all memory before it prints. If the
-/// store fails or the read limit is reached while it prints, a first part of the object went out.
-pub fn summary_json_source<S: Store + Drop, A: Allocator + Copy, O: Printer>(
+/// Beside the window, the directory and a name it holds four names. Nothing is printed before the summary is made, its
+/// names are read and all memory is taken. If the store fails or the read limit is reached after that, a first part of
+/// the object went out.
+pub fn summary_json_source<S: Store + Drop, A: Allocator + Copy, O: Out>(
     alloc: A,
     source: Source<S>,
     limits: Limits,
     file: &[u8],
-    out: &mut O,
+    blocks: &mut LineOut<'_, O>,
 ) -> Outcome<Result<u64, ToolFault>, S>
-    ensures prints { (bytes : List ℕ) → source.store.content ≡ Some bytes → PrintsObject file.now bytes limits (O.state out.old) result.answer (O.state out.new) }
+    requires { blocks.old.pending ≡ [] }
+    ensures prints { (bytes : List ℕ) → source.store.content ≡ Some bytes → PrintsObject file.now bytes limits blocks.old.inner result.answer blocks.new.inner }
     ensures good { (bytes : List ℕ) → IsGood source.store bytes → IsNoSourceFault result.answer }
-    ensures through { IsObjectThrough limits source result.answer result.source }
+    ensures through { IsObjectThrough limits source blocks.old.inner result.answer result.source blocks.new.inner }
     ensures reads { ReadsSource source result.answer result.source }
-    ensures out_cause { HasOutCause (O.state out.old) result.answer (O.state out.new) }
+    ensures quiet { IsQuietObject result.answer (blocks.new.inner ≡ blocks.old.inner) }
+    ensures out_cause { HasOutCause blocks.old.inner result.answer blocks.new.inner }
+    ensures flushed { IsFlushed result.answer blocks.new.pending }
 {
     let beside = 4 * u64::from(limits.name);
     let mut walker = match Walker::open(alloc, source, limits.leave_memory(beside), Choice::All) {
@@ -63,7 +68,16 @@ pub fn summary_json_source<S: Store + Drop, A: Allocator + Copy, O: Printer>(
     };
     match summarize_listing(&mut walker) {
         Ok(summary) => {
-            let answer = print_object(alloc, &mut walker, limits.name, file, &summary, out);
+            let symbols = symbols_most(limits, summary.counts.modules);
+            let answer = print_object(
+                alloc,
+                &mut walker,
+                limits.name,
+                symbols,
+                file,
+                &summary,
+                blocks,
+            );
             Outcome {
                 answer,
                 source: walker.into_source(),
@@ -77,33 +91,87 @@ pub fn summary_json_source<S: Store + Drop, A: Allocator + Copy, O: Printer>(
 }
 
 /// Reads the names that a summary tells, takes the memory for the name of a symbol file, and prints the object.
-fn print_object<S: Store + Drop, A: Allocator + Copy, O: Printer>(
+fn print_object<S: Store + Drop, A: Allocator + Copy, O: Out>(
     alloc: A,
     walker: &mut Walker<S, A>,
     limit: u32,
+    symbols: u32,
     file: &[u8],
     summary: &FileSummary,
-    out: &mut O,
+    blocks: &mut LineOut<'_, O>,
 ) -> Result<u64, ToolFault>
     requires all { walker.old.list.choice ≡ All }
     requires going { is_failed walker.old.list.stop ≡ false }
     requires limit { limit ≡ walker.old.list.limit }
+    requires symbols { symbols ≤ walker.old.list.limit }
+    requires none { blocks.old.pending ≡ [] }
     ensures prints { (bytes : List ℕ) → walker.old.list.source.store.content ≡ Some bytes
-        → PrintsAnswer (told_object file.now bytes limit summary.now) summary.now.bad.count (O.state out.old) result (O.state out.new) }
-    ensures reads { ReadsObject walker.old result walker.new }
+        → PrintsThrough (told_object file.now bytes limit symbols summary.now) summary.now.bad.count blocks.old.inner result blocks.new.inner }
+    ensures reads { ReadsObject walker.old blocks.old.inner result walker.new blocks.new.inner }
     ensures same { IsSameListing walker.old.list walker.new.list }
     ensures good { (bytes : List ℕ) → IsGood walker.old.list.source.store bytes → IsNoSourceFault result }
     ensures cause { HasSourceCause walker.old.list.source result walker.new.list.source }
-    ensures out_cause { HasOutCause (O.state out.old) result (O.state out.new) }
+    ensures quiet { IsQuietObject result (blocks.new.inner ≡ blocks.old.inner) }
+    ensures out_cause { HasOutCause blocks.old.inner result blocks.new.inner }
+    ensures flushed { IsFlushed result blocks.new.pending }
 {
     let names = match read_names(alloc, walker, summary, limit) {
         Ok(names) => names,
         Err(fault) => return Err(fault),
     };
-    let Ok(buffer) = vec![in alloc; 0; limit as usize] else {
+    let room = symbols_room(walker, symbols);
+    let Ok(buffer) = vec![in alloc; 0; room] else {
         return Err(ToolFault::Memory);
     };
-    print_named(walker, file, summary, &names, buffer, out)
+    print_gathered(walker, file, summary, &names, symbols, buffer, blocks)
+}
+
+/// How many bytes of the name of a symbol file are printed at most, of a file with so many modules: as many as the limit
+/// of names says, and no more than the share of each module in the limit of what is read aside. A record begins with
+/// 24 bytes, which are read in any case.
+fn symbols_most(limits: Limits, modules: u128) -> u32
+    ensures value { result ≡ symbols_most limits modules }
+    ensures within { result ≤ limits.name }
+{
+    let Some(aside) = limits.aside else {
+        return limits.name;
+    };
+    let share = u128::from(aside) / modules.max(1);
+    share.saturating_sub(24).min(u128::from(limits.name)) as u32
+}
+
+/// How many bytes the name of a symbol file has at most: as many as the limit, and no more than the file.
+fn symbols_room<S: Store + Drop, A: Allocator + Copy>(walker: &Walker<S, A>, limit: u32) -> usize
+    ensures { HasSymbolsRoom walker.now.list.source.store.content limit result }
+{
+    u64::from(limit).min(walker.size()) as usize
+}
+
+/// Prints the object of a summary with these names by few writes: what is pending at the end, or before an error, is
+/// flushed.
+fn print_gathered<S: Store + Drop, A: Allocator + Copy, O: Out>(
+    walker: &mut Walker<S, A>,
+    file: &[u8],
+    summary: &FileSummary,
+    names: &KeptNames<A>,
+    symbols: u32,
+    buffer: Vec<u8, A>,
+    blocks: &mut LineOut<'_, O>,
+) -> Result<u64, ToolFault>
+    requires all { walker.old.list.choice ≡ All }
+    requires going { is_failed walker.old.list.stop ≡ false }
+    requires symbols { symbols ≤ walker.old.list.limit }
+    requires room { HasSymbolsRoom walker.old.list.source.store.content symbols (length buffer.items) }
+    requires none { blocks.old.pending ≡ [] }
+    ensures prints { (bytes : List ℕ) → walker.old.list.source.store.content ≡ Some bytes
+        → PrintsThrough (named_object file.now bytes walker.old.list.limit symbols summary.now (kept_names names.now)) summary.now.bad.count blocks.old.inner result blocks.new.inner }
+    ensures leaves { LeavesPasses 2 walker.old result walker.new }
+    ensures out_cause { HasOutCause blocks.old.inner result blocks.new.inner }
+    ensures reads { ReadsLists walker.old.list.limit walker.old.list.source.store.content result walker.old.list.counts.aside walker.new.list.counts.aside }
+    ensures flushed { IsFlushed result blocks.new.pending }
+{
+    let answer = print_named(walker, file, summary, names, symbols, buffer, blocks);
+    flush_after(answer, blocks)
 }
 
 /// Prints the object of a summary with these names.
@@ -112,14 +180,16 @@ fn print_named<S: Store + Drop, A: Allocator + Copy, O: Printer>(
     file: &[u8],
     summary: &FileSummary,
     names: &KeptNames<A>,
+    symbols: u32,
     buffer: Vec<u8, A>,
     out: &mut O,
 ) -> Result<u64, ToolFault>
     requires all { walker.old.list.choice ≡ All }
     requires going { is_failed walker.old.list.stop ≡ false }
-    requires room { length buffer.items ≡ walker.old.list.limit }
+    requires symbols { symbols ≤ walker.old.list.limit }
+    requires room { HasSymbolsRoom walker.old.list.source.store.content symbols (length buffer.items) }
     ensures prints { (bytes : List ℕ) → walker.old.list.source.store.content ≡ Some bytes
-        → PrintsAnswer (named_object file.now bytes walker.old.list.limit summary.now (kept_names names.now)) summary.now.bad.count (O.state out.old) result (O.state out.new) }
+        → PrintsAnswer (named_object file.now bytes walker.old.list.limit symbols summary.now (kept_names names.now)) summary.now.bad.count (O.state out.old) result (O.state out.new) }
     ensures leaves { LeavesPasses 2 walker.old result walker.new }
     ensures out_cause { HasOutCause (O.state out.old) result (O.state out.new) }
     ensures reads { ReadsLists walker.old.list.limit walker.old.list.source.store.content result walker.old.list.counts.aside walker.new.list.counts.aside }
@@ -130,7 +200,7 @@ fn print_named<S: Store + Drop, A: Allocator + Copy, O: Printer>(
         Err(OutFailed) => return Err(ToolFault::Out),
     }
     let thread = names.thread.lend();
-    match print_lists(walker, summary, &thread, buffer, out) {
+    match print_lists(walker, summary, &thread, symbols, buffer, out) {
         Ok(()) => Ok(summary.bad.count),
         Err(fault) => Err(fault),
     }
@@ -141,14 +211,16 @@ fn print_lists<S: Store + Drop, A: Allocator + Copy, O: Printer>(
     walker: &mut Walker<S, A>,
     summary: &FileSummary,
     thread: &Name<'_>,
+    symbols: u32,
     buffer: Vec<u8, A>,
     out: &mut O,
 ) -> Result<(), ToolFault>
     requires all { walker.old.list.choice ≡ All }
     requires going { is_failed walker.old.list.stop ≡ false }
-    requires room { length buffer.items ≡ walker.old.list.limit }
+    requires symbols { symbols ≤ walker.old.list.limit }
+    requires room { HasSymbolsRoom walker.old.list.source.store.content symbols (length buffer.items) }
     ensures prints { (file : List ℕ) → walker.old.list.source.store.content ≡ Some file
-        → PrintsWhileRead (lists_text file walker.old.list.limit summary.now (plain_name thread.now) (all_items file walker.old.list.limit)) (O.state out.old) result (O.state out.new) }
+        → PrintsWhileRead (lists_text file symbols summary.now (plain_name thread.now) (all_items file walker.old.list.limit)) (O.state out.old) result (O.state out.new) }
     ensures leaves { LeavesPasses 2 walker.old result walker.new }
     ensures out_cause { HasOutCause (O.state out.old) result (O.state out.new) }
     ensures reads { ReadsLists walker.old.list.limit walker.old.list.source.store.content result walker.old.list.counts.aside walker.new.list.counts.aside }

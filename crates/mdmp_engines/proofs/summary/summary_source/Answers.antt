@@ -2,7 +2,6 @@ use Rattle.std.proofs.Common.{◌≡◌, ◌∙◌, ◌*◌, ℕ, None, Err, ap,
 use Rattle.std.specs.Prelude.{IfErr}
 use Rattle.mdmp_source.specs.Source.{FetchesAtMost, SourceState}
 use Rattle.mdmp_source.specs.SourceLaws.{fetches_then}
-use Rattle.mdmp_source.specs.Store.{IsGood}
 use Rattle.mdmp_lister.specs.Memory.{IsWalkRefusal, walk_fault}
 use Rattle.mdmp_lister.specs.Refused.{IsRefusedWalker}
 use Rattle.mdmp_lister.specs.Walker.{IsNewWalker}

@@ -1,4 +1,4 @@
-use Rattle.std.proofs.Common.{◌≡◌, ◌∙◌, ◌++◌, ℕ, List, Err, Ok, ap, refl, subst, sym}
+use Rattle.std.proofs.Common.{◌≡◌, ◌∙◌, ℕ, List, Err, ap, refl, subst, sym}
 use Rattle.mdmp_source.specs.Output.{PutsAll, PutsPrefix}
 use Rattle.mdmp_source.specs.OutputLaws.{PutsAll-PutsAll, PutsPrefix-front}
 use Rattle.mdmp_lister.specs.declared.name.Name.{Name}
@@ -8,7 +8,7 @@ use Rattle.mdmp_engines.specs.KeptNames.{kept_names}
 use Rattle.mdmp_engines.specs.ObjectRuns.{PrintsWhileRead}
 use Rattle.mdmp_engines.specs.SummaryObject.{lists_text}
 use Rattle.mdmp_engines.proofs.HeadNames.{head-plain}
-use Rattle.mdmp_engines.proofs.ObjectPasses.{leaves_none, out_then, prints_answer, reads_neither}
+use Rattle.mdmp_engines.proofs.ObjectPasses.{leaves_none, prints_answer, reads_neither}
 use Rattle.mdmp_engines.proofs.summary_json.print_named.Goals as goal
 
 -- ---- the output refused before the lists
@@ -22,7 +22,7 @@ returns-in-Err-clause-prints g c = λ bytes known.
     let after = g.O.Printer.state c.print_summary_head.new.out in
     let head : summary_head_text c.args.file.now summary c.lend-told.result ≡ summary_head_text c.args.file.now summary (kept_names names) =
     sym (head-plain c.args.file.now summary c.lend-told.result) ∙ ap (summary_head_text c.args.file.now summary) c.lend-told.ensures in
-    PutsPrefix-front before after (summary_head_text c.args.file.now summary (kept_names names)) (lists_text bytes limit summary (kept_names names).thread (all_items bytes limit))
+    PutsPrefix-front before after (summary_head_text c.args.file.now summary (kept_names names)) (lists_text bytes c.args.symbols summary (kept_names names).thread (all_items bytes limit))
     (subst (λ (t : List ℕ). PutsPrefix before t after) head c.in-Err.ensures)
 
 pub returns-in-Err-clause-leaves : goal.returns-in-Err-clause-leaves
@@ -44,9 +44,9 @@ returns-in-Ok-print_lists-clause-prints g c = λ bytes known.
     let head : summary_head_text c.args.file.now summary c.lend-told.result ≡ summary_head_text c.args.file.now summary (kept_names names) =
     sym (head-plain c.args.file.now summary c.lend-told.result) ∙ ap (summary_head_text c.args.file.now summary) c.lend-told.ensures in (
       refl,
-      PutsAll-PutsAll before mid after (summary_head_text c.args.file.now summary (kept_names names)) (lists_text bytes limit summary (kept_names names).thread (all_items bytes limit))
+      PutsAll-PutsAll before mid after (summary_head_text c.args.file.now summary (kept_names names)) (lists_text bytes c.args.symbols summary (kept_names names).thread (all_items bytes limit))
           (subst (λ (t : List ℕ). PutsAll before t mid) head c.in-Ok.ensures)
-          (subst (λ (n : Name). PutsAll mid (lists_text bytes limit summary n (all_items bytes limit)) after) c.lend-thread.ensures (c.in-Ok-print_lists.ensures.prints bytes known)),
+          (subst (λ (n : Name). PutsAll mid (lists_text bytes c.args.symbols summary n (all_items bytes limit)) after) c.lend-thread.ensures (c.in-Ok-print_lists.ensures.prints bytes known)),
     )
 
 pub returns-in-Err-print_lists-clause-prints : goal.returns-in-Err-print_lists-clause-prints
@@ -60,6 +60,6 @@ returns-in-Err-print_lists-clause-prints g c = λ bytes known.
     let fault = c.in-Err-print_lists.fault in
     let head : summary_head_text c.args.file.now summary c.lend-told.result ≡ summary_head_text c.args.file.now summary (kept_names names) =
     sym (head-plain c.args.file.now summary c.lend-told.result) ∙ ap (summary_head_text c.args.file.now summary) c.lend-told.ensures in
-    prints_answer (Unit {0}) summary.bad.count fault before mid after (summary_head_text c.args.file.now summary (kept_names names)) (lists_text bytes limit summary (kept_names names).thread (all_items bytes limit))
+    prints_answer (Unit {0}) summary.bad.count fault before mid after (summary_head_text c.args.file.now summary (kept_names names)) (lists_text bytes c.args.symbols summary (kept_names names).thread (all_items bytes limit))
     (subst (λ (t : List ℕ). PutsAll before t mid) head c.in-Ok.ensures)
-    (subst (λ (n : Name). PrintsWhileRead {T = Unit {0}} (lists_text bytes limit summary n (all_items bytes limit)) mid (Err fault) after) c.lend-thread.ensures (c.in-Err-print_lists.ensures.prints bytes known))
+    (subst (λ (n : Name). PrintsWhileRead {T = Unit {0}} (lists_text bytes c.args.symbols summary n (all_items bytes limit)) mid (Err fault) after) c.lend-thread.ensures (c.in-Err-print_lists.ensures.prints bytes known))

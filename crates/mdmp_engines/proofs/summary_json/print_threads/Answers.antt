@@ -1,11 +1,11 @@
-use Rattle.std.proofs.Common.{rules, ◌≡◌, ◌∙◌, ◌++◌, ℕ, List, None, Option, Err, ap, subst, sym}
+use Rattle.std.proofs.Common.{rules, ◌∙◌, ◌++◌, ℕ, None, Option, Err, ap, subst}
 use Rattle.mdmp_source.specs.Output.{OutState, PutsAll, PutsPrefix}
 use Rattle.mdmp_source.specs.OutputLaws.{PutsAll-PutsAll, PutsPrefix-last}
 use Rattle.mdmp_lister.specs.Format.Name.{plain_name}
 use Rattle.mdmp_summary.specs.BadEntries.{all_items}
 use Rattle.mdmp_summary_lines.specs.JsonEnd.{summary_end_text}
 use Rattle.mdmp_engines.specs.ObjectRuns.{PrintsWhileRead}
-use Rattle.mdmp_engines.specs.SummaryObject.{CrashedThread, crashed_id, found_among, threads_text}
+use Rattle.mdmp_engines.specs.SummaryObject.{crashed_id, found_among, threads_text}
 use Rattle.mdmp_engines.proofs.ObjectPasses.{prints_front, refused_pass}
 use Rattle.mdmp_engines.proofs.summary_json.print_threads.Goals as goal
 

@@ -1,8 +1,9 @@
-use Rattle.std.proofs.Common.{◌≡◌, Ok, Err, ap, refl, subst, sym}
+use Rattle.std.proofs.Common.{Ok, Err, ap, refl, subst, sym}
 use Rattle.mdmp_summary.specs.declared.bad_entries.BadEntries.{BadEntries}
 use Rattle.mdmp_engines.specs.Causes.{HasBudgetCause, HasSourceCause, IsNoSourceFault}
+use Rattle.mdmp_engines.specs.ObjectRuns.{IsPrintEnd}
 use Rattle.mdmp_engines.specs.declared.fault.ToolFault.{ToolFault}
-use Rattle.mdmp_engines.proofs.ObjectsTold.{cause_visit, good_visit, over_visit, unread_pass, visited_err}
+use Rattle.mdmp_engines.proofs.ObjectsTold.{cause_visit, good_visit, over_visit, stops_visit, unread_pass, visited_err}
 use Rattle.mdmp_engines.proofs.summary_json.show_all.Goals as goal
 
 pub returns-in-Ok-clause-shows : goal.returns-in-Ok-clause-shows
@@ -13,7 +14,7 @@ returns-in-Ok-clause-shows g c =
 pub returns-in-Ok-clause-leaves : goal.returns-in-Ok-clause-leaves
 returns-in-Ok-clause-leaves g c =
     let of = c.in-Ok.ensures in
-    record { pays = of.pays; same = of.same; good = λ file good. tt; cause = tt; over = tt; going = of.going }
+    record { pays = of.pays; same = of.same; good = λ file good. tt; cause = tt; over = tt; going = of.going; stops = tt }
 
 pub returns-in-Err-clause-shows : goal.returns-in-Err-clause-shows
 returns-in-Err-clause-shows g c =
@@ -46,4 +47,5 @@ returns-in-Err-clause-leaves g c =
       cause = subst (λ (f : ToolFault). HasSourceCause {T = Unit {0}} old.source (Err f) new.source) (sym c.told_visit.ensures) (cause_visit (Unit {0}) old new fault of.fault);
       over = subst (λ (f : ToolFault). HasBudgetCause {T = Unit {0}} (Err f) new) (sym c.told_visit.ensures) (over_visit (Unit {0}) old new fault of.fault);
       going = tt;
+      stops = subst (λ (f : ToolFault). IsPrintEnd {T = Unit {0}} (Err f)) (sym c.told_visit.ensures) (stops_visit (Unit {0}) fault (unread_pass old new fault of.fault));
     }

@@ -1,4 +1,4 @@
-use Rattle.std.proofs.Common.{◌≡◌, List, ℕ, length, subst, sym}
+use Rattle.std.proofs.Common.{List, ℕ, length, subst, sym}
 use Rattle.std.specs.Prelude.{Result}
 use Rattle.mdmp_summary.specs.BadEntries.{all_items}
 use Rattle.mdmp_engines.specs.Causes.{HasOutCause}

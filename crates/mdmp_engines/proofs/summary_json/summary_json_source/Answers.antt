@@ -10,13 +10,14 @@ use Rattle.mdmp_summary.proofs.Told.{good_still}
 use Rattle.mdmp_summary.specs.SpendingLaws.{spends_both}
 use Rattle.mdmp_summary.specs.Summary.{file_summary}
 use Rattle.mdmp_summary.specs.declared.summary.FileSummary.{FileSummary}
-use Rattle.mdmp_engines.proofs.ObjectNames.{unread_answer, unread_steady}
+use Rattle.mdmp_engines.proofs.ObjectBlocks.{still_flushed}
+use Rattle.mdmp_engines.proofs.ObjectNames.{quiet_untouched, unread_answer, unread_steady}
 use Rattle.mdmp_engines.proofs.Summarizing.{cause-refused, cause-unread, good-refused, good-unread, is_unread, out-refused}
 use Rattle.mdmp_engines.proofs.Symbols.{cause_then}
 use Rattle.mdmp_engines.specs.Causes.{HasOutCause, HasSourceCause, IsNoSourceFault}
 use Rattle.mdmp_engines.specs.Engines.{ReadsSource}
-use Rattle.mdmp_engines.specs.ObjectRuns.{IsObjectThrough, PrintsAnswer, PrintsObject, object_held, within_object}
-use Rattle.mdmp_engines.specs.SummaryObject.{object_text, told_object}
+use Rattle.mdmp_engines.specs.ObjectRuns.{IsObjectThrough, PrintsThrough, PrintsObject, object_held, within_object}
+use Rattle.mdmp_engines.specs.SummaryObject.{limited_object, object_text}
 use Rattle.mdmp_engines.specs.SummaryRuns.{summary_told}
 use Rattle.mdmp_engines.specs.Telling.{opening_beside}
 use Rattle.mdmp_engines.specs.declared.fault.ToolFault.{ToolFault}
@@ -43,7 +44,7 @@ returns-in-Err-clause-through g c =
     let held : 4 * c.from-beside.result ≡ object_held c.args.limits = ap (λ (n : ℕ). 4 * n) c.from-beside.ensures in
     let within : c.leave_memory.result ≡ within_object c.args.limits = rw held at c.leave_memory.ensures in
     IsObjectThrough.refused fault (subst (λ (l : Limits). IsRefusedWalker l c.args.source fault c.in-Err.refused.source) within c.in-Err.ensures.refused)
-    (ap Err (c.refused_beside.ensures ∙ ap (λ (n : ℕ). opening_beside n fault) held))
+    (ap Err (c.refused_beside.ensures ∙ ap (λ (n : ℕ). opening_beside n fault) held)) refl
 
 pub returns-in-Err-clause-reads : goal.returns-in-Err-clause-reads
 returns-in-Err-clause-reads g c =
@@ -56,8 +57,14 @@ returns-in-Err-clause-reads g c =
 
 pub returns-in-Err-clause-out_cause : goal.returns-in-Err-clause-out_cause
 returns-in-Err-clause-out_cause g c =
-    let before = g.O.Printer.state c.args.out.now in
+    let before = c.args.blocks.now.inner in
     subst (λ (f : ToolFault). HasOutCause {T = ℕ} before (Err f) before) (sym c.refused_beside.ensures) (out-refused _ c.in-Err.refused.fault before)
+
+pub returns-in-Err-clause-quiet : goal.returns-in-Err-clause-quiet
+returns-in-Err-clause-quiet g c = quiet_untouched (Err c.refused_beside.result) _ refl
+
+pub returns-in-Err-clause-flushed : goal.returns-in-Err-clause-flushed
+returns-in-Err-clause-flushed g c = still_flushed (Err c.refused_beside.result) c.args.blocks.now.pending c.requires
 
 -- ---- the passes were made
 
@@ -68,11 +75,11 @@ returns-in-Ok-summarize_listing-clause-prints g c = λ bytes known.
     let sums = c.in-Ok-summarize_listing.ensures in
     let now = new.fetches.same_content ∙ known in
     let limit = new.list.asked.limit_is ∙ ap (λ (l : Limits). l.name) within in
-    let before = g.O.Printer.state c.args.out.now in
-    let after = g.O.Printer.state c.print_object-answer.new.out in
+    let before = c.args.blocks.now.inner in
+    let after = c.print_object-answer.new.blocks.inner in
     PrintsObject.printed (subst (λ (l : Limits). walk_fault l bytes ≡ None) within (c.in-Ok.ensures.within bytes known))
-    (subst (λ (s : FileSummary). PrintsAnswer (told_object c.args.file.now bytes c.args.limits.name s) s.bad.count before c.print_object-answer.result after) (sums.sums bytes now ∙ ap (file_summary bytes) limit)
-    (c.print_object-answer.ensures.prints bytes (sums.same.same_file.fetches.same_content ∙ now)))
+    (subst (λ (s : FileSummary). PrintsThrough (limited_object c.args.file.now bytes c.args.limits s) s.bad.count before c.print_object-answer.result after) (sums.sums bytes now ∙ ap (file_summary bytes) limit)
+    (rw c.symbols_most-symbols.ensures.value at (c.print_object-answer.ensures.prints bytes (sums.same.same_file.fetches.same_content ∙ now))))
 
 pub returns-in-Ok-summarize_listing-clause-good : goal.returns-in-Ok-summarize_listing-clause-good
 returns-in-Ok-summarize_listing-clause-good g c = λ bytes good.
@@ -105,11 +112,11 @@ pub returns-in-Err-summarize_listing-clause-prints : goal.returns-in-Err-summari
 returns-in-Err-summarize_listing-clause-prints g c = λ bytes known.
     let within : c.leave_memory.result ≡ within_object c.args.limits = rw (ap (λ (n : ℕ). 4 * n) c.from-beside.ensures) at c.leave_memory.ensures in
     let fault = c.in-Err-summarize_listing.fault in
-    let before = g.O.Printer.state c.args.out.now in
+    let before = c.args.blocks.now.inner in
     let limit = c.args.limits.name in
     PrintsObject.printed (subst (λ (l : Limits). walk_fault l bytes ≡ None) within (c.in-Ok.ensures.within bytes known))
-    (subst (λ (f : ToolFault). PrintsAnswer (object_text c.args.file.now bytes limit) (file_summary bytes limit).bad.count before (Err f) before) (sym c.told_summary.ensures)
-    (unread_answer (summary_told fault) (object_text c.args.file.now bytes limit) (file_summary bytes limit).bad.count before
+    (subst (λ (f : ToolFault). PrintsThrough (object_text c.args.file.now bytes c.args.limits) (file_summary bytes limit).bad.count before (Err f) before) (sym c.told_summary.ensures)
+    (unread_answer (summary_told fault) (object_text c.args.file.now bytes c.args.limits) (file_summary bytes limit).bad.count before
     (is_unread c.in-Ok.walker.list c.summarize_listing.new.walker.list fault c.in-Err-summarize_listing.ensures.fault)))
 
 pub returns-in-Err-summarize_listing-clause-good : goal.returns-in-Err-summarize_listing-clause-good
@@ -125,7 +132,7 @@ returns-in-Err-summarize_listing-clause-through g c =
     let ended = c.summarize_listing.new.walker in
     IsObjectThrough.unread opened ended c.in-Err-summarize_listing.fault (subst (λ (l : Limits). IsNewWalker c.args.source All l opened) within c.in-Ok.ensures.new)
     (spends_both c.summarize_listing.result opened ended c.summarize_listing.ensures.spends) c.in-Err-summarize_listing.ensures.same
-    c.in-Err-summarize_listing.ensures.fault (ap Err c.told_summary.ensures) c.into_source-in-Err-summarize_listing.ensures.value
+    c.in-Err-summarize_listing.ensures.fault (ap Err c.told_summary.ensures) c.into_source-in-Err-summarize_listing.ensures.value refl
 
 pub returns-in-Err-summarize_listing-clause-reads : goal.returns-in-Err-summarize_listing-clause-reads
 returns-in-Err-summarize_listing-clause-reads g c =
@@ -142,7 +149,13 @@ returns-in-Err-summarize_listing-clause-reads g c =
 
 pub returns-in-Err-summarize_listing-clause-out_cause : goal.returns-in-Err-summarize_listing-clause-out_cause
 returns-in-Err-summarize_listing-clause-out_cause g c =
-    let before = g.O.Printer.state c.args.out.now in
+    let before = c.args.blocks.now.inner in
     let fault = c.in-Err-summarize_listing.fault in
     subst (λ (f : ToolFault). HasOutCause {T = ℕ} before (Err f) before) (sym c.told_summary.ensures)
     (unread_steady (summary_told fault) before (is_unread c.in-Ok.walker.list c.summarize_listing.new.walker.list fault c.in-Err-summarize_listing.ensures.fault))
+
+pub returns-in-Err-summarize_listing-clause-quiet : goal.returns-in-Err-summarize_listing-clause-quiet
+returns-in-Err-summarize_listing-clause-quiet g c = quiet_untouched (Err c.told_summary.result) _ refl
+
+pub returns-in-Err-summarize_listing-clause-flushed : goal.returns-in-Err-summarize_listing-clause-flushed
+returns-in-Err-summarize_listing-clause-flushed g c = still_flushed (Err c.told_summary.result) c.args.blocks.now.pending c.requires
