@@ -124,7 +124,11 @@ const BAD: [ToldRow<'static>; 27] = [
 ];
 
 /// Asserts that these words are refused by this line, and open nothing.
-fn assert_told<R: Files + AllocGlobal + Abort>(rt: &R, alloc: Global, rows: &[ToldRow<'_>]) {
+fn assert_told<R: Files + Input + AllocGlobal + Abort>(
+    rt: &R,
+    alloc: Global,
+    rows: &[ToldRow<'_>],
+) {
     for &(words, told) in rows {
         let ending = (CommandCall::Line(words), (2, "", told), None, (0, 0, 0));
         assert_each_ends(rt, alloc, &[ending]);

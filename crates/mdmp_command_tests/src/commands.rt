@@ -431,7 +431,7 @@ fn status_of_store(
 }
 
 /// Runs a command.
-fn done_by<R: Files + AllocGlobal + Abort>(
+fn done_by<R: Files + Input + AllocGlobal + Abort>(
     rt: &R,
     alloc: Global,
     heap: &MeteredHeap<Global>,
@@ -462,7 +462,7 @@ fn done_by<R: Files + AllocGlobal + Abort>(
 }
 
 /// A heap that refuses this growth.
-fn heap_without(alloc: Global, growth: Option<u64>) -> MeteredHeap<Global> {
+pub fn heap_without(alloc: Global, growth: Option<u64>) -> MeteredHeap<Global> {
     let refusal = match growth {
         Some(number) => Refusal::Only(number),
         None => Refusal::Never,
@@ -499,7 +499,7 @@ pub fn ended(
 }
 
 /// Runs a command, and gives what came of it.
-pub fn run<R: Files + AllocGlobal + Abort>(
+pub fn run<R: Files + Input + AllocGlobal + Abort>(
     rt: &R,
     alloc: Global,
     call: CommandCall<'_>,

@@ -193,7 +193,7 @@ const TAKES_NOTHING: Outlet = Outlet {
 };
 
 /// Asserts how a command ends in a trial, what it made, and what it asked of its disk.
-fn assert_ends<R: Files + AllocGlobal + Abort>(
+fn assert_ends<R: Files + Input + AllocGlobal + Abort>(
     rt: &R,
     alloc: Global,
     (call, wanted, made, requests): EndingRow<'_>,
@@ -208,7 +208,7 @@ fn assert_ends<R: Files + AllocGlobal + Abort>(
 }
 
 /// Asserts how commands end, and that an output that takes nothing of what is told changes nothing.
-pub fn assert_each_ends<R: Files + AllocGlobal + Abort>(
+pub fn assert_each_ends<R: Files + Input + AllocGlobal + Abort>(
     rt: &R,
     alloc: Global,
     rows: &[EndingRow<'_>],
@@ -249,7 +249,7 @@ const REFUSED: [CommandCall<'static>; 8] = [
 ];
 
 /// Asserts that words are refused, and ask nothing of the disk.
-fn assert_refused<R: Files + AllocGlobal + Abort>(
+fn assert_refused<R: Files + Input + AllocGlobal + Abort>(
     rt: &R,
     alloc: Global,
     calls: &[CommandCall<'_>],

@@ -12,7 +12,7 @@ use std::rt::Files;
 
 /// Asserts that an output that takes so many bytes of what is written has the first of them, and that this is
 /// told.
-fn assert_cut<R: Files + AllocGlobal + Abort>(
+fn assert_cut<R: Files + Input + AllocGlobal + Abort>(
     rt: &R,
     alloc: Global,
     call: CommandCall<'_>,
@@ -27,7 +27,11 @@ fn assert_cut<R: Files + AllocGlobal + Abort>(
 }
 
 /// Asserts it of each byte of what is written.
-fn assert_swept<R: Files + AllocGlobal + Abort>(rt: &R, alloc: Global, calls: &[CommandCall<'_>]) {
+fn assert_swept<R: Files + Input + AllocGlobal + Abort>(
+    rt: &R,
+    alloc: Global,
+    calls: &[CommandCall<'_>],
+) {
     for call in calls {
         let whole = run(rt, alloc, *call, &GOOD);
         let size = written(&whole).len();
@@ -128,7 +132,7 @@ const FULL: [CutRow<'static>; 22] = [
 ];
 
 /// Asserts that outputs that take less than all have the first bytes.
-fn assert_full<R: Files + AllocGlobal + Abort>(rt: &R, alloc: Global, rows: &[CutRow<'_>]) {
+fn assert_full<R: Files + Input + AllocGlobal + Abort>(rt: &R, alloc: Global, rows: &[CutRow<'_>]) {
     for &(command, all, call, fail_at) in rows {
         let whole = run(rt, alloc, command, &GOOD);
         let room = Room { all, call };
@@ -146,7 +150,7 @@ fn output_that_is_full_has_the_first_bytes(rt: HostRuntime) {
 
 /// Asserts that what is told has its first bytes, whichever of its calls fails, and that the status and what is
 /// written are the same.
-fn assert_told_in_part<R: Files + AllocGlobal + Abort>(
+fn assert_told_in_part<R: Files + Input + AllocGlobal + Abort>(
     rt: &R,
     alloc: Global,
     out: Outlet,

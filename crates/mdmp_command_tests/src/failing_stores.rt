@@ -52,7 +52,7 @@ const STAGED: [StagedRow<'static>; 5] = [
 ];
 
 /// A run over a store that gives one byte a call, and fails at the call of this number.
-fn by_bytes<R: Files + AllocGlobal + Abort>(
+fn by_bytes<R: Files + Input + AllocGlobal + Abort>(
     rt: &R,
     alloc: Global,
     call: CommandCall<'_>,
@@ -77,7 +77,7 @@ fn assert_failed(rt: &impl Abort, alloc: Global, ran: &Ran, at: u64, start: &[u8
 }
 
 /// Asserts what is printed and told, whichever read fails, and how it ends where that is none.
-fn assert_stages<R: Files + AllocGlobal + Abort>(
+fn assert_stages<R: Files + Input + AllocGlobal + Abort>(
     rt: &R,
     alloc: Global,
     (call, wanted, stages): StagedRow<'_>,
@@ -118,7 +118,7 @@ const COPY: CommandCall<'static> = CommandCall::Copy(&[3, 6], SmallFile::Six);
 const READS: u64 = 32 + 72 + 3 * (52 + 168) + 14;
 
 /// Asserts that a copy has a first part, whichever read fails, and is whole where that is none of them.
-fn assert_copies<R: Files + AllocGlobal + Abort>(rt: &R, alloc: Global) {
+fn assert_copies<R: Files + Input + AllocGlobal + Abort>(rt: &R, alloc: Global) {
     let crash = file_of_numbers(alloc, 2, &CRASH).expect(rt, "memory for a file");
     for fail_at in 0..READS {
         let ran = by_bytes(rt, alloc, COPY, LEAST, fail_at);
@@ -178,7 +178,7 @@ const READING: [ReadingRow<'static>; 6] = [
 ];
 
 /// Asserts that each read of a command line may fail, and how it ends where none does.
-fn assert_reads<R: Files + AllocGlobal + Abort>(
+fn assert_reads<R: Files + Input + AllocGlobal + Abort>(
     rt: &R,
     alloc: Global,
     (words, wanted, made, reads): ReadingRow<'_>,

@@ -3,7 +3,7 @@ use std::alloc::{Alloc, Allocator};
 use std::cell::Cell;
 use std::fs::{Metadata, OpenFile, OpenOptions};
 use std::io;
-use std::io::{ErrorKind, Read, Seek, SeekFrom, Write};
+use std::io::{ErrorKind, Lines, Read, Seek, SeekFrom, Write};
 use std::rt::Files;
 
 /// The calls of files of a runtime.
@@ -58,6 +58,23 @@ impl<R: Alloc> Alloc for FailingSystem<'_, '_, R> {
 
     fn alloc(&self) -> R::A {
         self.rt.alloc()
+    }
+}
+
+/// Standard input is that of the runtime, and does not fail.
+impl<R: Input> Input for FailingSystem<'_, '_, R> {
+    type Reader = R::Reader;
+
+    fn read_line<A: Allocator + Clone>(&self, buf: &mut String<A>) -> io::Result<usize> {
+        self.rt.read_line(buf)
+    }
+
+    fn lines<A: Allocator>(&self, alloc: A) -> Lines<R::Reader, A> {
+        self.rt.lines(alloc)
+    }
+
+    fn reader(&self) -> R::Reader {
+        self.rt.reader()
     }
 }
 

@@ -13,7 +13,7 @@ use std::rt::Files;
 type GrownEnd<'a> = (Ending<'a>, Option<usize>, u64);
 
 /// What comes of a command whose growth with this number is refused, and of no other.
-fn run_without<R: Files + AllocGlobal + Abort>(
+fn run_without<R: Files + Input + AllocGlobal + Abort>(
     rt: &R,
     alloc: Global,
     call: CommandCall<'_>,
@@ -37,7 +37,7 @@ fn assert_grown(rt: &impl Abort, ran: &Ran, (end, made, growths): GrownEnd<'_>) 
 
 /// Asserts how a command ends by so many growths, and that each of these may be refused: that is told, nothing is
 /// written but an empty file, and no block is asked for behind it.
-fn assert_grows<R: Files + AllocGlobal + Abort>(
+fn assert_grows<R: Files + Input + AllocGlobal + Abort>(
     rt: &R,
     alloc: Global,
     call: CommandCall<'_>,
@@ -100,7 +100,11 @@ fn each_growth_over_a_store_may_be_refused(rt: HostRuntime) {
 type GrownLine<'a> = (&'a [&'a str], GrownEnd<'a>);
 
 /// Asserts how each command line ends over a disk in memory, as a program, and over files of the system.
-fn assert_lines<R: Files + AllocGlobal + Abort>(rt: &R, alloc: Global, lines: &[GrownLine<'_>]) {
+fn assert_lines<R: Files + Input + AllocGlobal + Abort>(
+    rt: &R,
+    alloc: Global,
+    lines: &[GrownLine<'_>],
+) {
     write_files(rt, alloc);
     for &(words, wanted) in lines {
         for call in [
@@ -418,7 +422,11 @@ const ASKING: [AskingLine<'static>; 14] = [
 ];
 
 /// Asserts the status of each command line, and what it asks for.
-fn assert_asked<R: Files + AllocGlobal + Abort>(rt: &R, alloc: Global, lines: &[AskingLine<'_>]) {
+fn assert_asked<R: Files + Input + AllocGlobal + Abort>(
+    rt: &R,
+    alloc: Global,
+    lines: &[AskingLine<'_>],
+) {
     write_files(rt, alloc);
     for &(words, growth, status, growths, bytes) in lines {
         for call in [
@@ -457,7 +465,11 @@ const COPY: CommandCall<'static> = CommandCall::Line(&[
 
 /// Asserts how a copy ends whose file's growth with this number alone is refused. Tells whether there is one. The
 /// first growth is the name of the file.
-fn is_growth_of_file<R: Files + AllocGlobal + Abort>(rt: &R, alloc: Global, number: u64) -> bool {
+fn is_growth_of_file<R: Files + Input + AllocGlobal + Abort>(
+    rt: &R,
+    alloc: Global,
+    number: u64,
+) -> bool {
     let disk_growth = Some(number);
     let ran = run(
         rt,
@@ -486,7 +498,7 @@ fn is_growth_of_file<R: Files + AllocGlobal + Abort>(rt: &R, alloc: Global, numb
 }
 
 /// How many growths of a file that is made were refused, one after the other.
-fn growths_of_file<R: Files + AllocGlobal + Abort>(rt: &R, alloc: Global) -> u64 {
+fn growths_of_file<R: Files + Input + AllocGlobal + Abort>(rt: &R, alloc: Global) -> u64 {
     for number in 0..20 {
         if !is_growth_of_file(rt, alloc, number) {
             return number;
@@ -502,7 +514,7 @@ fn each_growth_of_a_file_that_is_made_may_be_refused(rt: HostRuntime) {
 }
 
 /// Asserts that a file whose name was refused is made later.
-fn assert_made_later<R: Files + AllocGlobal + Abort>(rt: &R, alloc: Global) {
+fn assert_made_later<R: Files + Input + AllocGlobal + Abort>(rt: &R, alloc: Global) {
     let trial = Trial {
         disk_growth: Some(0),
         times: 2,

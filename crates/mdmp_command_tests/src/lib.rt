@@ -33,6 +33,8 @@ mod shown_names;
 #[cfg(test)]
 mod spread_files;
 #[cfg(test)]
+mod standard_input;
+#[cfg(test)]
 mod summaries;
 #[cfg(test)]
 mod system_calls;

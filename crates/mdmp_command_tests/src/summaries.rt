@@ -1,7 +1,11 @@
 //! `summary` of one file and of several: what its words ask for, and how it ends.
-use crate::commands::CommandCall;
+use crate::commands::{CommandCall, GOOD, Outlet, TAKES_ALL, Trial, run, written};
 use crate::endings::{EndingRow, assert_each_ends};
 use crate::requests::{AskedRow, NONE, STRANGERS, USUAL, assert_asked};
+use crate::same::assert_same_at;
+use std::alloc::{AllocGlobal, Global};
+use std::process::Abort;
+use std::rt::Files;
 
 /// Words of `summary`. The files keep their order, and may be named twice.
 const REQUESTS: [AskedRow<'static>; 10] = [
@@ -148,4 +152,29 @@ const ENDINGS: [EndingRow<'static>; 9] = [
 #[test]
 fn summaries_succeed_or_tell_why(rt: HostRuntime) {
     assert_each_ends(&rt, rt.alloc(), &ENDINGS);
+}
+
+/// The objects of two files.
+const TWO_OBJECTS: CommandCall<'static> = CommandCall::Line(&[
+    "summary",
+    "--json",
+    "system.dmp",
+    "faulty.dmp",
+]);
+
+/// Asserts that each object reaches the output by one call: a third one, which would fail, is not made.
+fn assert_two_writes<R: Files + Input + AllocGlobal + Abort>(rt: &R, alloc: Global) {
+    let whole = run(rt, alloc, TWO_OBJECTS, &GOOD);
+    let out = Outlet {
+        fail_at: Some(2),
+        ..TAKES_ALL
+    };
+    let same = run(rt, alloc, TWO_OBJECTS, &Trial { out, ..GOOD });
+    let found = (same.end.status, written(&same));
+    assert_same_at(rt, &2, found, (1, written(&whole)));
+}
+
+#[test]
+fn each_object_is_one_write(rt: HostRuntime) {
+    assert_two_writes(&rt, rt.alloc());
 }

@@ -12,7 +12,7 @@ use std::process::Abort;
 use std::rt::Files;
 
 /// Runs a command line over files of the system, of whose calls the one with this number alone fails.
-fn run_failing<R: Files + AllocGlobal + Abort>(
+fn run_failing<R: Files + Input + AllocGlobal + Abort>(
     rt: &R,
     alloc: Global,
     words: &[&str],
@@ -43,7 +43,7 @@ type SystemCallsRow<'a> = (
 
 /// Asserts how a command line ends where this call fails: with this status and this told, behind a first part of what
 /// is printed or made. What is copied is opened before the copy is made.
-fn assert_at<R: Files + AllocGlobal + Abort>(
+fn assert_at<R: Files + Input + AllocGlobal + Abort>(
     rt: &R,
     alloc: Global,
     (words, text, made, _): SystemCallsRow<'_>,
@@ -70,7 +70,7 @@ fn assert_at<R: Files + AllocGlobal + Abort>(
 }
 
 /// Asserts that each call of the system that fails is told, and that the command line ends well where none does.
-fn assert_calls<R: Files + AllocGlobal + Abort>(
+fn assert_calls<R: Files + Input + AllocGlobal + Abort>(
     rt: &R,
     alloc: Global,
     rows: &[SystemCallsRow<'_>],

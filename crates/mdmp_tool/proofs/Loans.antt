@@ -4,12 +4,15 @@ use Rattle.std.specs.Prelude.{Result, Ok, Err}
 use Rattle.mdmp_source.specs.Output.{HasRefused, OutState, PutsAll, PutsPrefix, Refusals, lent}
 use Rattle.mdmp_source.specs.Source.{SourceState}
 use Rattle.mdmp_source.specs.Store.{StoreState}
+use Rattle.mdmp_lister.specs.Walker.{WalkerState}
 use Rattle.mdmp_lister.specs.declared.choice.Choice.{Choice}
+use Rattle.mdmp_lister.specs.declared.limits.Limits.{Limits}
 use Rattle.mdmp_engines.specs.declared.fault.ToolFault.{ToolFault}
 use Rattle.mdmp_engines.specs.declared.fault.ToolFault.TheVariants.{Opening, List as BadList, Source, Budget, Memory, MemoryLimit, AsideLimit, Out}
 use Rattle.mdmp_engines.specs.Causes.{HasOutCause}
-use Rattle.mdmp_tool.specs.Commands.{HasRun, HasRunThrough}
+use Rattle.mdmp_tool.specs.Commands.{HasRun, HasRunThrough, IsObjectPrinted}
 use Rattle.mdmp_engines.specs.Engines.{IsFlushed, Pace, RefusesWithin, RunsThrough, StopsShort, Tells, WritesText, in_blocks, Access}
+use Rattle.mdmp_engines.specs.ObjectRuns.{IsObjectThrough, IsQuietObject, PrintsObject, PrintsThrough, ReadsObject}
 use Rattle.mdmp_engines.proofs.BlockLemmas.{at_fault, quiet_from}
 
 -- ---- the loans stay
@@ -50,6 +53,10 @@ module _ (name : ℕ) (a b : OutState) where
   refuses_within : (text : List ℕ) → RefusesWithin (lent name a) text (lent name b) → RefusesWithin a text b
   refuses_within text cut = record { within = cut.within; refused = more_refusals cut.refused }
 
+  cause_lent : {T : Type 0} (r : Result T ToolFault) → HasOutCause (lent name a) r (lent name b) → HasOutCause a r b
+  cause_lent (Err Out) cause = more_refusals cause
+  cause_lent r cause = same_refusals cause
+
   module _ {T : Type 0} (pace : Pace) where
     writes_lent : (text : List ℕ) (r : Result T ToolFault) → WritesText pace text (lent name a) r (lent name b) → WritesText pace text a r b
     writes_lent text (Ok x) put = puts_all text put
@@ -67,10 +74,6 @@ module _ (name : ℕ) (a b : OutState) where
         → RunsThrough F choice Ends pace text (lent name a) r (lent name b) → RunsThrough F choice Ends pace text a r b
     runs_lent F choice Ends text (Err Out) cut = refuses_within text cut
     runs_lent F choice Ends text r run = record { says = run.says; writes = writes_lent text r run.writes }
-
-    cause_lent : (r : Result T ToolFault) → HasOutCause (lent name a) r (lent name b) → HasOutCause a r b
-    cause_lent (Err Out) cause = more_refusals cause
-    cause_lent r cause = same_refusals cause
 
     tells_lent : (store : StoreState) (size : ℕ) (r : Result T ToolFault) → Tells in_blocks pace store size (lent name a) r (lent name b) → Tells in_blocks pace store size a r b
     tells_lent store size r tells = record {
@@ -94,6 +97,53 @@ module _ (name : ℕ) (a b : OutState) where
       reads = ran.reads;
       through = ran.through;
     }
+
+-- ---- an object that was printed to a loan
+
+quiet_from_lent : (r : Result ℕ ToolFault) (P Q : Type 0) → (P → Q) → IsQuietObject r P → IsQuietObject r Q
+quiet_from_lent (Ok n) P Q from quiet = tt
+quiet_from_lent (Err Out) P Q from quiet = tt
+quiet_from_lent (Err (Source f)) P Q from quiet = tt
+quiet_from_lent (Err (Budget offset size)) P Q from quiet = tt
+quiet_from_lent (Err f) P Q from quiet = from quiet
+
+module _ (name : ℕ) (a b : OutState) where
+  same_out : lent name b ≡ lent name a → b ≡ a
+  same_out same =
+      let taken : b.taken ≡ a.taken = ap (λ (o : OutState). o.taken) same in
+      let failures : b.failures ≡ a.failures = same_refusals name a b (ap (λ (o : OutState). o.failures) same) in
+      λ i. record { taken = taken i; failures = failures i }
+
+  through_lent : (text : List ℕ) (bad : ℕ) (r : Result ℕ ToolFault) → PrintsThrough text bad (lent name a) r (lent name b) → PrintsThrough text bad a r b
+  through_lent text bad (Ok n) put = (put.0, puts_all name a b text put.1)
+  through_lent text bad (Err Out) cut = refuses_within name a b text cut
+  through_lent text bad (Err f) short = (short.0, stops_short name a b text short.1)
+
+  prints_lent : (file F : List ℕ) (limits : Limits) (r : Result ℕ ToolFault) → PrintsObject file F limits (lent name a) r (lent name b) → PrintsObject file F limits a r b
+  prints_lent file F limits r (PrintsObject.refused fault is told same) = PrintsObject.refused fault is told (same_out same)
+  prints_lent file F limits r (PrintsObject.printed walks prints) = PrintsObject.printed walks (through_lent _ _ r prints)
+
+  reads_lent : (old : WalkerState) (r : Result ℕ ToolFault) (new : WalkerState) → ReadsObject old (lent name a) r new (lent name b) → ReadsObject old a r new b
+  reads_lent old r new (ReadsObject.unread fault outside same) = ReadsObject.unread fault outside (same_out same)
+  reads_lent old r new (ReadsObject.printed named outside leaves lists) = ReadsObject.printed named outside leaves lists
+
+  object_lent_through : (limits : Limits) (old : SourceState) (r : Result ℕ ToolFault) (new : SourceState) → IsObjectThrough limits old (lent name a) r new (lent name b) → IsObjectThrough limits old a r new b
+  object_lent_through limits old r new (IsObjectThrough.refused fault is told same) = IsObjectThrough.refused fault is told (same_out same)
+  object_lent_through limits old r new (IsObjectThrough.unread opened ended fault is spends listing called told last same) =
+      IsObjectThrough.unread opened ended fault is spends listing called told last (same_out same)
+  object_lent_through limits old r new (IsObjectThrough.printed opened ended last is spends listing reads ends) =
+      IsObjectThrough.printed opened ended last is spends listing (reads_lent ended r last reads) ends
+
+  object_lent : (file : List ℕ) (limits : Limits) (old : SourceState) (r : Result ℕ ToolFault) (new : SourceState)
+      → IsObjectPrinted file limits old (lent name a) r new (lent name b) → IsObjectPrinted file limits old a r new b
+  object_lent file limits old r new printed = record {
+    prints = λ F known. prints_lent file F limits r (printed.prints F known);
+    good = printed.good;
+    reads = printed.reads;
+    through = object_lent_through limits old r new printed.through;
+    quiet = quiet_from_lent r _ _ same_out printed.quiet;
+    out_cause = cause_lent name a b r printed.out_cause;
+  }
 
 -- ---- a loan that came back
 
@@ -123,3 +173,12 @@ module _ (name last : ℕ) (start behind stop inner_old inner_new : OutState) (b
       → HasRunThrough access End Ends text old inner_old err_before status new inner_new err_after → HasRunThrough access End Ends text old start err_before status new stop err_after
   printed_lent access End Ends text old err_before status new err_after ran =
       ran_lent access access.pace End _ old err_before status new err_after (λ file. runs_lent name start stop access.pace file access.choice _ _) ran
+
+  -- an object too
+  pub object_came_back : (file : List ℕ) (limits : Limits) (old : SourceState) (r : Result ℕ ToolFault) (new : SourceState)
+      → IsObjectPrinted file limits old inner_old r new inner_new → IsObjectPrinted file limits old start r new stop
+  object_came_back file limits old r new printed =
+      let stops : inner_new ≡ lent name stop = came_back (cause_loans r inner_old inner_new printed.out_cause) in
+      object_lent name start stop file limits old r new (
+      subst (λ (x : OutState). IsObjectPrinted file limits old x r new (lent name stop)) began
+      (subst (λ (y : OutState). IsObjectPrinted file limits old inner_old r new y) stops printed))

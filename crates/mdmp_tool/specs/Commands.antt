@@ -1,11 +1,12 @@
 -- What a command over a source prints and tells, and its exit status.
-use Rattle.std.specs.Prelude.{◌≡◌, ℕ, Bool, true, false, List, Some, Result}
+use Rattle.std.specs.Prelude.{◌≡◌, ℕ, Bool, true, false, List, Some, Result, Err}
 use Rattle.mdmp_source.specs.Output.{OutState}
 use Rattle.mdmp_source.specs.Source.{SourceState}
 use Rattle.mdmp_source.specs.Store.{IsGood}
 use Rattle.mdmp_lister.specs.declared.limits.Limits.{Limits}
 use Rattle.mdmp_lister.specs.Format.Refusal.{opening_fault}
 use Rattle.mdmp_engines.specs.declared.fault.ToolFault.{ToolFault}
+use Rattle.mdmp_engines.specs.declared.fault.ToolFault.TheVariants.{Memory}
 use Rattle.mdmp_print.specs.declared.form.LineForm.{LineForm}
 use Rattle.mdmp_print.specs.declared.form.LineForm.TheVariants.{Json, Text}
 use Rattle.mdmp_words.specs.declared.number_words.Span.{Span}
@@ -15,7 +16,7 @@ use Rattle.mdmp_engines.specs.CheckRuns.{ChecksThrough}
 use Rattle.mdmp_engines.specs.Copying.{Copies, SpendsCopy, SpendsWithin, TellsCopyBudget, TellsCopyMemory, first_not_copied}
 use Rattle.mdmp_engines.specs.Engines.{IsReadThrough, Pace, ReadsSource, RunsThrough, Tells, unless_refused, at_the_end, in_blocks, past_faults, up_to_a_fault, Access, check_access, hex_access, list_access}
 use Rattle.mdmp_engines.specs.HexRuns.{HexesThrough}
-use Rattle.mdmp_engines.specs.ObjectRuns.{IsObjectThrough, PrintsObject}
+use Rattle.mdmp_engines.specs.ObjectRuns.{IsObjectThrough, IsQuietObject, PrintsObject}
 use Rattle.mdmp_engines.specs.Reports.{IsCheckEnd, IsEnd, IsSummaryEnd}
 use Rattle.mdmp_engines.specs.Runs.{ListsThrough}
 use Rattle.mdmp_engines.specs.SummaryRuns.{IsQuietSummary, IsSummedThrough, Summarizes}
@@ -68,13 +69,19 @@ pub record IsSummarizedText (name : List ℕ) (limits : Limits) (old : SourceSta
   pub quiet : IsQuietSummary answer (after ≡ before)
   pub out_cause : HasOutCause before answer after
 
--- or its object
-pub record IsSummarizedObject (name : List ℕ) (limits : Limits) (old : SourceState) (before : OutState) (answer : Result ℕ ToolFault) (new : SourceState) (after : OutState) : Type 0 where
+-- or its object was
+pub record IsObjectPrinted (name : List ℕ) (limits : Limits) (old : SourceState) (before : OutState) (answer : Result ℕ ToolFault) (new : SourceState) (after : OutState) : Type 0 where
   pub prints : (file : List ℕ) → old.store.content ≡ Some file → PrintsObject name file limits before answer after
   pub good : (file : List ℕ) → IsGood old.store file → IsNoSourceFault answer
   pub reads : ReadsSource old answer new
-  pub through : IsObjectThrough limits old answer new
+  pub through : IsObjectThrough limits old before answer new after
+  pub quiet : IsQuietObject answer (after ≡ before)
   pub out_cause : HasOutCause before answer after
+
+-- unless there was no memory for the block in which it is gathered
+pub data IsSummarizedObject (name : List ℕ) (limits : Limits) (old : SourceState) (before : OutState) (answer : Result ℕ ToolFault) (new : SourceState) (after : OutState) : Type 0 where
+  wanting : answer ≡ Err Memory → new ≡ old → after ≡ before → IsSummarizedObject name limits old before answer new after
+  printed : IsObjectPrinted name limits old before answer new after → IsSummarizedObject name limits old before answer new after
 
 abbrev pub IsSummarized : LineForm → (name : List ℕ) → Limits → SourceState → OutState → Result ℕ ToolFault → SourceState → OutState → Type 0
 IsSummarized Text name limits old before answer new after = IsSummarizedText name limits old before answer new after

@@ -1,22 +1,27 @@
 -- How the words of a command line end.
-use Rattle.std.specs.Prelude.{◌≡◌, ◌⊎◌, ◌∷◌, ℕ, List, [], Some, None, IsTrue, true, codes, map, max}
+use Rattle.std.specs.Prelude.{◌≡◌, ◌⊎◌, ◌∷◌, ◌+◌, ℕ, Bool, List, [], Option, Some, None, IsTrue, true, false, codes, map, max, unwrap_or}
 use Rattle.std.specs.List.{concat}
+use Rattle.std.specs.Str.{bytes_eq}
 use denote.Ref.{Bor}
 use Rattle.mdmp_source.specs.Output.{OutState, PutsAll, PutsPrefix, unlent}
 use Rattle.mdmp_source.specs.Source.{SourceState}
-use Rattle.mdmp_disk.specs.Disk.{DiskState, FileAt, FileState, IsOpenedFile, IsPresent, KeepsOthers, bytes_of_file, make_counted, open_counted, opened_once, present, open_refused}
+use Rattle.mdmp_source.specs.declared.fault.SourceFault.TheVariants.{Failed as FailedSource}
+use Rattle.mdmp_disk.specs.Disk.{DiskState, FileAt, FileState, IsOpenedFile, IsPresent, KeepsOthers, after_reading, bytes_of_file, make_counted, open_counted, opened_once, present, open_refused}
+use Rattle.mdmp_disk.specs.Input.{IsInput, MayRefuseInput}
+use Rattle.mdmp_disk.specs.declared.input.InputRefused.{InputRefused}
+use Rattle.mdmp_disk.specs.declared.input.InputRefused.TheVariants.{Failed, TooLong, Memory as LacksMemory}
 use Rattle.mdmp_lister.specs.declared.limits.Limits.{Limits}
 use Rattle.mdmp_print.specs.declared.form.LineForm.{LineForm}
 use Rattle.mdmp_print.specs.declared.form.LineForm.TheVariants.{Json, Text}
 use Rattle.mdmp_tool.specs.Commands.{HasCheckedSo, HasCopied, HasPrintedMemory, HasPrintedList, HasSummarizedAs}
 use Rattle.mdmp_engines.specs.Copying.{first_not_copied}
 use Rattle.mdmp_engines.specs.Faults.{fault_text, exit_status}
-use Rattle.mdmp_engines.specs.Reports.{IsLineTold}
+use Rattle.mdmp_engines.specs.Reports.{IsLineTold, file_fault_text}
 use Rattle.mdmp_tool.specs.BadWordText.{bad_word_text}
 use Rattle.mdmp_tool.specs.Shown.{shown}
 use Rattle.mdmp_words.specs.Invocations.{AsksFor, AsksNothing, IsValid}
 use Rattle.mdmp_engines.specs.declared.fault.ToolFault.{ToolFault}
-use Rattle.mdmp_engines.specs.declared.fault.ToolFault.TheVariants.{Memory, NotCopied, Out}
+use Rattle.mdmp_engines.specs.declared.fault.ToolFault.TheVariants.{Memory, MemoryLimit, NotCopied, Out, Source}
 use Rattle.mdmp_words.specs.declared.invocation.Invocation.{Invocation}
 use Rattle.mdmp_words.specs.declared.invocation.Invocation.TheVariants as asks
 use Rattle.mdmp_words.specs.declared.invocation.Command.{Command}
@@ -90,13 +95,54 @@ pub record Prints (Printed : Running) (found : FileAt) (before : Outputs) (statu
   pub opened : IsOver found old
   pub printed : Printed old before.out before.err status new after.out after.err
 
+-- how something ends that prints this of a source
+pub data EndsSource (Printed : Running) (old : SourceState) (before : Outputs) (status : ℕ) (after : Outputs) : Type 0 where
+  wanting_source : RefusesFault Memory before status after → EndsSource Printed old before status after
+  printed_source : (new : SourceState) → Printed old before.out before.err status new after.out after.err → EndsSource Printed old before status after
+
 -- how a command ends that prints this of the file of this name: the disk was asked for that file,
 -- once, and for nothing else
-pub data EndsPrint (Printed : Running) (file : List ℕ) (disk : DiskChange) (before : Outputs) (status : ℕ) (after : Outputs) : Type 0 where
+pub data EndsFile (Printed : Running) (file : List ℕ) (disk : DiskChange) (before : Outputs) (status : ℕ) (after : Outputs) : Type 0 where
   unopened : disk.new ≡ open_refused disk.old → MayRefuse (disk.old.files file) → Refuses 3 (unopened_text file) before status after
-      → EndsPrint Printed file disk before status after
-  wanting : disk.new ≡ opened_once disk.old → RefusesFault Memory before status after → EndsPrint Printed file disk before status after
-  printed : disk.new ≡ opened_once disk.old → Prints Printed (disk.old.files file) before status after → EndsPrint Printed file disk before status after
+      → EndsFile Printed file disk before status after
+  wanting : disk.new ≡ opened_once disk.old → RefusesFault Memory before status after → EndsFile Printed file disk before status after
+  printed : disk.new ≡ opened_once disk.old → Prints Printed (disk.old.files file) before status after → EndsFile Printed file disk before status after
+
+-- the name of standard input
+abbrev pub input_name : List ℕ
+input_name = codes "-"
+
+abbrev pub is_input : List ℕ → Bool
+is_input name = bytes_eq name input_name
+
+-- how many bytes of standard input are read at most: as many as the limit of memory says, or 64 MiB
+abbrev pub input_most : Limits → ℕ
+input_most limits = unwrap_or limits.memory 67108864
+
+-- why standard input of at most so many bytes was not read, as it is told: as a fault of a file, or of memory
+abbrev pub input_fault : ℕ → InputRefused → ToolFault
+input_fault most (Failed at) = Source (FailedSource at)
+input_fault most TooLong = MemoryLimit (most + 1)
+input_fault most LacksMemory = Memory
+
+-- a file of these bytes, which is opened and read without fail
+abbrev pub input_file : List ℕ → FileAt
+input_file bytes = present (record { bytes = Some bytes; is_reliable = true })
+
+-- how a command ends that prints this of standard input: the disk was asked for that, once, and for nothing else, and the
+-- command prints what it prints of a file of these bytes. A fault of the input has this text
+pub data EndsInput (Printed : Running) (text : ToolFault → List ℕ) (limits : Limits) (disk : DiskChange) (before : Outputs) (status : ℕ) (after : Outputs) : Type 0 where
+  unread_input : (why : InputRefused) → disk.new ≡ after_reading false disk.old → MayRefuseInput disk.old.input (input_most limits) why
+      → Refuses (exit_status (input_fault (input_most limits) why)) (text (input_fault (input_most limits) why)) before status after
+      → EndsInput Printed text limits disk before status after
+  wanting_input : disk.new ≡ after_reading true disk.old → RefusesFault Memory before status after → EndsInput Printed text limits disk before status after
+  printed_input : (bytes : List ℕ) → disk.new ≡ after_reading true disk.old → IsInput disk.old.input (input_most limits) bytes
+      → Prints Printed (input_file bytes) before status after → EndsInput Printed text limits disk before status after
+
+-- how a command ends that prints this of the file of this name, or of standard input
+pub data EndsPrint (Printed : Running) (text : ToolFault → List ℕ) (limits : Limits) (file : List ℕ) (disk : DiskChange) (before : Outputs) (status : ℕ) (after : Outputs) : Type 0 where
+  of_file : is_input file ≡ false → EndsFile Printed file disk before status after → EndsPrint Printed text limits file disk before status after
+  of_input : is_input file ≡ true → EndsInput Printed text limits disk before status after → EndsPrint Printed text limits file disk before status after
 
 -- the streams of these types were copied out of one file into another, which was made under a name that had none, and holds
 -- what was copied; every other file is as it was
@@ -151,9 +197,9 @@ abbrev pub printed_name : LineForm → List ℕ → List ℕ
 printed_name Text file = shown file
 printed_name Json file = file
 
--- the summary of the file of this name; an error is told behind the name without control characters
+-- the summary of the file of this name, or of standard input; an error is told behind the name without control characters
 abbrev pub EndsFileSummary : LineForm → Limits → List ℕ → CommandEnding
-EndsFileSummary form limits file = EndsPrint (HasSummarizedAs form (printed_name form file) (shown file) limits) file
+EndsFileSummary form limits file = EndsPrint (HasSummarizedAs form (printed_name form file) (shown file) limits) (file_fault_text input_name) limits file
 
 -- the summary of each of these files, in their order
 abbrev pub EndsSummaries : LineForm → Limits → List (List ℕ) → CommandEnding
@@ -163,9 +209,9 @@ EndsSummaries form limits (file ∷ files) = EndsInTurn (EndsFileSummary form li
 -- ---- commands
 
 abbrev pub EndsCommand : Type 0 → Command → Limits → List ℕ → DiskChange → Outputs → ℕ → Outputs → Type 0
-EndsCommand Z (commands.Check form parts) limits file disk before status after = EndsPrint (HasCheckedSo parts form limits) file disk before status after
-EndsCommand Z (commands.List form pdb) limits file disk before status after = EndsPrint (HasPrintedList form pdb limits) file disk before status after
-EndsCommand Z (commands.Hex span) limits file disk before status after = EndsPrint (HasPrintedMemory span limits) file disk before status after
+EndsCommand Z (commands.Check form parts) limits file disk before status after = EndsPrint (HasCheckedSo parts form limits) fault_text limits file disk before status after
+EndsCommand Z (commands.List form pdb) limits file disk before status after = EndsPrint (HasPrintedList form pdb limits) fault_text limits file disk before status after
+EndsCommand Z (commands.Hex span) limits file disk before status after = EndsPrint (HasPrintedMemory span limits) fault_text limits file disk before status after
 EndsCommand Z (commands.Copy target types) limits file disk before status after = EndsCopy Z types limits file target.now disk before status after
 
 -- ---- words

@@ -8,9 +8,11 @@
 #![tactic(auto)]
 
 mod bad_words;
+mod printing;
 mod program;
 mod running;
 mod shown;
+mod standard_input;
 mod standing;
 mod summaries;
 mod words;

@@ -14,9 +14,9 @@ use std::io::ErrorKind;
 use std::rt::Files;
 use std::{env, io};
 
-/// Runs the command that the program's arguments ask for, over the files of the system: see
+/// Runs the command that the program's arguments ask for, over the files of the system and its standard input: see
 /// [`run_args`]. It is all that a `main` has to do that has made the two outputs.
-pub fn run_program<R: Env + Files + AllocGlobal, A: Allocator + Copy, O: Out, E: Out>(
+pub fn run_program<R: Env + Files + Input + AllocGlobal, A: Allocator + Copy, O: Out, E: Out>(
     rt: &R,
     alloc: A,
     out: &mut O,

@@ -11,6 +11,9 @@ use mdmp_print::{LineForm, LineOut};
 use mdmp_source::{Out, Source, Store};
 use std::alloc::Allocator;
 
+/// How many bytes of output are gathered before they are written.
+pub(crate) const BLOCK: usize = 65536;
+
 /// Prints what an engine prints of a file, in blocks, and reports an error to `err`, or how many entries are bad. The
 /// answer is the exit status: 0 on success; 1 for an error in the file, for a check in any entry; 3 for an I/O error,
 /// if memory runs out, or if a limit is reached. If `err` refuses, the status is the same.
@@ -100,7 +103,7 @@ fn summarize_text<S: Store + Drop, A: Allocator + Copy, O: Out>(
     summary_source(alloc, source, limits, file, out)
 }
 
-/// Prints the object of the summary of a source.
+/// Prints the object of the summary of a source, in blocks.
 fn summarize_object<S: Store + Drop, A: Allocator + Copy, O: Out>(
     alloc: A,
     file: &[u8],
@@ -110,7 +113,17 @@ fn summarize_object<S: Store + Drop, A: Allocator + Copy, O: Out>(
 ) -> Outcome<Result<u64, ToolFault>, S>
     ensures { IsSummarizedObject file.now limits source (O.state out.old) result.answer result.source (O.state out.new) }
 {
-    summary_json_source(alloc, source, limits, file, out)
+    let Ok(mut buffer) = vec![in alloc; 0; BLOCK] else {
+        return Outcome {
+            answer: Err(ToolFault::Memory),
+            source,
+        };
+    };
+    let mut blocks = LineOut::over(&mut buffer, out);
+    let summarized = summary_json_source(alloc, source, limits, file, &mut blocks);
+    // The loan comes back for the prover alone: what was printed is what `out` took.
+    let _out = blocks.into_inner();
+    summarized
 }
 
 /// Copies the streams of these types to `out`, and reports an error to `err`. The answer is the exit status, as

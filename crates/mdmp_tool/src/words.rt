@@ -3,33 +3,28 @@ ghost use Rattle.std.specs.Prelude.{codes, ◌≡◌, ◌≤◌, ◌⊎◌, ◌�
 ghost use Rattle.std.specs.List.{concat};
 ghost use Rattle.mdmp_source.specs.Output.{OutState};
 ghost use Rattle.mdmp_engines.specs.Reports.{IsLineTold};
-ghost use Rattle.mdmp_tool.specs.Commands.{HasCheckedSo, HasRunThrough};
 ghost use Rattle.mdmp_disk.specs.System.{no_requests, system};
 ghost use Rattle.mdmp_disk.specs.declared.disk.Requests.{Requests};
 ghost use Rattle.mdmp_tool.specs.Shown.{shown};
-ghost use Rattle.mdmp_tool.specs.Words.{EndsCopy, EndsPrint, EndsWords, Helps, HelpsInPart};
+ghost use Rattle.mdmp_tool.specs.Words.{EndsCopy, EndsWords, Helps, HelpsInPart};
 
 use crate::bad_words::refuse_word;
-use crate::running::{copy_and_report, print_and_report};
+use crate::printing::{CheckWay, check_file, print_file};
+use crate::running::copy_and_report;
 use crate::shown::{ShownText, is_plain};
 use crate::summaries::summarize_files;
 use mdmp_disk::{Disk, SystemDisk};
-use mdmp_engines::{
-    CheckEngine, CheckPartsEngine, Engine, HexEngine, ListEngine, ToolFault, first_not_copied,
-    report,
-};
+use mdmp_engines::{HexEngine, ListEngine, ToolFault, first_not_copied, report};
 use mdmp_lister::{Limits, TypeSet};
-use mdmp_print::{LineForm, LineOut, print_around, print_error, print_error_named, row};
+use mdmp_print::{print_around, print_error, print_error_named, row};
 use mdmp_source::{Out, OutFailed, Source, write_all};
 use mdmp_words::{Command, Invocation, Span, invocation_of};
 use std::alloc::{AllocGlobal, Allocator};
 use std::rt::Files;
 
-/// How many bytes of output are gathered before they are written.
-const BLOCK: usize = 65536;
-
-/// Runs the command that the words after the program's name ask for, over the files of the system: see [`run_on_disk`].
-pub fn run_words<R: Files + AllocGlobal, A: Allocator + Copy, O: Out, E: Out>(
+/// Runs the command that the words after the program's name ask for, over the files of the system and its standard
+/// input: see [`run_on_disk`].
+pub fn run_words<R: Files + Input + AllocGlobal, A: Allocator + Copy, O: Out, E: Out>(
     rt: &R,
     alloc: A,
     words: &[&str],
@@ -44,8 +39,9 @@ pub fn run_words<R: Files + AllocGlobal, A: Allocator + Copy, O: Out, E: Out>(
 /// Runs the command that the words after the program's name ask for: `summary FILE.. [--json]`,
 /// `check FILE [--parts] [--json]`, `list FILE [--pdb] [--json] [--aside N]`, `hex FILE ADDRESS LENGTH` or
 /// `copy IN OUT TYPE...`. Each takes `--window N`, `--name N`, `--budget N`, `--memory N` and `--untrusted`. All words
-/// are judged before a file is opened. `summary` opens each FILE in turn, and its status is the worst of all. `copy`
-/// creates OUT, which must not exist; after an error OUT stays, empty or partly written. No other file changes.
+/// are judged before a file is opened. `summary` opens each FILE in turn, and its status is the worst of all. The FILE
+/// `-` is standard input, but not IN and OUT. `copy` creates OUT, which must not exist; after an error OUT stays, empty
+/// or partly written. No other file changes.
 ///
 /// It writes the lines, or the help that was asked for, to `out`, and the line of an error to `err`. It returns
 /// the exit status: 0 on success; 1 for an error in the file, for `summary` and `check` in any entry; 2 for a bad
@@ -120,77 +116,6 @@ fn write_help<O: Out, E: Out>(text: &str, out: &mut O, err: &mut E) -> u8
         Ok(()) => 0,
         Err(OutFailed) => report::<(), E>(Err(ToolFault::Out), err),
     }
-}
-
-/// How a file is checked.
-#[derive(Clone, Copy)]
-struct CheckWay {
-    /// How the lines are printed.
-    form: LineForm,
-    /// Whether parts of records that lie outside the file are printed too, and make their entry bad.
-    parts: bool,
-}
-
-/// Checks the file of this name.
-fn check_file<D: Disk, A: Allocator + Copy, O: Out, W: Out>(
-    disk: &mut D,
-    alloc: A,
-    how: CheckWay,
-    limits: Limits,
-    file: &str,
-    out: &mut O,
-    err: &mut W,
-) -> u8
-    ensures { EndsPrint (HasCheckedSo how.parts how.form limits)
-        file.now (record { old = D.state disk.old; new = D.state disk.new }) (record { out = O.state out.old; err = W.state err.old }) result (record { out = O.state out.new; err = W.state err.new }) }
-{
-    let form = how.form;
-    if how.parts {
-        return print_file(
-            disk,
-            alloc,
-            CheckPartsEngine { form },
-            limits,
-            file,
-            out,
-            err,
-        );
-    }
-    print_file(disk, alloc, CheckEngine { form }, limits, file, out, err)
-}
-
-/// Prints what an engine prints of the file of this name.
-fn print_file<E: Engine, D: Disk, A: Allocator + Copy, O: Out, W: Out>(
-    disk: &mut D,
-    alloc: A,
-    engine: E,
-    limits: Limits,
-    file: &str,
-    out: &mut O,
-    err: &mut W,
-) -> u8
-    requires { E.can_print engine }
-    ensures { EndsPrint (HasRunThrough (record { limits = limits; choice = E.choice; pace = E.pace; held = E.held engine; aside = E.aside engine; beside = E.reads engine }) E.IsReported (E.Ends engine) (E.text engine))
-        file.now (record { old = D.state disk.old; new = D.state disk.new }) (record { out = O.state out.old; err = W.state err.old }) result (record { out = O.state out.new; err = W.state err.new }) }
-{
-    let Ok(store) = disk.open(file) else {
-        return refuse_name(b"cannot open ", file, err);
-    };
-    let Ok(mut buffer) = vec![in alloc; 0; BLOCK] else {
-        return report::<(), W>(Err(ToolFault::Memory), err);
-    };
-    let mut blocks = LineOut::over(&mut buffer, out);
-    let status = print_and_report(
-        engine,
-        alloc,
-        Source::new(store),
-        limits,
-        &mut blocks,
-        err,
-    ).answer;
-    // The loan comes back for the prover alone: what was printed is what `out` took.
-    let _out = blocks.into_inner();
-    status
 }
 
 /// Copies the streams of these types out of one file into another, which is made.

@@ -170,7 +170,11 @@ fn summarized<S: Store + Drop, A: Allocator + Copy>(
 ) -> Outcome<Result<u64, ToolFault>, S> {
     match form {
         LineForm::Text => summary_source(heap, source, limits, b"a.dmp", out),
-        LineForm::Json => summary_json_source(heap, source, limits, b"a.dmp", out),
+        LineForm::Json => {
+            let mut buffer = [0; LINE_ROOM];
+            let mut blocks = LineOut::over(&mut buffer, out);
+            summary_json_source(heap, source, limits, b"a.dmp", &mut blocks)
+        }
     }
 }
 
@@ -242,7 +246,12 @@ fn end_by_blocks<S: Store + Drop, A: Allocator + Copy, O: Out>(
             };
             end_of_uncounted(run_in_blocks(engine, heap, source, limits, blocks))
         }
-        Task::Copy(_) | Task::Summary(_) => rt.panic("no copy or summary in blocks"),
+        Task::Summary(LineForm::Json) => {
+            end_of(summary_json_source(heap, source, limits, b"a.dmp", blocks))
+        }
+        Task::Copy(_) | Task::Summary(LineForm::Text) => {
+            rt.panic("no copy or lines of a summary in blocks")
+        }
     }
 }
 

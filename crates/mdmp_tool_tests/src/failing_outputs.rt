@@ -7,7 +7,8 @@ use crate::runs::{
     WITHOUT_ITEMS, assert_wrote, run_bytes, run_within,
 };
 use crate::same::assert_same_at;
-use crate::texts::{CRASH_SUMMARY, NAMED, NAMED_SUMMARY, SYMBOL_LINES};
+use crate::summary_objects::OBJECT;
+use crate::texts::{CRASH_OBJECT, CRASH_SUMMARY, NAMED, NAMED_SUMMARY, SYMBOL_LINES};
 use mdmp_test_support::{
     CODEVIEW_RECORD, CRASH, FAULTY, FAULTY_TEXT, FAULTY_TOLD, FAULTY_VERDICTS, ListedRange,
     MEMORY64, Room, SIX, SYSTEM, SYSTEM_TEXT, WIDE_TEXT,
@@ -109,6 +110,15 @@ const SWEPT: [SweptRow<'static>; 10] = [
     ),
 ];
 
+/// An object, which is gathered in blocks.
+const SWEPT_OBJECT: [SweptRow<'static>; 1] = [(
+    &[CallWay::Blocks(LINE_ROOM)],
+    OBJECT,
+    File::Numbers(2, &CRASH),
+    Ok(0),
+    File::Text(CRASH_OBJECT),
+)];
+
 /// Asserts that a run writes all, and that an output of which any call of one byte fails, or that takes any number of
 /// bytes that is too few, has the first of them, which is told.
 fn assert_swept_in(
@@ -157,6 +167,11 @@ fn assert_swept(rt: &impl Abort, alloc: Global, rows: &[SweptRow<'_>]) {
 #[test]
 fn each_call_of_an_output_may_fail(rt: HostRuntime) {
     assert_swept(&rt, rt.alloc(), &SWEPT);
+}
+
+#[test]
+fn each_call_of_an_output_of_an_object_may_fail(rt: HostRuntime) {
+    assert_swept(&rt, rt.alloc(), &SWEPT_OBJECT);
 }
 
 /// Asserts that a last block that is refused is told in place of a fault of the file, all of which was read.

@@ -7,7 +7,11 @@ use crate::runs::{
     Within, assert_wrote, run_bytes, run_within,
 };
 use crate::same::assert_same_at;
-use crate::texts::{CRASH_SUMMARY, CUT_LINES, NAMED, NAMED_SUMMARY, SIX_TEXT, SYMBOL_LINES};
+use crate::summary_objects::OBJECT;
+use crate::texts::{
+    CRASH_OBJECT, CRASH_SUMMARY, CUT_LINES, NAMED, NAMED_OBJECT, NAMED_SUMMARY, SIX_TEXT,
+    SYMBOL_LINES,
+};
 use mdmp_test_support::{
     CODEVIEW_RECORD, CRASH, FAULTY, FAULTY_TEXT, FAULTY_VERDICTS, MEMORY64, MODULE_FILE_TEXT, Room,
     SIX, SYSTEM, SYSTEM_TEXT, WIDE_TEXT,
@@ -138,7 +142,7 @@ const OPENED: u64 = 32 + 72 + 52 + 168;
 
 /// Commands without limits: a directory, a window and a name; and where memory is printed, a map of the ranges, the
 /// bytes, and which of them are known; where streams are copied, a directory, a window, two lists and a buffer.
-const UNLIMITED: [GrownRow<'static>; 11] = [
+const UNLIMITED: [GrownRow<'static>; 12] = [
     (
         File::Numbers(1, &NAMED),
         Task::Summary(LineForm::Text),
@@ -157,6 +161,17 @@ const UNLIMITED: [GrownRow<'static>; 11] = [
         Ok(0),
         File::Text(CRASH_SUMMARY),
         3,
+        None,
+    ),
+    // The object takes room for the name of a symbol file too.
+    (
+        File::Numbers(1, &NAMED),
+        OBJECT,
+        &WITHOUT_ITEMS,
+        (168, 28, None, None, None),
+        Ok(0),
+        File::Text(NAMED_OBJECT),
+        5,
         None,
     ),
     (
@@ -253,7 +268,7 @@ const UNLIMITED: [GrownRow<'static>; 11] = [
 ];
 
 /// The bytes of these growths are counted.
-const COUNTED: [GrownRow<'static>; 7] = [
+const COUNTED: [GrownRow<'static>; 9] = [
     (
         BAD_TWICE,
         Task::Check,
@@ -293,6 +308,27 @@ const COUNTED: [GrownRow<'static>; 7] = [
         CRASH_FILE,
         5,
         Some(HELD),
+    ),
+    // Room for the name of a symbol file: as many bytes as the limit, or as the file if those are fewer.
+    (
+        CRASH_FILE,
+        OBJECT,
+        &[CallWay::Source],
+        (168, 48, None, None, None),
+        Ok(0),
+        File::Text(CRASH_OBJECT),
+        4,
+        Some(24 + 168 + 2 * 48),
+    ),
+    (
+        CRASH_FILE,
+        OBJECT,
+        &[CallWay::Source],
+        (168, 1000, None, None, None),
+        Ok(0),
+        File::Text(CRASH_OBJECT),
+        4,
+        Some(24 + 168 + 1000 + 292),
     ),
     // A copy holds two windows, and 24 bytes an entry.
     (

@@ -52,6 +52,28 @@ pub const NAMED_SUMMARY: &str = "a.dmp: no crash
   streams 1 threads 0 modules 1 exceptions 0 ranges 0 memory 0
   file good\n";
 
+/// The object of `NAMED`.
+pub const NAMED_OBJECT: &str =
+    "{\"line\":\"summary\",\"file\":\"a.dmp\",\"status\":\"OK\",\"time\":0,\"system_info\":null,\"sys\
+tem\":null,\"crash\":null,\"program\":{\"name\":\"a/bc\",\"file\":\"bc\",\"version\":\"0.0.0.0\"\
+},\"counts\":{\"streams\":\"1\",\"threads\":\"0\",\"modules\":\"1\",\"exceptions\":\"0\",\"range\
+s\":\"0\",\"memory\":\"0\"},\"bad_entries\":0,\"first_error\":null,\"parts_outside\":0,\"first_o\
+utside\":null,\"main_module\":0,\"modules\":[{\"filename\":\"a/bc\",\"base_addr\":\"0x0000000000\
+000000\",\"end_addr\":\"0x0000000000000000\",\"version\":\"0.0.0.0\",\"code_id\":null,\"debug_fi\
+le\":null,\"debug_id\":null}],\"threads\":[],\"crash_info\":null}\n";
+
+/// The object of `CRASH`.
+pub const CRASH_OBJECT: &str =
+    "{\"line\":\"summary\",\"file\":\"a.dmp\",\"status\":\"OK\",\"time\":0,\"system_info\":null,\"sys\
+tem\":null,\"crash\":{\"code\":\"0xc0000005\",\"code_name\":null,\"flags\":\"0x00000000\",\"flag\
+s_name\":null,\"thread\":7,\"thread_name\":null,\"address\":\"0x0000000000401000\",\"exception_a\
+ddress\":\"0x0000000000401000\",\"registers\":null,\"reached\":null,\"module\":null,\"near\":nul\
+l},\"program\":null,\"counts\":{\"streams\":\"2\",\"threads\":\"1\",\"modules\":\"0\",\"exceptio\
+ns\":\"1\",\"ranges\":\"0\",\"memory\":\"0\"},\"bad_entries\":0,\"first_error\":null,\"parts_out\
+side\":0,\"first_outside\":null,\"main_module\":null,\"modules\":[],\"threads\":[{\"thread_id\":\
+7,\"thread_name\":null,\"frames\":[]}],\"crash_info\":{\"type\":\"0xc0000005\",\"address\":\"0x0\
+000000000401000\",\"crashing_thread\":0}}\n";
+
 /// The summary of `CRASH`.
 pub const CRASH_SUMMARY: &str = "a.dmp: 0xc0000005 at 0x0000000000401000, thread 7
   code 0xc0000005 flags 0x00000000

@@ -120,10 +120,10 @@ Example:
   mdmp copy crash.dmp small.dmp threads modules system";
 
 /// What FILE is.
-pub(crate) const FILE: &str = "The minidump to read";
+pub(crate) const FILE: &str = "The minidump to read, or '-' for standard input";
 
 /// What each FILE of `summary` is.
-pub(crate) const FILES: &str = "The minidumps to read, in this order";
+pub(crate) const FILES: &str = "The minidumps to read, in this order; '-' is standard input";
 
 /// What `--window` sets.
 pub(crate) const WINDOW: &str =
@@ -137,7 +137,8 @@ pub(crate) const BUDGET: &str =
     "Read at most N bytes of the file, up to 18446744073709551615 (the default)";
 
 /// What `--memory` sets.
-pub(crate) const MEMORY: &str = "Use at most N bytes of memory for the dump [default: no limit]";
+pub(crate) const MEMORY: &str =
+    "Use at most N bytes of memory for the dump [default: no limit; for '-', 67108864]";
 
 /// What `--aside` sets.
 pub(crate) const ASIDE: &str =
