@@ -107,7 +107,7 @@ def _write(text: Callable[[], str]) -> None:
 def _summary(dump: mdmp.Dump, arguments: argparse.Namespace) -> None:
     # The name of a file may have bytes that are no UTF-8.
     file = os.fsencode(arguments.file).decode("utf-8", "replace")
-    sys.stdout.write(_summary_lines.line(dump, file) if arguments.json else _summary_lines.lines(dump.summary, file))
+    sys.stdout.write(_summary_lines.line(dump, file) if arguments.json else _summary_lines.lines(dump, file))
     if dump.summary.bad_entries:
         raise _BadEntries
 

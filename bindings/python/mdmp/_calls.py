@@ -3,7 +3,7 @@
 from __future__ import annotations
 
 from ctypes import byref, c_uint8, sizeof
-from typing import Any, Callable, TypeVar
+from typing import Any, Callable, Iterable, TypeVar
 from uuid import UUID
 
 from . import _structures
@@ -87,20 +87,25 @@ class Calls:
         made: _T = self._kept[name]
         return made
 
+    def _rows_of(self, raws: Iterable[Any], record: Any) -> tuple[Any, ...]:
+        """The records that these structures are, as many as a property may keep."""
+        size, names = row_size(record), Counting(self)
+        given: list[Any] = []
+        for raw in raws:
+            row = record._of(raw, names)
+            self._expect_room((len(given) + 1) * size + names.bytes, given)
+            given.append(row)
+        return tuple(given)
+
     def _rows(self, call: Any, record: Any, has_limits: bool = True) -> Any:
         """The records of one kind."""
 
         def make() -> tuple[Any, ...]:
-            raw, size, names = getattr(_structures, record.__name__), row_size(record), Counting(self)
-            limits = [byref(self._plain)] if has_limits else []
-            filled = self._fill(call, raw, some_records, *limits, most=self._most(size))
-            given: list[Any] = []
-            for at in range(filled.given):
-                row = record._of(filled.items[at], names)
-                self._expect_room((at + 1) * size + names.bytes, given)
-                given.append(row)
-            self._expect_whole(filled, tuple(given))
-            return tuple(given)
+            raw, limits = getattr(_structures, record.__name__), [byref(self._plain)] if has_limits else []
+            filled = self._fill(call, raw, some_records, *limits, most=self._most(row_size(record)))
+            given = self._rows_of((filled.items[at] for at in range(filled.given)), record)
+            self._expect_whole(filled, given)
+            return given
 
         return self._keep(record.__name__, make)
 

@@ -173,14 +173,20 @@ class Dump(Calls):
         MD_OS_LINUX /usr/sample/cpad 4
         """
 
-        def make() -> Summary:
+        return self._keep("summary", lambda: summary_of(self._raw_summary, self))
+
+    @property
+    def _raw_summary(self) -> _structures.Summary:
+        """The summary as the library returned it, with the places of its names."""
+
+        def make() -> _structures.Summary:
             raw, fault = _structures.Summary(), _structures.Fault()
             with self._lent() as (file, size):
                 status = library.mdmp_summary_(file, size, byref(self._plain), byref(raw), byref(fault))
             expect_good(status, fault)
-            return summary_of(raw, self)
+            return raw
 
-        return self._keep("summary", make)
+        return self._keep("raw summary", make)
 
     @property
     def crash(self) -> Crash | None:

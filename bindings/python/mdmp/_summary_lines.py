@@ -4,17 +4,15 @@ from __future__ import annotations
 
 import json
 from dataclasses import fields
-from typing import TYPE_CHECKING, Any, Callable, NamedTuple, TypeVar
+from typing import TYPE_CHECKING, Any, NamedTuple
 
-from . import names
-from ._fault import Fault, LimitReached
-from ._records import Access, Extent, Module, SummaryModule, SymbolKind, Thread
+from . import _structures, names
+from ._listed import all_modules, all_threads
+from ._records import Access, Extent, Module, NamePlace, NameState, SummaryModule, SymbolKind, Thread
 from ._summary import Crash, PlaceInModule, Reached, Summary, SummarySystem
 
 if TYPE_CHECKING:
     from ._dump import Dump
-
-_T = TypeVar("_T")
 
 _ACCESS = {Access.READ: "read", Access.WRITE: "write", Access.EXECUTE: "execute"}
 _BY = {Access.READ: " by a read", Access.WRITE: " by a write", Access.EXECUTE: " by execution"}
@@ -31,18 +29,25 @@ def _escaped(text: str) -> str:
     return "".join(chr(unit) if 0x20 <= unit < 0x7F and unit != 0x5C else f"\\u{unit:04x}" for unit in units)
 
 
-def _file_of(module: SummaryModule) -> str:
+def _units(dump: Dump, place: NamePlace | _structures.NamePlace) -> str:
+    """The name at a place as the file has it, also with lone surrogates; an empty one if there is none within the limit."""
+    if place.state != NameState.GIVEN:
+        return ""
+    return dump._bytes(place.rva + 4, place.size).decode("utf-16-le", "surrogatepass")
+
+
+def _file_of(dump: Dump, module: SummaryModule) -> str:
     if module.name is None:
         size = module.name_place.size
         return f"(name of {size} bytes)" if size else "(no name)"
-    return _escaped(file_part(module.name))
+    return _escaped(file_part(_units(dump, module.name_place)))
 
 
-def _place(crash: Crash) -> str:
+def _place(dump: Dump, crash: Crash) -> str:
     if crash.module:
-        return f"{_file_of(crash.module.module)}+{crash.module.offset:#x}"
+        return f"{_file_of(dump, crash.module.module)}+{crash.module.offset:#x}"
     near = crash.near
-    return f"{crash.address:#018x}" + (f" near {_file_of(near.module)}+{near.offset:#x}" if near else "")
+    return f"{crash.address:#018x}" + (f" near {_file_of(dump, near.module)}+{near.offset:#x}" if near else "")
 
 
 def _named(number: int, name: str | None) -> str:
@@ -91,16 +96,18 @@ def _health(summary: Summary) -> str:
     return "file good"
 
 
-def lines(summary: Summary, file: str) -> str:
+def lines(dump: Dump, file: str) -> str:
     """At most ten lines, of which the first begins with the name of the file."""
+    summary = dump.summary
     crash, system, counts = summary.crash, summary.system, summary.counts
     first, more = "no crash", []
     if crash:
-        thread = f"{crash.thread_id}" + (f' "{_escaped(crash.thread_name)}"' if crash.thread_name else "")
+        name = _escaped(_units(dump, dump._raw_summary.crash.thread_name))
+        thread = f"{crash.thread_id}" + (f' "{name}"' if name else "")
         code = _named(crash.exception.exception_code, _code_name(crash, system))
-        first, more = f"{code} at {_place(crash)}, thread {thread}", _crash_lines(crash, system)
+        first, more = f"{code} at {_place(dump, crash)}, thread {thread}", _crash_lines(crash, system)
     if summary.program:
-        more.append(f"program {_file_of(summary.program)}")
+        more.append(f"program {_file_of(dump, summary.program)}")
     if system:
         more.append(_system_line(system))
     time = summary.header.time_date_stamp
@@ -191,18 +198,16 @@ def _system_object(system: SummarySystem | None) -> dict[str, Any] | None:
     return {part: int(value) for part, value in _fields(system).items() if isinstance(value, int)}
 
 
-def _good(rows: Callable[[], tuple[_T, ...]]) -> tuple[_T, ...]:
-    """The records before an error of the file."""
-    try:
-        return rows()
-    except LimitReached:
-        raise
-    except Fault as fault:
-        given: tuple[_T, ...] = fault.partial or ()
-        return given
+def _symbols_most(dump: Dump) -> int:
+    """How many bytes of the name of a symbol file are told: the share of each module in the limit, behind the 24 bytes that
+    begin its CodeView record."""
+    limits = dump.limits
+    if limits.aside is None:
+        return limits.name
+    return min(limits.name, max(limits.aside // max(dump.summary.counts.modules, 1) - 24, 0))
 
 
-def _listed_module(module: Module) -> dict[str, Any]:
+def _listed_module(module: Module, most: int) -> dict[str, Any]:
     symbols = module.symbols if module.symbols and module.symbols.kind == SymbolKind.RSDS else None
     return {
         "filename": module.name,
@@ -210,7 +215,7 @@ def _listed_module(module: Module) -> dict[str, Any]:
         "end_addr": _hex(min(module.base_of_image + module.size_of_image, (1 << 64) - 1)),
         "version": str(module.file_version),
         "code_id": module.ids.code_id,
-        "debug_file": symbols and symbols.name.decode("utf-8", "replace"),
+        "debug_file": symbols and symbols.name[:most].decode("utf-8", "replace"),
         "debug_id": module.ids.debug_id,
     }
 
@@ -242,7 +247,7 @@ def _crash_info(crash: Crash | None, system: SummarySystem | None, threads: tupl
 
 def line(dump: Dump, file: str) -> str:
     """An object of JSON on one line. Numbers that may have more than 32 bits are strings."""
-    summary, threads = dump.summary, _good(lambda: dump.threads)
+    summary, threads, most = dump.summary, all_threads(dump), _symbols_most(dump)
     made = {
         "line": "summary",
         "file": file,
@@ -258,7 +263,7 @@ def line(dump: Dump, file: str) -> str:
         "parts_outside": summary.parts_outside,
         "first_outside": str(summary.first_outside) if summary.first_outside else None,
         "main_module": 0 if summary.program else None,
-        "modules": [_listed_module(module) for module in _good(lambda: dump.modules)],
+        "modules": [_listed_module(module, most) for module in all_modules(dump)],
         "threads": [_thread_object(dump, thread, summary) for thread in threads],
         "crash_info": _crash_info(summary.crash, summary.system, threads),
     }

@@ -22,8 +22,9 @@ from unittest import mock
 
 import mdmp
 from lib import strange_dumps
+from lib.minidumps import File, counted, numbers
 from lib.small_dumps import SYSTEM
-from mdmp import _buffer, _dump, _fault, _structures
+from mdmp import _buffer, _dump, _fault, _structures, _summary_lines
 from mdmp._library import library
 
 FOLDER = pathlib.Path(os.environ["MDMP_STORED"])
@@ -393,6 +394,38 @@ class Command(unittest.TestCase):
                 told = path.read_text(encoding="utf-8").replace(name, str(FOLDER / name), 1)
                 self.assertEqual(self.run_command("summary", str(FOLDER / name))[1:], (told, ""))
 
+    def printed_of(self, data: bytes, *words: str) -> tuple[str, str]:
+        """The name of a file with these bytes, and what a command prints of it."""
+        with tempfile.NamedTemporaryFile(suffix=".dmp") as file:
+            file.write(data)
+            file.flush()
+            return file.name, self.run_command(*words, file.name)[1]
+
+    def test_object_has_the_records_of_all_entries(self) -> None:
+        # A bad list of threads before a good one, and modules: the second name of the first list is outside the file, and the
+        # second list has four bytes before its record.
+        file = File(4)
+        place = file.name("one.dll")
+        modules = [strange_dumps.module(name, base, 16) for name, base in ((place, 0x1000), ((1 << 32) - 1, 0x2000), (place, 0x3000))]
+        context = file.placed(b"\x01\x02" * 616)
+        file.entry(3, 4, (1 << 32) - 1)
+        file.stream(4, counted(modules))
+        file.stream(4, numbers(1, 0) + modules[2])
+        file.stream(3, counted([strange_dumps.thread(7, 0x5000, (0, 0), context)]))
+        _, out = self.printed_of(file.bytes(), "summary", "--json")
+        told = json.loads(out)
+        self.assertEqual((told["bad_entries"], told["counts"]["modules"], told["counts"]["threads"]), (2, "2", "1"))
+        self.assertEqual([(row["filename"], int(row["base_addr"], 16)) for row in told["modules"]], [("one.dll", 0x1000), ("one.dll", 0x3000)])
+        self.assertEqual(told["threads"], [{"thread_id": 7, "thread_name": None, "frames": []}])
+
+    def test_summary_prints_the_units_of_names(self) -> None:
+        data = strange_dumps.named("folder/\ud800\\\udc00x")
+        name, out = self.printed_of(data, "summary")
+        first, *lines = out.splitlines()
+        self.assertTrue(first.startswith(f"{name}: STATUS_ACCESS_VIOLATION at \\udc00x+0x1234, thread 7 "), first)
+        self.assertTrue(first.endswith('"folder/\\ud800\\u005c\\udc00x"'), first)
+        self.assertIn("  program \\udc00x", lines)
+
     def test_summary_of_a_file_whose_name_is_no_text(self) -> None:
         with tempfile.TemporaryDirectory() as folder:
             name = os.fsdecode(os.fsencode(folder) + b"/\xff.dmp")
@@ -439,6 +472,13 @@ class Command(unittest.TestCase):
         self.assertEqual([row["frames"] for row in windows["threads"]], [[], []])
         self.assertEqual(windows["modules"][2]["code_id"], None)
         self.assertEqual(windows["crash_info"]["crashing_thread"], 1)
+
+    def test_names_of_symbol_files_keep_to_the_limit_of_what_is_read_aside(self) -> None:
+        count = len(mdmp.open(KINDS).modules)
+        # Each module has 27 bytes: 24 that begin its record, and 3 of the name.
+        dump = mdmp.open(KINDS, limits=mdmp.Limits(aside=27 * count))
+        one = json.loads(_summary_lines.line(dump, "a.dmp"))["modules"][0]
+        self.assertEqual((one["debug_file"], one["debug_id"]), ("one", "33221100554477668899AABBCCDDEEFF1"))
 
     def test_object_of_a_file_with_errors(self) -> None:
         with tempfile.NamedTemporaryFile() as cut:
