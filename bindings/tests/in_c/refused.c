@@ -67,8 +67,9 @@ static long test_filler(const filler *tried, blob file, uint8_t *out, size_t roo
         allowed = -1;
         ASSERT(live == kept);
         if (status != MDMP_NO_MEMORY) {
-            /* a part of the dump that was made lies outside, and so it is not copied */
-            ASSERT((status == MDMP_OK || fault.kind == MDMP_FAULT_PART_OUTSIDE) && asked == granted);
+            /* a part of the dump that was made lies outside: it is not copied, and its entry is bad */
+            bool is_outside = fault.kind == MDMP_FAULT_PART_OUTSIDE || fault.kind == MDMP_FAULT_BAD_ENTRIES;
+            ASSERT((status == MDMP_OK || is_outside) && asked == granted);
             return granted;
         }
         ASSERT(fault.kind == MDMP_FAULT_NO_MEMORY && count == 0 && is_untouched(out, room * tried->item));
