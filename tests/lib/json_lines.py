@@ -66,6 +66,8 @@ def changes(value: dict[str, Any]) -> Iterator[tuple[str, Keys, dict[str, Any]]]
         if isinstance(one, int) and not isinstance(one, bool):
             yield "a value below 0", keys, with_change(value, keys, set_to(-1))
             yield "a greater value", keys, with_change(value, keys, set_to(2**32))
+        if isinstance(one, dict):
+            yield "a key more", (*keys, "more"), with_change(value, (*keys, "more"), set_to(1))
         yield "the type", keys, with_change(value, keys, set_to(other_type(one)))
         yield "an array", keys, with_change(value, keys, set_to([[]]))
     yield "a key more", ("more",), {**value, "more": 1}
