@@ -11,11 +11,12 @@ from struct import iter_unpack, unpack_from
 sys.path.insert(1, os.path.join(os.path.dirname(os.path.dirname(os.path.abspath(__file__))), "tests"))
 from lib import strange_dumps  # noqa: E402
 from lib.minidumps import ENTRY_SIZE, EXCEPTION, HEADER_SIZE, MEMORY, MEMORY64, MODULE_SIZE, MODULES, NO_PART  # noqa: E402
-from lib.minidumps import RANGE_SIZE, REGION_SIZE, REGIONS, SYSTEM, THREAD_NAMES, THREADS, UNLOADED  # noqa: E402
+from lib.minidumps import RANGE_SIZE, REGION_SIZE, REGIONS, SYSTEM, THREAD_NAMES, THREAD_SIZE, THREADS, UNLOADED  # noqa: E402
 from lib.minidumps import File, Part, counted, memory_range, thread_name  # noqa: E402
 
 FIRST = 0x10000000  # the first address of memory that a call asks for
 SPAN = 1 << 20  # how many addresses of it the files have ranges in
+LISTED = 16 << 20  # bytes that may be listed four times within the read limit of strangers
 RANGES = (MEMORY, MEMORY64)  # types of streams whose records are ranges of memory
 LISTS = (THREADS, MODULES, UNLOADED, REGIONS, THREAD_NAMES)
 RECORDS = (*RANGES, *LISTS, EXCEPTION, SYSTEM)  # types of streams whose records are listed
@@ -36,6 +37,20 @@ def _named_often(kind: int, size: int, listed: Callable[[File, int], bytes]) -> 
     file = File(size // 2 // ENTRY_SIZE)
     stream = file.placed(listed(file, size // 2))
     for _ in range(file.streams):
+        file.entry(kind, *stream)
+    return file.bytes()
+
+
+def _named_within(kind: int, size: int, listed: Callable[[File, int], bytes], *first: tuple[int, bytes]) -> bytes:
+    """As `_named_often`, but by no more entries than list so many bytes as `summary --json` may list to its end. The streams of
+    `first` come before them."""
+    length = len(listed(File(0), size // 2))
+    count = min(size // 2 // ENTRY_SIZE, (LISTED - 28 * size // 24) // length)
+    file = File(len(first) + count)
+    for one, data in first:
+        file.stream(one, data)
+    stream = file.placed(listed(file, size // 2))
+    for _ in range(count):
         file.entry(kind, *stream)
     return file.bytes()
 
@@ -84,6 +99,18 @@ def _modules_of_one_symbol_file(file: File, size: int) -> bytes:
     return _modules(name, size // 2, symbols)
 
 
+def _modules_of_one_record(file: File, size: int) -> bytes:
+    """Modules without a name, whose one symbol file has a name of 4,096 bytes."""
+    return _modules(0, max(size - 4200, 1080), _codeview(file, 4120))
+
+
+def _threads(file: File, size: int) -> bytes:
+    """Threads of one context."""
+    context = file.placed(bytes(1232))
+    count = max(size - 1300, 480) // THREAD_SIZE
+    return counted([strange_dumps.thread(number, 0, NO_PART, context) for number in range(count)])
+
+
 def _modules_of_one_name(file: File, size: int) -> bytes:
     name, symbols = file.name("m" * 2048), _codeview(file, 4096)
     return _modules(name, max(size - 8200, 1080), symbols)
@@ -118,6 +145,11 @@ ATTACKS = [
     Attack("thread names of one string, named often", lambda size: _named_often(THREAD_NAMES, size, _names)),
     Attack("modules of one symbol file", lambda size: _once(MODULES, size, _modules_of_one_symbol_file)),
     Attack("modules of one name, named often", lambda size: _named_often(MODULES, size, _modules_of_one_name)),
+    Attack("modules of one symbol file, within the read limit", lambda size: _named_within(MODULES, size, _modules_of_one_record)),
+    Attack(
+        "threads of one context, within the read limit",
+        lambda size: _named_within(THREADS, size, _threads, (SYSTEM, strange_dumps.system(0))),
+    ),
     Attack("exceptions and modules", _exceptions_and_modules),
     Attack("lists far apart in turn", _alternating),
     Attack("a name limit of 1 GiB", lambda size: strange_dumps.many_modules(max(size // 180, 1)), name=1 << 30),
