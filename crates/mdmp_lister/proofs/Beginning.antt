@@ -9,6 +9,7 @@ use Rattle.mdmp_lister.specs.declared.step.Step.TheVariants as step
 use Rattle.mdmp_lister.specs.declared.walk.Walk.{Walk}
 use Rattle.mdmp_lister.specs.Following.{goes_on}
 use Rattle.mdmp_lister.specs.Format.Listing.{chosen_from, entry_of}
+use Rattle.mdmp_lister.specs.NextFetch.{nothing_taken}
 use Rattle.mdmp_lister.specs.Opening.{IsNextChosen}
 use Rattle.mdmp_lister.specs.Walk.{IsSound, IsThrough, cursor_of}
 use Rattle.mdmp_lister.specs.Walk.Checking.{EntryBegun}
@@ -59,6 +60,7 @@ module _ {S A : Type 0} (w : Walk S A) (at : ℕ) (e : Entry) where
           counts = Moves-none 1 w.meter;
           spent = λ few. (omega arith, omega arith);
           named = omega arith;
+          costs = nothing_taken refl;
           paid = λ allowed before paid.
               let costs = rw (read e) at (next.costs (λ d. d) w.meter.source.size e) in
               let calls = rw (read e) at (next.costs (stream_calls w.window.room) w.meter.source.size e) in

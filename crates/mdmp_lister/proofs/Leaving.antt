@@ -112,6 +112,7 @@ module _ {S A : Type 0} (w n : Walk S A) (room : ℕ) where
       same = same_list rs rs (Ok None) e;
       spends = record {
         fetches = e.fetches;
+        costs = e.costs;
         counts = e.counts;
         names = e.named;
         names_at_fault = λ _. tt;
@@ -149,6 +150,7 @@ module _ {S A : Type 0} (w n : Walk S A) (room : ℕ) where
           same = same_list rs rs (Err f) e;
           spends = record {
             fetches = e.fetches;
+            costs = tt;
             counts = e.counts;
             names = tt;
             names_at_fault = λ going. (e.met going).named;
@@ -192,6 +194,7 @@ module _ {S A : Type 0} (w n : Walk S A) (room : ℕ) where
           same = same_list rs rest (Ok (Some s)) e;
           spends = record {
             fetches = rw (item_cost-step z buffer _ s x held.0 held.1 told, begins) e.fetches;
+            costs = rw (item_cost-step z buffer _ s x held.0 held.1 told, begins) e.costs;
             counts = e.counts;
             names = names_raised z buffer _ s x w.meter.names n.meter.names held.1 told e.named;
             names_at_fault = λ _. tt;

@@ -32,6 +32,7 @@ pub mod Metering
 pub mod NameRows
 pub mod Naming
 pub mod NextSteps
+pub mod NextWalks
 pub mod Numbers
 pub mod Offsets
 pub mod Openings

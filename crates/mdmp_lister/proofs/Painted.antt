@@ -1,10 +1,9 @@
 -- A block of addresses that is read range after range.
-use Rattle.std.proofs.Common.{◌≡◌, ◌≤◌, ◌<◌, ◌+◌, ◌-◌, ◌∙◌, ◌∷◌, ◌++◌, [], ℕ, zero, suc, List, Option, None, Some, Result, Ok, Err, Bool, true, false, ap, append_assoc, arith, drop, get_or, inl, inr, is_some, length, map, refl, replicate, subst, sym, take, unwrap_or}
-use Rattle.std.specs.Prelude.{All, IfOk, OnOk, if◌then◌else◌, option_map, slice_get, slice_index}
-use Rattle.std.specs.List.{range_with_len}
+use Rattle.std.proofs.Common.{◌≡◌, ◌≤◌, ◌<◌, ◌+◌, ◌-◌, ◌∙◌, ◌∷◌, ◌++◌, [], ℕ, zero, suc, List, Option, None, Some, Result, Ok, Err, Bool, true, false, ap, arith, drop, get_or, inl, inr, is_some, length, map, refl, replicate, subst, sym, take, unwrap_or}
+use Rattle.std.specs.Prelude.{All, IfOk, OnOk, option_map, slice_get, slice_index}
 use borrow.Rule.Slice.PartMut.{post_of, put_mid}
 use Rattle.std.proofs.lemmas.Bool.{cases_Bool, cases_lt}
-use Rattle.std.proofs.lemmas.List.{ext_get_or, get_or-append_right, get_or-drop, get_or-replicate, get_or-take, get_or_append_left, get_or-map, length-append, length-drop, length-map, length-replicate, length-take-le, take-append-drop, take_more}
+use Rattle.std.proofs.lemmas.List.{ext_get_or, get_or-append_right, get_or-drop, get_or-replicate, get_or-take, get_or_append_left, get_or-map, length-drop, length-map, length-replicate, length-take-le, take-append-drop, take_more}
 use Rattle.std.proofs.lemmas.List.Elements.{All-get_or}
 use Rattle.std.proofs.lemmas.List.FromFn.{fill_by_all}
 use Rattle.std.proofs.lemmas.Option.{get_or_from_slice_get, slice_get_within}
@@ -15,7 +14,7 @@ use Rattle.mdmp_map.specs.declared.range.Range.{Range}
 use Rattle.mdmp_map.specs.Painting.{IsPassed, IsRun, PaintState, Paints, is_held_at, is_painted}
 use Rattle.mdmp_map.specs.RangeLaws.{first_range-behind, first_range-more, holds_parts}
 use Rattle.mdmp_map.specs.Ranges.{IsWithin, byte_at, first_range, holds}
-use Rattle.mdmp_lister.specs.Addressing.{ReadsAddresses, ReadsCells, cell, cells, cells_at, is_held}
+use Rattle.mdmp_lister.specs.Addressing.{ReadsAddresses, ReadsCells, cell, cells, is_held}
 use Rattle.mdmp_lister.specs.Fault.{IsCaused}
 use Rattle.mdmp_lister.specs.Meter.{BooksAside, MeterState, SpendsAside, counts_of}
 use Rattle.mdmp_lister.specs.declared.meter.MeterCounts.{MeterCounts}

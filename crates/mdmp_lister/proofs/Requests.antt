@@ -15,6 +15,7 @@ use Rattle.mdmp_lister.specs.declared.walk.Walk.{Walk}
 use Rattle.mdmp_lister.specs.Costs.{IsUnreadBy, bad_name_cost, begun_at, given_spent, step_cost, stream_begun}
 use Rattle.mdmp_lister.specs.Format.Listing.{Run, joined, nothing, only_fault, with_item}
 use Rattle.mdmp_lister.specs.Meter.{Books, MeterState, Moves, Spends, counts_of}
+use Rattle.mdmp_lister.specs.NextFetch.{IsStepPaid, nothing_taken}
 use Rattle.mdmp_lister.specs.Walk.Paying.{calls_owed, owed_of, unread_bytes}
 use Rattle.mdmp_lister.specs.Walk.Reaching.{Reaches, given_once, told_once}
 use Rattle.mdmp_lister.specs.Fault.{IsListFaultOf, IsOfStore, IsUnobtained}
@@ -22,7 +23,7 @@ use Rattle.mdmp_lister.specs.Following.{Cursor, Follows, GivesNextEntry, GivesNe
 use Rattle.mdmp_lister.specs.Following as following
 use Rattle.mdmp_lister.specs.declared.choice.Choice.{Choice}
 use Rattle.mdmp_lister.specs.declared.fault.Fault.{Fault}
-use Rattle.mdmp_lister.specs.Walk.Requests.{Answered, HeadCounted, FaultMet, HeadRead, RecordsCounted, StepGiven}
+use Rattle.mdmp_lister.specs.Walk.Requests.{Answered, HeadCounted, FaultMet, HeadRead, RecordsCounted, StepGiven, standpoint_of}
 use Rattle.mdmp_lister.specs.Format.Kind.{kind_of}
 use Rattle.mdmp_lister.specs.Stage.{IsNoStoreFault, IsStageAfter, fault_stage, records_left_in, stage_by, standing_of, stop_of}
 use Rattle.mdmp_lister.specs.Step.{CurrentAfter, IsStepHeld, TakesRecord, current_by, passed_by, step_item, stream_told}
@@ -33,7 +34,7 @@ use Rattle.mdmp_lister.proofs.Costs.{stopped-unread, unread-within}
 use Rattle.mdmp_lister.proofs.Ending.{left_of-ended, left_of-fault}
 use Rattle.mdmp_lister.proofs.Fetches.{FetchesAtMost-none, FetchesAtMost-within, told_in_later}
 use Rattle.mdmp_lister.proofs.Budgets.{fault_stage-over}
-use Rattle.mdmp_lister.proofs.NextSteps.{next_then}
+use Rattle.mdmp_lister.proofs.NextWalks.{next_then, step_then}
 use Rattle.mdmp_lister.proofs.Paying.{fault_stage-calls, fault_stage-owed, fault_stage-work, paid_named, within_named}
 use Rattle.mdmp_lister.proofs.Soundness.{IsGood-after, IsSound-after, fault_stage-going, fault_stage-headed, fault_stage-staged, fault_stage-unfailed, fault_stage-windowed}
 
@@ -169,6 +170,7 @@ module _ {S A : Type 0} (n calls spent : ℕ) (old new : Walk S A) (f : ListFaul
         counts = Moves-spent calls spent old.name.limit old.meter new.meter spends;
         spent = within_named calls spent 0 old new same.room.name spends (omega (arith, none, owed));
         named = tt;
+        costs = tt;
         paid = λ allowed before paid. paid_named allowed before calls spent old new paid spends same fetches.same_size
             (rw (at, fault_stage-owed old.meter.source.size old.current new.window f) (omega (arith, owed)))
             (rw (at, fault_stage-calls old.meter.source.size old.current new.window f) (omega (arith, called)))
@@ -191,10 +193,11 @@ module _ {S A : Type 0} (n calls spent : ℕ) (old new : Walk S A) (step : Step)
       → owed_of old.meter.source.size old.current new.window new.stage + spent ≤ owed_of old.meter.source.size old.current old.window old.stage
       → calls_owed old.meter.source.size old.current new.window new.stage + calls ≤ calls_owed old.meter.source.size old.current old.window old.stage
       → Reaches (told_once step) old.meter new.meter
+      → IsStepPaid (standpoint_of old) (Some step) new.meter.fetched
       → ((file : List ℕ) → old.meter.source.store.content ≡ Some file → current_of old file ≡ with_item (step_item old.meter.source.size new.name.items step) (current_of new file))
       → Follows old.choice old.entries.items old.meter.source.size old.name.limit (cursor_of old) (Ok (Some step)) (cursor_of new)
       → Answered old (Ok (Some step)) new
-  answered_step sound going on falls counted same passed stays held begins fetches within spends owed called named left follows =
+  answered_step sound going on falls counted same passed stays held begins fetches within spends owed called named costs left follows =
       let less : work_of new < work_of old = rw (same.room.entries, same.next) (omega (arith, falls)) in
       let owes : unread_bytes new + spent ≤ unread_bytes old = rw (fetches.same_size, same.current) owed in
       let none : stream_begun old.meter.source.size (stream_told step) ≡ 0 = rw begins refl in
@@ -218,6 +221,7 @@ module _ {S A : Type 0} (n calls spent : ℕ) (old new : Walk S A) (step : Step)
         counts = Moves-spent calls spent old.name.limit old.meter new.meter spends;
         spent = within_named calls spent (stream_begun old.meter.source.size (stream_told step)) old new same.room.name spends (omega (arith, owes));
         named = named;
+        costs = costs;
         paid = λ allowed before paid. paid_named allowed before calls spent old new paid spends same fetches.same_size owed called falls;
         repeats = λ stop stopped. absurd (cc);
         good = λ file good. tt;
@@ -251,6 +255,7 @@ module _ {S A : Type 0} (w : Walk S A) (sound : IsSound w) where
         counts = Moves-none 1 w.meter;
         spent = λ few. (omega arith, omega arith);
         named = tt;
+        costs = tt;
         paid = λ allowed before paid. paid;
         repeats = λ stop same. (refl, sym stopped ∙ same);
         good = λ file good. stage_by-good f f.kind refl (rw at at (sound.unfailed file good));
@@ -281,6 +286,7 @@ module _ {S A : Type 0} (w : Walk S A) (sound : IsSound w) where
         counts = Moves-none 1 w.meter;
         spent = λ few. (omega arith, omega arith);
         named = omega arith;
+        costs = nothing_taken refl;
         paid = λ allowed before paid. paid;
         repeats = λ stop same. (refl, sym stopped ∙ same);
         good = λ file good. tt;
@@ -349,6 +355,11 @@ module _ {S A : Type 0} (old mid new : Walk S A) (head : HeadRead old mid) where
   named_then (Ok given) named = rw head.books.same_names at named
   named_then (Err f) named = tt
 
+  costs_then : (result : Result (Option Step) ListFault) → old.stage ≡ Head → IfOk result (λ given. IsStepPaid (standpoint_of mid) given new.meter.fetched)
+      → IfOk result (λ given. IsStepPaid (standpoint_of old) given new.meter.fetched)
+  costs_then (Ok given) at paid = step_then old mid head at given new.meter.fetched paid
+  costs_then (Err f) at paid = tt
+
   -- no more is unread behind it than behind the head, and the stream that it begins
   unread_then : (result : Result (Option Step) ListFault) → IfOk result (λ given. IfSome given (λ step. StepGiven mid step new)) → IsStageAfter result new.stage
       → unread_bytes new ≤ unread_bytes mid + stream_begun mid.meter.source.size (begun_at result)
@@ -388,6 +399,7 @@ module _ {S A : Type 0} (old mid new : Walk S A) (head : HeadRead old mid) where
             let behind = rw head.books.same_names at (then.spent few) in
             (omega (arith, behind.0, begun, head.books.asked, head.owes), omega (arith, behind.1, begun, head.books.most, head.owes));
         named = named_then result then.named;
+        costs = costs_then result at then.costs;
         paid = λ allowed before paid. then.paid allowed before (head.paid allowed before paid);
         repeats = λ stop stopped. let going : stop_of old.stage ≡ None = rw at refl in absurd (cc);
         good = λ file good. then.good file (IsGood-after _ old.meter.source mid.meter.source file head.books.fetches good);

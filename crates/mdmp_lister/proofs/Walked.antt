@@ -31,6 +31,7 @@ use Rattle.mdmp_lister.specs.Format.Listing.{Run, entry_body, entry_of, joined, 
 use Rattle.mdmp_lister.specs.Format.Summary.{entry_begun}
 use Rattle.mdmp_lister.specs.Lister.{AnswersNext, Gives, NextLeaves, ListerState, ReadsAside, tail}
 use Rattle.mdmp_lister.specs.Meter.{BooksAside, MeterState, counts_of, IsUnmade}
+use Rattle.mdmp_lister.specs.NextFetch.{nothing_taken}
 use Rattle.mdmp_lister.specs.Stage.{IsCounted, IsOverAt, IsUnended, StaysUnchanged, failure_of, records_left_in, stage_by, standing_of, stop_after, stop_of}
 use Rattle.mdmp_lister.specs.Step.{CurrentAfter, IsNameHeld, IsStepOf, step_item, stream_told}
 use Rattle.mdmp_lister.specs.Walk.{IsListing, IsPastHead, IsSound, IsStageCounted, IsStaged, left_of}
@@ -104,6 +105,7 @@ module _ {S A : Type 0} (w : Walk S A) (at : ℕ) (e : Entry) (sound : IsSound w
         same = record { aside = refl; start = refl; budget = refl; header_is = refl; choice = refl; limit = refl; entries = refl; rooms = refl };
         spends = record {
           fetches = FetchesAtMost-within 0 _ w.meter.source w.meter.source (omega arith) (FetchesAtMost-none w.meter.source);
+          costs = rw begins (nothing_taken refl);
           counts = Moves-none 1 w.meter;
           names = names_raised z buffer None s x w.meter.names w.meter.names tt same (omega arith);
           names_at_fault = λ _. tt;

@@ -1,6 +1,6 @@
 -- What is read of the dumped process's memory. A cell is the byte of an address, or none where no range holds the
 -- address.
-use Rattle.std.specs.Prelude.{◌≡◌, ◌≤◌, ◌<◌, ◌+◌, ◌*◌, ◌/◌, ◌^◌, ℕ, Bool, if◌then◌else◌, ◌==◌, ◌&&◌, not, true, false, zero, suc, List, Option, Some, None, is_some, length, map, option_map, slice_index, unwrap_or, Result, OnOk}
+use Rattle.std.specs.Prelude.{◌≡◌, ◌≤◌, ◌<◌, ◌+◌, ◌*◌, ◌/◌, ◌^◌, ℕ, Bool, if◌then◌else◌, ◌==◌, ◌&&◌, not, false, zero, suc, List, Option, Some, None, is_some, length, map, option_map, slice_index, unwrap_or, Result, OnOk}
 use Rattle.std.specs.List.{range_with_len, zip}
 use Rattle.mdmp_map.specs.declared.range.Range.{Range}
 use Rattle.mdmp_map.specs.Ranges.{AreSorted, byte_at, first_range}

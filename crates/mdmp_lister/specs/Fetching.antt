@@ -1,5 +1,5 @@
 -- What reading promises: some bytes, the head of a stream, a name, a record.
-use Rattle.std.specs.Prelude.{◌≡◌, ◌≤◌, ◌<◌, ◌+◌, ◌-◌, ◌/◌, ◌^◌, ℕ, List, None, Some, Result, Ok, Err, IfErr, IfOk, OnOk, length, min, nat_lt, max}
+use Rattle.std.specs.Prelude.{◌≡◌, ◌≤◌, ◌<◌, ◌+◌, ◌-◌, ◌/◌, ◌^◌, ◌⊎◌, ℕ, List, None, Some, Result, Ok, Err, IfErr, IfOk, OnOk, length, min, nat_lt, max}
 use Rattle.mdmp_source.specs.Count.{raised, raised_if}
 use Rattle.mdmp_source.specs.Source.{FetchesAtMost, fault_of}
 use Rattle.mdmp_source.specs.Window.{WindowState, behind_of}
@@ -15,7 +15,7 @@ use Rattle.mdmp_lister.specs.declared.kind.StreamKind.{StreamKind}
 use Rattle.mdmp_lister.specs.declared.kind.StreamKind.TheVariants.{Memory64}
 use Rattle.mdmp_lister.specs.declared.shape.Shape.{Shape}
 use Rattle.mdmp_lister.specs.declared.step.Step.{Step}
-use Rattle.mdmp_lister.specs.Costs.{name_spent, read_cost, step_spent}
+use Rattle.mdmp_lister.specs.Costs.{bad_name_cost, name_spent, read_cost, step_cost, step_spent}
 use Rattle.mdmp_lister.specs.Following.{mapped}
 use Rattle.mdmp_lister.specs.NextFetch.{IsNameFetch, IsNamedAt, IsWindowFetch, window_takes}
 use Rattle.mdmp_lister.specs.StreamHead.{head_spent}
@@ -107,10 +107,19 @@ pub record ReadsRecord (room spent limit : ℕ) (result : Result Step Fault) (ol
 
 -- ---- which fetch a budget is told of
 
--- of the name at this RVA
+-- of the name at this RVA; where its length has a fault, just its bytes were fetched
 abbrev pub IsNameTried : (limit rva : ℕ) → FaultKind → (offset size : ℕ) → MeterState → MeterState → Type 0
 IsNameTried limit rva kinds.Budget offset size was now = IsNameFetch was.source.store.content was.source.size limit rva was.fetched now.fetched offset size
-IsNameTried limit rva kind offset size was now = Unit {0}
+IsNameTried limit rva (kinds.Source fault) offset size was now = Unit {0}
+IsNameTried limit rva kinds.NameLengthOutside offset size was now = now.fetched ≡ raised was.fetched (bad_name_cost limit kinds.NameLengthOutside)
+IsNameTried limit rva kinds.NameOdd offset size was now = now.fetched ≡ raised was.fetched (bad_name_cost limit kinds.NameOdd)
+IsNameTried limit rva kinds.NameUnitsOutside offset size was now = now.fetched ≡ raised was.fetched (bad_name_cost limit kinds.NameUnitsOutside)
+IsNameTried limit rva kind offset size was now = ⊥
+
+-- for a name that was read just its bytes were
+abbrev pub TriesName : (limit rva : ℕ) → Result NameRead Fault → MeterState → MeterState → Type 0
+TriesName limit rva (Ok name) was now = now.fetched ≡ raised was.fetched (read_cost name)
+TriesName limit rva (Err fault) was now = IsNameTried limit rva fault.kind fault.offset fault.size was now
 
 -- of the bytes of a record, or of its name
 pub data IsRecordFetch (limit : ℕ) (kind : StreamKind) (at : ℕ) (was : MeterState) (w : WindowState) (fetched offset size : ℕ) : Type 0 where
@@ -119,15 +128,32 @@ pub data IsRecordFetch (limit : ℕ) (kind : StreamKind) (at : ℕ) (was : Meter
       → IsNameFetch was.source.store.content was.source.size limit rva before fetched offset size
       → IsRecordFetch limit kind at was w fetched offset size
 
+-- else what the window took was fetched for a record, and so many bytes for its name
+abbrev pub TakesNamed : StreamKind → (at : ℕ) → MeterState → WindowState → (named : ℕ) → MeterState → Type 0
+TakesNamed kind at was w named now = now.fetched ≡ raised was.fetched (window_takes w.room w.end (unfetched w) at (record_size kind) + named)
+
 abbrev pub IsRecordTried : (limit : ℕ) → StreamKind → (at : ℕ) → MeterState → WindowState → MeterState → FaultKind → (offset size : ℕ) → Type 0
 IsRecordTried limit kind at was w now kinds.Budget offset size = IsRecordFetch limit kind at was w now.fetched offset size
-IsRecordTried limit kind at was w now fault offset size = Unit {0}
+IsRecordTried limit kind at was w now (kinds.Source fault) offset size = Unit {0}
+IsRecordTried limit kind at was w now kinds.NameLengthOutside offset size = TakesNamed kind at was w (bad_name_cost limit kinds.NameLengthOutside) now
+IsRecordTried limit kind at was w now kinds.NameOdd offset size = TakesNamed kind at was w (bad_name_cost limit kinds.NameOdd) now
+IsRecordTried limit kind at was w now kinds.NameUnitsOutside offset size = TakesNamed kind at was w (bad_name_cost limit kinds.NameUnitsOutside) now
+IsRecordTried limit kind at was w now fault offset size = ⊥
 
--- of the head of a stream
+abbrev pub TriesRecord : (limit : ℕ) → StreamKind → (at : ℕ) → Result Step Fault → MeterState → WindowState → MeterState → Type 0
+TriesRecord limit kind at (Ok step) was w now = TakesNamed kind at was w (step_cost step) now
+TriesRecord limit kind at (Err fault) was w now = IsRecordTried limit kind at was w now fault.kind fault.offset fault.size
+
+-- of the head of a stream; where that has a fault, nothing was fetched, or what the window took of it
 abbrev pub IsHeadTried : (room : ℕ) → Location → StreamKind → MeterState → MeterState → FaultKind → (offset size : ℕ) → Type 0
 IsHeadTried room at kind was now kinds.Budget offset size =
     (now.fetched ≡ was.fetched) × IsWindowFetch room (at.rva + at.size) at.size at.rva (head_cost (form_of kind)) offset size
-IsHeadTried room at kind was now fault offset size = Unit {0}
+IsHeadTried room at kind was now (kinds.Source fault) offset size = Unit {0}
+IsHeadTried room at kind was now kinds.NameLengthOutside offset size = ⊥
+IsHeadTried room at kind was now kinds.NameOdd offset size = ⊥
+IsHeadTried room at kind was now kinds.NameUnitsOutside offset size = ⊥
+IsHeadTried room at kind was now fault offset size =
+    (now.fetched ≡ was.fetched) ⊎ (now.fetched ≡ raised was.fetched (window_takes room (at.rva + at.size) at.size at.rva (head_cost (form_of kind))))
 
 -- else what the window took of it was fetched, which comes off the bytes of the stream
 abbrev pub TriesHead : Location → StreamKind → Result Head Fault → (was now : MeterState) → (old new : WindowState) → Type 0

@@ -32,7 +32,7 @@ use Rattle.mdmp_lister.specs.Format.Listing.{Run, nothing, only_fault, items_fro
 use Rattle.mdmp_lister.specs.Format.Shape.{shape_of}
 use Rattle.mdmp_lister.specs.Memory.{is_within}
 use Rattle.mdmp_lister.specs.Meter.{IsBegunOver, IsUnmade, Moves, SpendsAside}
-use Rattle.mdmp_lister.specs.NextFetch.{Standpoint, TellsNextFetch}
+use Rattle.mdmp_lister.specs.NextFetch.{IsGivenPaid, Standpoint, TellsNextFetch}
 use Rattle.mdmp_lister.specs.declared.meter.MeterCounts.{MeterCounts}
 use Rattle.mdmp_lister.specs.Format.Ranges.{ranges_of}
 use Rattle.mdmp_lister.specs.Fault.{is_unobtained, IsUnobtained, IsSteady, IsToldIn}
@@ -267,6 +267,8 @@ pub record KeepsGiven (old new : ListerState) : Type 0 where
 pub record NextSpends (old : ListerState) (result : Result (Option Item) ListFault) (new : ListerState) : Type 0 where
   -- what came off the unread bytes of the current entry's stream, and the name of the item
   pub fetches : FetchesAtMost (old.unread + stream_begun old.source.size (begun_by result) + answer_cost old.limit result - new.unread) old.source new.source
+  -- just what the window took for the record, or for a head, and the bytes of the item's name
+  pub costs : IfOk result (λ given. IsGivenPaid (standpoint_in old) given new.counts.fetched)
   -- and at most one name was reached
   pub counts : Moves 1 old.counts new.counts
   -- just those that items have, where no fault stands
@@ -303,7 +305,7 @@ pub record NextLeaves (old : ListerState) (result : Result (Option Item) ListFau
   pub places : NextPlaces old result new
   -- a fault of the store that does not stand yet is told in this call; it and one of the budget are of no item
   pub told : old.stop ≡ None → IfErr result (λ f. IsToldIn old.current f old.source new.source)
-  -- and one of the budget is of the next fetch
+  -- one of the budget is of the next fetch, and for one of the file just its bytes were fetched
   pub next : old.stop ≡ None → IfErr result (λ f. TellsNextFetch (standpoint_in old) f.kind f.offset f.size new.counts.fetched)
 
 -- and of a lister, which keeps the ranges that it gives, and whose count of names is never at its greatest

@@ -16,9 +16,13 @@ use Rattle.mdmp_lister.specs.declared.fault.FetchFault.{FetchFault}
 use Rattle.mdmp_lister.specs.declared.fault.FetchFault.TheVariants as fetch
 use Rattle.mdmp_lister.specs.declared.fault.OpenFault.{OpenFault}
 use Rattle.mdmp_lister.specs.declared.fault.OpenFault.TheVariants.{Budget}
+use Rattle.mdmp_lister.specs.declared.item.Item.{Item}
+use Rattle.mdmp_lister.specs.declared.item.StreamItem.{StreamItem}
 use Rattle.mdmp_lister.specs.declared.kind.StreamKind.{StreamKind}
 use Rattle.mdmp_lister.specs.declared.limits.Limits.{Limits}
 use Rattle.mdmp_lister.specs.declared.shape.Shape.{Shape}
+use Rattle.mdmp_lister.specs.declared.step.Step.{Step}
+use Rattle.mdmp_lister.specs.Costs.{bad_name_cost, item_cost, step_cost}
 use Rattle.mdmp_lister.specs.Following.{Standing, begun, records_given}
 use Rattle.mdmp_lister.specs.Format.Directory.{IsDirectory}
 use Rattle.mdmp_lister.specs.Format.Item.{record_at}
@@ -26,7 +30,9 @@ use Rattle.mdmp_lister.specs.Format.Kind.{form_of, kind_of, record_size}
 use Rattle.mdmp_lister.specs.Format.Listing.{is_chosen}
 use Rattle.mdmp_lister.specs.Format.Refusal.{directory_refusal}
 use Rattle.mdmp_lister.specs.Format.Shape.{FitsIn, head_cost, shape_of}
+use Rattle.mdmp_lister.specs.Format.Summary.{summary_of}
 use Rattle.mdmp_lister.specs.Meter.{KeepsTo, MeterState, is_passed}
+use Rattle.mdmp_lister.specs.Step.{stream_told}
 use Rattle.mdmp_lister.specs.StreamHead.{ahead_of, heads_ahead}
 
 -- ---- as a file is opened
@@ -176,10 +182,45 @@ pub data IsNextFetch (s : Standpoint) (fetched offset size : ℕ) : Type 0 where
   of_name : (kind : StreamKind) (at rva before : ℕ) → IsNextRecord s kind at → IsNamedAt s.content kind at rva → before ≡ raised s.fetched (head_takes s kind + record_takes s kind at)
       → IsNameFetch s.content s.size s.limit rva before fetched offset size → IsNextFetch s fetched offset size
 
--- a fault that tells the budget is of the next fetch
+-- ---- what was fetched for an answer
+
+-- the next record of the current entry was read, and so many bytes of its name: those were fetched, and what the window took of
+-- the entry's stream, and nothing else
+pub record IsRecordPaid (s : Standpoint) (named fetched : ℕ) : Type 0 where
+  pub kind : StreamKind
+  pub at : ℕ
+  pub record_is : IsNextRecord s kind at
+  pub fetched_is : fetched ≡ raised s.fetched (head_takes s kind + record_takes s kind at + named)
+
+-- no record was read: nothing was fetched but what the window took for the head of the current entry's stream, if it was read
+pub data IsHeadPaid (s : Standpoint) (fetched : ℕ) : Type 0 where
+  nothing_taken : fetched ≡ s.fetched → IsHeadPaid s fetched
+  head_taken : (kind : StreamKind) → kind_of s.entry.stream_type ≡ Some kind → fetched ≡ raised s.fetched (head_takes s kind) → IsHeadPaid s fetched
+
+-- so for an item, which begins this stream or is a record with so many bytes of its name
+abbrev pub IsItemPaid : Standpoint → Option StreamItem → (named fetched : ℕ) → Type 0
+IsItemPaid s (Some x) named fetched = IsHeadPaid s fetched
+IsItemPaid s None named fetched = IsRecordPaid s named fetched
+
+-- for an item or the end
+abbrev pub IsGivenPaid : Standpoint → Option Item → ℕ → Type 0
+IsGivenPaid s None fetched = IsHeadPaid s fetched
+IsGivenPaid s (Some item) fetched = IsItemPaid s (summary_of item).stream (item_cost item) fetched
+
+-- the same of an item whose name stands in a buffer
+abbrev pub IsStepPaid : Standpoint → Option Step → ℕ → Type 0
+IsStepPaid s None fetched = IsHeadPaid s fetched
+IsStepPaid s (Some step) fetched = IsItemPaid s (stream_told step) (step_cost step) fetched
+
+-- and for a fault: one that tells the budget is of the next fetch, one of a name stands in the place of a record, and another
+-- one of the file in that of all records of the entry
 abbrev pub TellsNextFetch : Standpoint → FaultKind → (offset size fetched : ℕ) → Type 0
 TellsNextFetch s kind.Budget offset size fetched = IsNextFetch s fetched offset size
-TellsNextFetch s kind offset size fetched = Unit {0}
+TellsNextFetch s (kind.Source fault) offset size fetched = Unit {0}
+TellsNextFetch s kind.NameLengthOutside offset size fetched = IsRecordPaid s (bad_name_cost s.limit kind.NameLengthOutside) fetched
+TellsNextFetch s kind.NameOdd offset size fetched = IsRecordPaid s (bad_name_cost s.limit kind.NameOdd) fetched
+TellsNextFetch s kind.NameUnitsOutside offset size fetched = IsRecordPaid s (bad_name_cost s.limit kind.NameUnitsOutside) fetched
+TellsNextFetch s kind offset size fetched = IsHeadPaid s fetched
 
 -- or, of a listing that came further in its current entry, of a fetch that came next there: it was given so far then, so many bytes
 -- of its stream were unread, and so many had been fetched

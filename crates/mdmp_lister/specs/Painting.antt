@@ -1,5 +1,5 @@
 -- The cells of a block of addresses, which are read range after range.
-use Rattle.std.specs.Prelude.{◌≡◌, ◌≤◌, ◌<◌, ◌+◌, ◌∷◌, ◌++◌, [], ℕ, Bool, true, false, if◌then◌else◌, List, Option, Some, get_or, length, slice_index}
+use Rattle.std.specs.Prelude.{◌≡◌, ◌≤◌, ◌<◌, ◌+◌, ◌∷◌, ◌++◌, [], ℕ, Bool, false, if◌then◌else◌, List, Option, Some, get_or, length, slice_index}
 use Rattle.mdmp_map.specs.declared.range.Range.{Range}
 use Rattle.mdmp_map.specs.Painting.{PaintState, is_painted}
 use Rattle.mdmp_map.specs.Ranges.{byte_at}

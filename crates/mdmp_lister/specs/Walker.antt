@@ -159,7 +159,7 @@ pub record CountsRecords (old : WalkerState) (result : Result ℕ ListFault) (ne
   pub spent : IsSpentSince old new.list.counts
   pub fetched : IsFetchedSince old new.list.counts
   pub told : old.list.stop ≡ None → IfErr result (λ f. IsToldIn old.list.current f old.list.source new.list.source × (f.entry + 1 ≡ old.list.passed))
-  -- one of the budget is of the next fetch
+  -- one of the budget is of the next fetch, and for one of the file no more was fetched than the head
   pub next : old.list.stop ≡ None → IfErr result (λ f. TellsNextFetch (standpoint_in old.list) f.kind f.offset f.size new.list.counts.fetched)
   pub good : (file : List ℕ) → IsGood old.list.source.store file → IfErr result (λ f. IsOfStore f.kind → ⊥)
   pub refused : IfErr result (λ f. IsRefusedIn f new.list)

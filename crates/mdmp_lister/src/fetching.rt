@@ -1,8 +1,8 @@
 //! Bytes and names of a file, read through its source.
-ghost use Rattle.std.specs.Prelude.{◌≡◌, ◌≤◌, ◌<◌, ◌+◌, ◌^◌, ℕ, List, Some, length, take, IfErr, IfOk};
+ghost use Rattle.std.specs.Prelude.{◌≡◌, ◌≤◌, ◌<◌, ◌+◌, ◌^◌, ℕ, List, Some, length, take, IfOk};
 ghost use Rattle.mdmp_source.specs.Range.{IsInside, bytes_at};
 ghost use Rattle.mdmp_wire.specs.Number.{u32_at};
-ghost use Rattle.mdmp_lister.specs.Fetching.{IsNameTried, Reads, ReadsBeside, ReadsName};
+ghost use Rattle.mdmp_lister.specs.Fetching.{Reads, ReadsBeside, ReadsName, TriesName};
 ghost use Rattle.mdmp_lister.specs.Following.{IsSomeName};
 ghost use Rattle.mdmp_lister.specs.Meter.{Books, TriesFetch};
 ghost use Rattle.mdmp_lister.specs.Format.Name.{name_at};
@@ -91,7 +91,7 @@ pub(crate) fn read_name<S: Store, A: Allocator>(
     ensures held { IfOk result (IsHeld (length buffer.new.items)) }
     ensures some { IsSomeName meter.old.source.size buffer.new.limit rva result }
     ensures reads { ReadsName buffer.new.limit rva result meter.old meter.new }
-    ensures tries { IfErr result (λ fault. IsNameTried buffer.new.limit rva fault.kind fault.offset fault.size meter.old meter.new) }
+    ensures tries { TriesName buffer.new.limit rva result meter.old meter.new }
 {
     let size = meter.size();
     if rva == 0 {

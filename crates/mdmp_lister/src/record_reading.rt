@@ -1,6 +1,6 @@
 //! A record of any kind and its name, read through a source.
-ghost use Rattle.std.specs.Prelude.{◌≡◌, ◌≤◌, ◌<◌, ◌^◌, ℕ, List, Some, false, length, min, IfErr, IfOk, OnOk, MatchResult};
-ghost use Rattle.mdmp_lister.specs.Fetching.{IsRecordTried, Reads, ReadsRecord, TellsRecord, TriesHold};
+ghost use Rattle.std.specs.Prelude.{◌≡◌, ◌≤◌, ◌<◌, ◌^◌, ℕ, List, Some, false, length, min, IfOk, OnOk, MatchResult};
+ghost use Rattle.mdmp_lister.specs.Fetching.{Reads, ReadsRecord, TellsRecord, TriesHold, TriesRecord};
 ghost use Rattle.mdmp_lister.specs.Following.{IsRecordFault, IsSomeRecord};
 ghost use Rattle.mdmp_lister.specs.Format.Item.{item_at, kind_told, range_offset, record_at};
 ghost use Rattle.mdmp_lister.specs.HeldStep.{HasItsBytes, read_told};
@@ -65,7 +65,7 @@ pub(crate) fn read_item<S: Store, A: Allocator>(
     ensures comes { ComesTo at meter.old.source.store.content window.old window.new }
     ensures slides { Slides at (record_size kind) window.old result window.new }
     ensures reads { ReadsRecord window.old.room (needed at (record_size kind) window.old) buffer.new.limit (read_told window.new.held result) meter.old meter.new }
-    ensures tries { IfErr result (λ fault. IsRecordTried buffer.new.limit kind at meter.old window.old meter.new fault.kind fault.offset fault.size) }
+    ensures tries { TriesRecord buffer.new.limit kind at (read_told window.new.held result) meter.old window.old meter.new }
     ensures nameless { has_names kind ≡ false → meter.new.names ≡ meter.old.names }
     ensures some { MatchResult (read_told window.new.held result) (IsSomeRecord meter.old.source.size buffer.new.limit kind entry index offset) (IsRecordFault meter.old.source.size buffer.new.limit kind) }
 {

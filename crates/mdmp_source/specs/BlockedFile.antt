@@ -14,11 +14,11 @@ held_past (Err e) block = record block { bytes = [] }
 abbrev pub file_of : {F A : Type 0} → BlockedFile F A → F
 file_of f = f.file.file
 
--- nothing was read yet: the block holds nothing and has room for so many bytes, which is all its memory, and the file stands
--- nowhere that is known
+-- nothing was read yet: the block holds nothing and has room for so many bytes, which is all its memory and of which none was
+-- written to, and the file stands nowhere that is known
 pub record HoldsNoBlock {F A : Type 0} (room : ℕ) (f : BlockedFile F A) : Type 0 where
   pub place : f.file.place ≡ None
-  pub block : f.block ≡ record { at = 0; bytes = []; room = room; reach = 0; given = 0; calls = 0 }
+  pub block : f.block ≡ record { at = 0; bytes = []; room = room; touched = 0; reach = 0; given = 0; calls = 0 }
 
 module _ {F A : Type 0} (may_seek : F → ℕ → Bool → F → Type 0) (may_read : F → Result ℕ StoreFailed → List ℕ → F → Type 0) where
   -- a read that is answered from the block, which holds the byte at its place: nothing is read

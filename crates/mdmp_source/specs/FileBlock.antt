@@ -13,6 +13,8 @@ pub record FileBlockState : Type 0 where
   pub bytes : List ℕ
   -- how many bytes a read into the block may give: all its memory
   pub room : ℕ
+  -- how many bytes its buffer has: no more of its memory was written to
+  pub touched : ℕ
   -- how many bytes the last read into the block asked for
   pub reach : ℕ
   -- how many bytes it gave, modulo 2^64, and to how many calls, modulo 2^32
@@ -72,6 +74,8 @@ pub record IsBlockFilled {F T E : Type 0} (may_seek : F → ℕ → Bool → F �
   pub at_place : after.at ≡ at
   pub holds : after.bytes ≡ given_by answer bytes
   pub same_room : after.room ≡ before.room
+  -- the buffer is lengthened to what the read asked for, and no further
+  pub touched : after.touched ≡ max before.touched (length bytes)
   pub asked : after.reach ≡ length bytes
   pub fresh : (after.given ≡ 0) × (after.calls ≡ 0)
   pub fails : IsOk result ↔ IsOk answer

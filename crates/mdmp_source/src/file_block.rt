@@ -47,6 +47,7 @@ impl<A: Allocator> Model for FileBlock<A> {
       at = b.at;
       bytes = take b.len b.buffer.items;
       room = vec_capacity b.buffer;
+      touched = vec_len b.buffer;
       reach = b.reach;
       given = b.given;
       calls = b.calls;
@@ -57,13 +58,14 @@ impl<A: Allocator> Model for FileBlock<A> {
 
 impl<A: Allocator> FileBlock<A> {
     /// A block that holds nothing. Its memory is that of `buffer`, which is empty: no call takes any more, and
-    /// each writes to no more of it than a read asks for.
+    /// each writes to no more of it than a read asks for (`touched`).
     pub(crate) fn over(buffer: Vec<u8, A>) -> Self
         requires { vec_len buffer ≡ 0 }
         ensures { result ≡ record {
           at = 0;
           bytes = [];
           room = vec_capacity buffer;
+          touched = 0;
           reach = 0;
           given = 0;
           calls = 0;

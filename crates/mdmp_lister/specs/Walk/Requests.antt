@@ -18,7 +18,7 @@ use Rattle.mdmp_lister.specs.declared.walk.Walk.{Walk}
 use Rattle.mdmp_lister.specs.CodeView.{ReadsCodeView}
 use Rattle.mdmp_lister.specs.Costs.{IsUnreadBy, begun_at, given_spent, stream_begun}
 use Rattle.mdmp_lister.specs.Meter.{Books, IsUnmade, Moves, counts_of}
-use Rattle.mdmp_lister.specs.NextFetch.{Standpoint, TellsNextFetch, head_takes}
+use Rattle.mdmp_lister.specs.NextFetch.{IsStepPaid, Standpoint, TellsNextFetch, head_takes}
 use Rattle.mdmp_lister.specs.Walk.Paying.{IsPaid, IsWithinSince, unread_bytes}
 use Rattle.mdmp_lister.specs.Walk.Reaching.{Reaches, ReachesAtFault, given_once}
 use Rattle.mdmp_lister.specs.Fault.{IsOfStore, IsToldIn}
@@ -91,6 +91,8 @@ module _ {S A : Type 0} where
         old.meter.source new.meter.source
     pub counts : Moves 1 (counts_of old.meter) (counts_of new.meter)
     pub named : IfOk result (λ given. Reaches (given_once given) old.meter new.meter)
+    -- just so many bytes
+    pub costs : IfOk result (λ given. IsStepPaid (standpoint_of old) given new.meter.fetched)
     -- and so it was counted, with a name and its length where one was reached
     pub spent : IsWithinSince old.meter.asked old.meter.fetched old.meter.names (unread_bytes old + stream_begun old.meter.source.size (begun_at result)) new
     pub paid : (allowed : Amount) (before : ℕ) → IsPaid allowed before old → IsPaid allowed before new

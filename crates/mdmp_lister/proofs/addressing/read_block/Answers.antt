@@ -1,8 +1,8 @@
-use Rattle.std.proofs.Common.{◌≡◌, ◌<◌, ◌+◌, ◌∙◌, ◌∷◌, ◌++◌, [], ℕ, Err, None, Some, ap, arith, drop, length, rules, subst, sym, take, true}
+use Rattle.std.proofs.Common.{◌≡◌, ◌<◌, ◌∙◌, ◌∷◌, ◌++◌, [], ℕ, Err, None, Some, ap, arith, drop, length, rules, subst, sym, take, true}
 use Rattle.std.proofs.lemmas.List.{take-append-drop, take_all}
 use Rattle.mdmp_map.specs.Painting.{PaintState, is_painted}
 use Rattle.mdmp_map.specs.Ranges.{IsPlaced, IsWithin}
-use Rattle.mdmp_lister.specs.Painting.{AreCells, ArePainted, count_known}
+use Rattle.mdmp_lister.specs.Painting.{AreCells, count_known}
 use Rattle.mdmp_lister.proofs.Fetches.{IsCaused_later}
 use Rattle.mdmp_lister.proofs.Painted.{all_at, block_read, books_within, cells_full, count-le, counted_then, take_next}
 use Rattle.mdmp_lister.proofs.addressing.read_block.Goals as goal

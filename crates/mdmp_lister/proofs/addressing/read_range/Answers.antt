@@ -1,8 +1,8 @@
-use Rattle.std.proofs.Common.{◌≡◌, ◌+◌, ◌-◌, ◌∙◌, ◌∷◌, ◌++◌, [], ℕ, None, arith, length, subst, sym}
+use Rattle.std.proofs.Common.{◌≡◌, ◌-◌, ◌∙◌, ◌∷◌, ◌++◌, [], None, arith, length, subst, sym}
 use Rattle.mdmp_map.specs.Ranges.{IsWithin}
 use Rattle.mdmp_lister.specs.Painting.{AreCells, AreCellsTo}
 use Rattle.mdmp_lister.proofs.Fetches.{IsCaused_later}
-use Rattle.mdmp_lister.proofs.Painted.{books_within, cells_from, cells_run, cells_to, newly_then, painted_run, run_inside}
+use Rattle.mdmp_lister.proofs.Painted.{books_within, cells_run, cells_to, newly_then, painted_run, run_inside}
 use Rattle.mdmp_lister.proofs.addressing.read_range.Goals as goal
 
 pub read_run-requires-clause-inside : goal.read_run-requires-clause-inside

@@ -1,11 +1,11 @@
-use Rattle.std.proofs.Common.{◌≡◌, ◌≤◌, ◌+◌, ◌∙◌, None, Err, ap, arith, inr, refl, rules}
+use Rattle.std.proofs.Common.{◌≡◌, ◌≤◌, ◌+◌, ◌∙◌, None, Err, ap, arith, inr, refl, rules, sym}
 use Rattle.mdmp_source.specs.Count.{raised}
 use Rattle.mdmp_lister.specs.declared.fetching.NameRead.TheVariants.{Long, Units}
 use Rattle.mdmp_lister.specs.Fault.{fault_of_fetch}
 use Rattle.mdmp_lister.specs.Meter.{MeterState, store_fault_of}
 use Rattle.mdmp_lister.proofs.Fetches.{IsCaused_later}
 use Rattle.mdmp_lister.proofs.Metering.{Books-then}
-use Rattle.mdmp_lister.proofs.NextSteps.{length_bad, length_refused, units_refused}
+use Rattle.mdmp_lister.proofs.NextSteps.{length_bad, length_refused, raised_both, raised_none, units_refused}
 use Rattle.mdmp_lister.proofs.RecordReads.{name_bad, name_obtained, name_unread}
 use Rattle.mdmp_lister.proofs.SomeNames.{some_bad, some_failed, some_long, some_none, some_outside, some_units}
 use Rattle.mdmp_lister.proofs.fetching.read_name.Goals as goal
@@ -90,7 +90,8 @@ pub returns-in_err-check_units-clause-tries : goal.returns-in_err-check_units-cl
 returns-in_err-check_units-clause-tries g c =
     let bad = c.in_err-check_units in
     let is : c.from_residual-in_err-check_units.result ≡ Err bad.field-0.0 = search rules in
-    rw is (length_bad c.args.buffer.now.limit c.args.rva c.args.meter.now c.read_length.new.meter _ _ c.in_ok-length.length bad.field-0.0 (rw c.check_units.ensures at bad.was))
+    rw is (length_bad c.args.buffer.now.limit c.args.rva c.args.meter.now c.read_length.new.meter
+    (c.in_ok-length.ensures.tries ∙ ap (λ (m : MeterState). raised m.fetched 4) c.reach_name.ensures) _ _ c.in_ok-length.length bad.field-0.0 (rw c.check_units.ensures at bad.was))
 
 pub returns-in_err-fetch-clause-tries : goal.returns-in_err-fetch-clause-tries
 returns-in_err-fetch-clause-tries g c =
@@ -101,3 +102,18 @@ returns-in_err-fetch-clause-tries g c =
     rw is (units_refused c.fetch.new.self.limit c.args.rva bytes fault c.read_length.new.meter c.fetch.new.meter c.args.meter.now c.if-rva-eq0.false (search rules) (search rules) few
     (λ file known. c.in_ok-length.ensures.reads.of_file file (rw c.reach_name.ensures known))
     (c.in_ok-length.ensures.tries ∙ ap (λ (m : MeterState). raised m.fetched 4) c.reach_name.ensures) c.in_err-fetch.ensures.tries)
+
+pub returns-then-rva-eq0-clause-tries : goal.returns-then-rva-eq0-clause-tries
+returns-then-rva-eq0-clause-tries g c = omega arith
+
+pub returns-then-not-inside-clause-tries : goal.returns-then-not-inside-clause-tries
+returns-then-not-inside-clause-tries g c =
+    rw c.faulted.ensures (ap (λ (m : MeterState). m.fetched) c.reach_name.ensures ∙ sym (raised_none c.args.meter.now.fetched))
+
+pub returns-then-limit-length-clause-tries : goal.returns-then-limit-length-clause-tries
+returns-then-limit-length-clause-tries g c = c.in_ok-length.ensures.tries ∙ ap (λ (m : MeterState). raised m.fetched 4) c.reach_name.ensures
+
+pub returns-clause-tries : goal.returns-clause-tries
+returns-clause-tries g c =
+    c.in_ok-fetch.ensures.tries ∙ ap (λ n. raised n c.in_ok-length.length) (c.in_ok-length.ensures.tries ∙ ap (λ (m : MeterState). raised m.fetched 4) c.reach_name.ensures)
+    ∙ raised_both c.args.meter.now.fetched 4 c.in_ok-length.length

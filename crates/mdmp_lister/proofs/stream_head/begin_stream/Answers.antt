@@ -1,4 +1,4 @@
-use Rattle.std.proofs.Common.{rules, ◌≡◌, ◌≤◌, ◌∙◌, Ok, Err, Result, ap, refl}
+use Rattle.std.proofs.Common.{rules, ◌≡◌, ◌≤◌, ◌∙◌, Ok, Err, Result, ap, inl, refl}
 use Rattle.std.specs.Prelude.{IfErr}
 use Rattle.std.specs.Result.{IsErr}
 use Rattle.mdmp_lister.specs.declared.fault.Fault.{Fault}
@@ -50,7 +50,7 @@ pub returns-in_err-check_head-clause-tries : goal.returns-in_err-check_head-clau
 returns-in_err-check_head-clause-tries g c =
     let fault : Fault = c.in_err-check_head.field-0.0 in
     let is : c.from_residual.result ≡ Err fault = search rules in
-    rw (is, c.in_err-check_head.ensures.short.is) tt
+    rw (is, c.in_err-check_head.ensures.short.is) (inl refl)
 
 pub returns-in_err-hold-clause-tries : goal.returns-in_err-hold-clause-tries
 returns-in_err-hold-clause-tries g c =

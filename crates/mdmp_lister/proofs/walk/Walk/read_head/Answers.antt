@@ -10,7 +10,7 @@ use Rattle.mdmp_lister.proofs.Counted.{counted_bad, counted_none, counted_outsid
 use Rattle.mdmp_lister.proofs.Fetches.{not_of_source, told_in_caused, unchanged_caused}
 use Rattle.mdmp_lister.proofs.Heads.{listed-inside}
 use Rattle.mdmp_lister.proofs.Metering.{Books-within, Books_none}
-use Rattle.mdmp_lister.proofs.NextSteps.{head_next}
+use Rattle.mdmp_lister.proofs.NextWalks.{head_next}
 use Rattle.mdmp_lister.proofs.Paying.{entry_cost-listed, fault_stage-owed}
 use Rattle.mdmp_lister.proofs.Unchanged.{fault_stage-unchanged}
 use Rattle.mdmp_lister.proofs.walk.Walk.read_head.Goals as goal

@@ -1,4 +1,4 @@
-use Rattle.std.proofs.Common.{◌≡◌, None, rules, refl, sym, subst}
+use Rattle.std.proofs.Common.{◌≡◌, None, rules, sym, subst}
 use Rattle.mdmp_lister.specs.Meter.{MeterState}
 use Rattle.mdmp_lister.specs.Stage.{failure_of}
 use Rattle.mdmp_lister.specs.Walk.Positions.{IsWalked}

@@ -15,6 +15,7 @@ returns-clause-read g c =
         at_place = filled.at_place;
         holds = filled.holds;
         same_room = filled.same_room;
+        touched = filled.touched;
         asked = filled.asked;
         fresh = filled.fresh;
         fails = filled.fails;

@@ -1,4 +1,4 @@
-use Rattle.std.proofs.Common.{◌≡◌, ◌≤◌, ◌+◌, ◌-◌, ◌∙◌, [], ap, sym, subst, arith, length, take, vec_len, refl, Ok}
+use Rattle.std.proofs.Common.{◌≡◌, ◌≤◌, ◌+◌, ◌-◌, ◌∙◌, [], ap, sym, subst, arith, length, max, take, vec_len, refl, Ok}
 use Rattle.std.proofs.lemmas.List.{take-take}
 use Rattle.std.specs.Vec.{with_items}
 use Rattle.mdmp_source.specs.FileBlock.{IsReach}
@@ -27,6 +27,7 @@ returns g c =
       at_place = refl;
       holds = front;
       same_room = c.lengthen.ensures.capacity ∙ ap (λ b. b.room) c.self.view_is;
+      touched = c.lengthen.ensures.len ∙ ap (λ b. max b.touched reach) c.self.view_is ∙ ap (λ n. max c.args.self.now.touched n) (sym written.all);
       asked = sym written.all;
       fresh = (refl, refl);
       fails = (λ x. x, λ x. x);
