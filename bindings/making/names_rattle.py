@@ -1,128 +1,111 @@
-"""The tables of names.toml that the command prints, as functions of Rattle and as their definitions."""
+"""The tables of names.toml that the command prints, as statics of Rattle and as the definitions that these meet."""
 
 from __future__ import annotations
+
+from dataclasses import dataclass
 
 from .names import Codes, Group, Names, number_text
 
 CRATE = "crates/mdmp_names"
 MADE = "Made by bindings/generate from bindings/names.toml."
-# How many rows a function has at most: the prover's searches have bounds.
-MOST_ROWS = 32
-CLAUSES = """    ensures named {{ option_map (λ name. name.now) result ≡ {call} }}
-    ensures short {{ IfSome result (λ name. length name.now ≤ 64) }}
-"""
-
-Rows = list[tuple[str, str]]  # a number as it is written, and its name
+# How long the words of a row are at most that `rt fmt` leaves on one line.
+ROW_WIDTH = 60
 
 
+def row_text(words: list[str]) -> str:
+    """A row as `rt fmt` lays it out."""
+    line = ", ".join(words)
+    if len(line) <= ROW_WIDTH:
+        return f"    ({line}),\n"
+    return "    (\n" + "".join(f"        {word},\n" for word in words) + "    ),\n"
+
+
+@dataclass(frozen=True)
 class Table:
-    """A table that has its own source file and its own definitions."""
+    """A table that has its own source file and its own definitions, and the function that searches in it."""
 
-    def __init__(self, file: str, name: str, title: str, kind: str, public: str = "pub(crate) ") -> None:
-        self.file, self.name, self.title, self.kind, self.public = file, name, title, kind, public
-        self.source: list[str] = []  # the functions
-        self.specs: list[str] = []  # the definitions
-        self.words: list[str] = []  # what the clauses cite
-        self.prelude = {"ℕ", "List", "Option", "Some", "None", "codes", "◌==◌", "if◌then◌else◌"}
+    file: str  # also what its rows are called, as a static and as a definition
+    title: str
+    function: str
+    doc: str
+    is_public: bool
+    keys: dict[str, str]  # what a row is found by: the function's parameters, and the type of each
+    rows: list[tuple[list[str], str]]  # the keys of each row as they are written, and its name
 
     @property
     def stem(self) -> str:
         return "".join(word.capitalize() for word in self.file.split("_"))
 
-    def function(self, name: str, doc: str, public: str, arguments: str, call: str, body: list[str]) -> None:
-        self.words.append(name)
-        clauses = CLAUSES.format(call=call)
-        self.source.append(
-            f"/// {doc}\n{public}fn {name}({arguments}) -> Option<&'static str>\n{clauses}{{\n"
-            + "".join(f"    {line}\n" for line in body)
-            + "}\n"
-        )
-
-    def definition(self, name: str, kinds: str, arguments: str, body: list[str]) -> None:
-        self.specs.append(
-            f"abbrev pub {name} : {kinds}Option (List ℕ)\n{name} {arguments} =\n" + "".join(f"    {line}\n" for line in body)
-        )
-
-    def rows(self, name: str, doc: str, public: str, rows: Rows) -> None:
-        """A function over some rows."""
-        body = ["match number {", *[f'    {number} => Some("{text}"),' for number, text in rows], "    _ => None,", "}"]
-        self.function(name, doc, public, f"number: {self.kind}", f"{name} number", body)
-        tests = [f'if n == {number} then Some (codes "{text}")' for number, text in rows]
-        self.definition(name, "ℕ → ", "n", [tests[0], *[f"else {test}" for test in tests[1:]], "else None"])
-
-    def split(self, doc: str, rows: Rows) -> None:
-        """A function over all rows, by others over some of them."""
-        starts = range(0, len(rows), MOST_ROWS)
-        parts = [(f"{self.name}_{place + 1}", rows[start : start + MOST_ROWS]) for place, start in enumerate(starts)]
-        if len(parts) == 1:
-            self.rows(self.name, doc, self.public, rows)
-            return
-        self.prelude.add("nat_lt")
-        bounds = [part[0][0] for _, part in parts[1:]]
-        for place, (name, part) in enumerate(parts):
-            self.rows(name, f"{doc[:-1]}, part {place + 1}.", "", part)
-        body = [f"if number < {bounds[0]} {{", f"    {parts[0][0]}(number)"]
-        for bound, (name, _) in zip(bounds[1:], parts[1:]):
-            body += [f"}} else if number < {bound} {{", f"    {name}(number)"]
-        body += ["} else {", f"    {parts[-1][0]}(number)", "}"]
-        self.function(self.name, doc, self.public, f"number: {self.kind}", f"{self.name} number", body)
-        tests = [f"if nat_lt n {bound} then {name} n" for bound, (name, _) in zip(bounds, parts)]
-        self.definition(self.name, "ℕ → ", "n", [tests[0], *[f"else {test}" for test in tests[1:]], f"else {parts[-1][0]} n"])
+    @property
+    def search(self) -> tuple[str, str, str]:
+        """The function that searches in such tables, its definition, and what a row is there."""
+        return ("flags_in", "flags_among", "NamedFlags") if len(self.keys) == 2 else ("name_in", "name_among", "NamedNumber")
 
     def source_text(self) -> str:
+        keys = [key if kind == "u32" else f"u32::from({key})" for key, kind in self.keys.items()]
+        kinds = ", ".join(["u32"] * len(keys) + ["&str"])
+        row = "A number, and its name." if len(keys) == 1 else "The code of an exception, its flags, and their name."
         return (
             f"//! {self.title}. {MADE}\n"
             "ghost use Rattle.std.specs.Prelude.{◌≡◌, ◌≤◌, IfSome, length};\n"
             "ghost use Rattle.std.specs.Option.{option_map};\n"
-            f"ghost use Rattle.mdmp_names.specs.{self.stem}.{{{', '.join(self.words)}}};\n\n" + "\n".join(self.source)
+            f"ghost use Rattle.mdmp_names.specs.{self.stem}.{{{self.function}}};\n\n"
+            f"use crate::table::{self.search[0]};\n\n"
+            f"/// {row}\nstatic {self.file.upper()}: [({kinds}); {len(self.rows)}] = [\n"
+            + "".join(row_text([*keys, f'"{name}"']) for keys, name in self.rows)
+            + "];\n\n"
+            f"/// {self.doc}\n"
+            f"pub{'' if self.is_public else '(crate)'} fn {self.function}"
+            f"({', '.join(f'{key}: {kind}' for key, kind in self.keys.items())}) -> Option<&'static str>\n"
+            f"    ensures named {{ option_map (λ name. name.now) result ≡ {self.function} {' '.join(self.keys)} }}\n"
+            "    ensures short { IfSome result (λ name. length name.now ≤ 64) }\n"
+            f"{{\n    {self.search[0]}(&{self.file.upper()}, {', '.join(keys)})\n}}\n"
         )
 
     def specs_text(self) -> str:
-        order = ["ℕ", "◌==◌", "nat_lt", "if◌then◌else◌", "List", "Option", "Some", "None", "codes"]
-        used = ", ".join(word for word in order if word in self.prelude)
-        return f"-- {self.title}. {MADE}\nuse Rattle.std.specs.Prelude.{{{used}}}\n\n" + "\n".join(self.specs)
+        _, among, row = self.search
+        rows = [f'({", ".join(keys)}, codes "{name}")' for keys, name in self.rows]
+        kinds = "ℕ" if len(self.keys) == 1 else f"({' '.join(self.keys)} : ℕ)"
+        return (
+            f"-- {self.title}. {MADE}\n"
+            "use Rattle.std.specs.Prelude.{ℕ, List, [], ◌∷◌, Option, codes}\n"
+            f"use Rattle.mdmp_names.specs.Table.{{{row}, {among}}}\n\n"
+            f"abbrev pub {self.file} : List {row}\n"
+            f"{self.file} =\n    " + "\n    ∷ ".join([*rows, "[]"]) + "\n\n"
+            f"abbrev pub {self.function} : {kinds} → Option (List ℕ)\n"
+            f"{self.function} = {among} {self.file}\n"
+        )
 
 
-def group_table(group: Group, name: str, doc: str, words: bool, kind: str = "u32", is_public: bool = False) -> Table:
-    """The names of a group, or with `words` what its numbers are called in a text, which is public."""
-    table = Table(group.name, name, group.title, kind, "pub " if words or is_public else "pub(crate) ")
-    table.split(doc, [(part.told(row.number), row.also if words else row.name) for row, part in group.rows])
-    return table
+def group_table(group: Group, function: str, doc: str, kind: str = "u32", is_public: bool = False) -> Table:
+    """The names of a group, or, if it has words, what its numbers are called in a text."""
+    rows = [([part.told(row.number)], row.also if group.also == "words" else row.name) for row, part in group.rows]
+    return Table(group.name, group.title, function, doc, is_public, {"number": kind}, rows)
 
 
-def codes_table(codes: Codes, name: str, doc: str) -> Table:
-    """The names of flags: by the code, and then by the flags."""
-    table = Table(codes.name, name, codes.title, "u32")
-    by_code: dict[str, Rows] = {}
-    for code, flags, text in codes.rows:
-        number = number_text(codes.group.number_of(code), 0)
-        by_code.setdefault(number, []).append((codes.told(flags), text))
-    own = []
-    for code, rows in by_code.items():
-        own.append((code, f"{name}_{code}"))
-        table.rows(own[-1][1], f"{doc[:-1]} {code}.", "", rows)
-    body = ["match code {", *[f"    {code} => {call}(flags)," for code, call in own], "    _ => None,", "}"]
-    table.function(name, f"{doc[:-1]}.", "pub(crate) ", "code: u32, flags: u32", f"{name} code flags", body)
-    tests = [f"if code == {code} then {call} flags" for code, call in own]
-    table.definition(name, "(code flags : ℕ) → ", "code flags", [tests[0], *[f"else {test}" for test in tests[1:]], "else None"])
-    return table
+def codes_table(codes: Codes, function: str) -> Table:
+    """The names of flags, by the code and the flags."""
+    rows = [
+        ([number_text(codes.group.number_of(code), 0), codes.told(flags)], name) for code, flags, name in codes.rows
+    ]
+    doc = "The name of the flags of an exception with this code."
+    return Table(codes.name, codes.title, function, doc, False, {"code": "u32", "flags": "u32"}, rows)
 
 
 def tables(names: Names) -> list[Table]:
-    codes = {entry.name: entry for entry in names.codes}
-    flags = "The name of the flags of code."
+    group, codes = names.group, {entry.name: entry for entry in names.codes}
     return [
-        group_table(names.group("windows_exceptions"), "windows_exception", "The name of an exception code of Windows.", False),
-        group_table(names.group("linux_signals"), "linux_signal", "The name of a signal of Linux.", False),
-        group_table(names.group("si_codes"), "signal_code", "The name of a code of any signal.", False),
-        group_table(names.group("mach_exceptions"), "mach_exception", "The name of a Mach exception.", False),
-        codes_table(codes["linux_codes"], "linux_code", flags),
-        codes_table(codes["mach_codes"], "mach_code", flags),
-        codes_table(codes["mach_x86_codes"], "mach_x86_code", flags),
-        codes_table(codes["mach_arm_codes"], "mach_arm_code", flags),
-        group_table(names.group("platforms"), "platform_words", "What a platform is called.", True),
-        group_table(names.group("architectures"), "architecture_words", "What a processor architecture is called.", True, "u16"),
-        group_table(names.group("stream_types"), "stream_name", "The name of a type of streams.", False, is_public=True),
+        group_table(group("windows_exceptions"), "windows_exception", "The name of an exception code of Windows."),
+        group_table(group("linux_signals"), "linux_signal", "The name of a signal of Linux."),
+        group_table(group("si_codes"), "signal_code", "The name of a code of any signal."),
+        group_table(group("mach_exceptions"), "mach_exception", "The name of a Mach exception."),
+        codes_table(codes["linux_codes"], "linux_code"),
+        codes_table(codes["mach_codes"], "mach_code"),
+        codes_table(codes["mach_x86_codes"], "mach_x86_code"),
+        codes_table(codes["mach_arm_codes"], "mach_arm_code"),
+        group_table(group("platforms"), "platform_words", "What a platform is called.", is_public=True),
+        group_table(group("architectures"), "architecture_words", "What a processor architecture is called.", "u16", True),
+        group_table(group("stream_types"), "stream_name", "The name of a type of streams.", is_public=True),
     ]
 
 

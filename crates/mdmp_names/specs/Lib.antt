@@ -9,4 +9,5 @@ pub mod MachX86Codes
 pub mod Platforms
 pub mod SiCodes
 pub mod StreamTypes
+pub mod Table
 pub mod WindowsExceptions

@@ -1,77 +1,51 @@
 -- Codes of one signal. Made by bindings/generate from bindings/names.toml.
-use Rattle.std.specs.Prelude.{ℕ, ◌==◌, if◌then◌else◌, List, Option, Some, None, codes}
+use Rattle.std.specs.Prelude.{ℕ, List, [], ◌∷◌, Option, codes}
+use Rattle.mdmp_names.specs.Table.{NamedFlags, flags_among}
 
-abbrev pub linux_code_4 : ℕ → Option (List ℕ)
-linux_code_4 n =
-    if n == 1 then Some (codes "ILL_ILLOPC")
-    else if n == 2 then Some (codes "ILL_ILLOPN")
-    else if n == 3 then Some (codes "ILL_ILLADR")
-    else if n == 4 then Some (codes "ILL_ILLTRP")
-    else if n == 5 then Some (codes "ILL_PRVOPC")
-    else if n == 6 then Some (codes "ILL_PRVREG")
-    else if n == 7 then Some (codes "ILL_COPROC")
-    else if n == 8 then Some (codes "ILL_BADSTK")
-    else if n == 9 then Some (codes "ILL_BADIADDR")
-    else None
-
-abbrev pub linux_code_5 : ℕ → Option (List ℕ)
-linux_code_5 n =
-    if n == 1 then Some (codes "TRAP_BRKPT")
-    else if n == 2 then Some (codes "TRAP_TRACE")
-    else if n == 3 then Some (codes "TRAP_BRANCH")
-    else if n == 4 then Some (codes "TRAP_HWBKPT")
-    else if n == 5 then Some (codes "TRAP_UNK")
-    else if n == 6 then Some (codes "TRAP_PERF")
-    else None
-
-abbrev pub linux_code_7 : ℕ → Option (List ℕ)
-linux_code_7 n =
-    if n == 1 then Some (codes "BUS_ADRALN")
-    else if n == 2 then Some (codes "BUS_ADRERR")
-    else if n == 3 then Some (codes "BUS_OBJERR")
-    else if n == 4 then Some (codes "BUS_MCEERR_AR")
-    else if n == 5 then Some (codes "BUS_MCEERR_AO")
-    else None
-
-abbrev pub linux_code_8 : ℕ → Option (List ℕ)
-linux_code_8 n =
-    if n == 1 then Some (codes "FPE_INTDIV")
-    else if n == 2 then Some (codes "FPE_INTOVF")
-    else if n == 3 then Some (codes "FPE_FLTDIV")
-    else if n == 4 then Some (codes "FPE_FLTOVF")
-    else if n == 5 then Some (codes "FPE_FLTUND")
-    else if n == 6 then Some (codes "FPE_FLTRES")
-    else if n == 7 then Some (codes "FPE_FLTINV")
-    else if n == 8 then Some (codes "FPE_FLTSUB")
-    else if n == 14 then Some (codes "FPE_FLTUNK")
-    else if n == 15 then Some (codes "FPE_CONDTRAP")
-    else None
-
-abbrev pub linux_code_11 : ℕ → Option (List ℕ)
-linux_code_11 n =
-    if n == 1 then Some (codes "SEGV_MAPERR")
-    else if n == 2 then Some (codes "SEGV_ACCERR")
-    else if n == 3 then Some (codes "SEGV_BNDERR")
-    else if n == 4 then Some (codes "SEGV_PKUERR")
-    else if n == 5 then Some (codes "SEGV_ACCADI")
-    else if n == 6 then Some (codes "SEGV_ADIDERR")
-    else if n == 7 then Some (codes "SEGV_ADIPERR")
-    else if n == 8 then Some (codes "SEGV_MTEAERR")
-    else if n == 9 then Some (codes "SEGV_MTESERR")
-    else None
-
-abbrev pub linux_code_31 : ℕ → Option (List ℕ)
-linux_code_31 n =
-    if n == 1 then Some (codes "SYS_SECCOMP")
-    else if n == 2 then Some (codes "SYS_USER_DISPATCH")
-    else None
+abbrev pub linux_codes : List NamedFlags
+linux_codes =
+    (4, 1, codes "ILL_ILLOPC")
+    ∷ (4, 2, codes "ILL_ILLOPN")
+    ∷ (4, 3, codes "ILL_ILLADR")
+    ∷ (4, 4, codes "ILL_ILLTRP")
+    ∷ (4, 5, codes "ILL_PRVOPC")
+    ∷ (4, 6, codes "ILL_PRVREG")
+    ∷ (4, 7, codes "ILL_COPROC")
+    ∷ (4, 8, codes "ILL_BADSTK")
+    ∷ (4, 9, codes "ILL_BADIADDR")
+    ∷ (5, 1, codes "TRAP_BRKPT")
+    ∷ (5, 2, codes "TRAP_TRACE")
+    ∷ (5, 3, codes "TRAP_BRANCH")
+    ∷ (5, 4, codes "TRAP_HWBKPT")
+    ∷ (5, 5, codes "TRAP_UNK")
+    ∷ (5, 6, codes "TRAP_PERF")
+    ∷ (7, 1, codes "BUS_ADRALN")
+    ∷ (7, 2, codes "BUS_ADRERR")
+    ∷ (7, 3, codes "BUS_OBJERR")
+    ∷ (7, 4, codes "BUS_MCEERR_AR")
+    ∷ (7, 5, codes "BUS_MCEERR_AO")
+    ∷ (8, 1, codes "FPE_INTDIV")
+    ∷ (8, 2, codes "FPE_INTOVF")
+    ∷ (8, 3, codes "FPE_FLTDIV")
+    ∷ (8, 4, codes "FPE_FLTOVF")
+    ∷ (8, 5, codes "FPE_FLTUND")
+    ∷ (8, 6, codes "FPE_FLTRES")
+    ∷ (8, 7, codes "FPE_FLTINV")
+    ∷ (8, 8, codes "FPE_FLTSUB")
+    ∷ (8, 14, codes "FPE_FLTUNK")
+    ∷ (8, 15, codes "FPE_CONDTRAP")
+    ∷ (11, 1, codes "SEGV_MAPERR")
+    ∷ (11, 2, codes "SEGV_ACCERR")
+    ∷ (11, 3, codes "SEGV_BNDERR")
+    ∷ (11, 4, codes "SEGV_PKUERR")
+    ∷ (11, 5, codes "SEGV_ACCADI")
+    ∷ (11, 6, codes "SEGV_ADIDERR")
+    ∷ (11, 7, codes "SEGV_ADIPERR")
+    ∷ (11, 8, codes "SEGV_MTEAERR")
+    ∷ (11, 9, codes "SEGV_MTESERR")
+    ∷ (31, 1, codes "SYS_SECCOMP")
+    ∷ (31, 2, codes "SYS_USER_DISPATCH")
+    ∷ []
 
 abbrev pub linux_code : (code flags : ℕ) → Option (List ℕ)
-linux_code code flags =
-    if code == 4 then linux_code_4 flags
-    else if code == 5 then linux_code_5 flags
-    else if code == 7 then linux_code_7 flags
-    else if code == 8 then linux_code_8 flags
-    else if code == 11 then linux_code_11 flags
-    else if code == 31 then linux_code_31 flags
-    else None
+linux_code = flags_among linux_codes

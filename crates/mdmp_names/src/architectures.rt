@@ -3,34 +3,38 @@ ghost use Rattle.std.specs.Prelude.{◌≡◌, ◌≤◌, IfSome, length};
 ghost use Rattle.std.specs.Option.{option_map};
 ghost use Rattle.mdmp_names.specs.Architectures.{architecture_words};
 
+use crate::table::name_in;
+
+/// A number, and its name.
+static ARCHITECTURES: [(u32, &str); 22] = [
+    (0, "x86"),
+    (1, "MIPS"),
+    (2, "Alpha"),
+    (3, "PowerPC"),
+    (4, "SuperH"),
+    (5, "ARM"),
+    (6, "IA-64"),
+    (7, "64-bit Alpha"),
+    (8, "MSIL"),
+    (9, "x64"),
+    (10, "x86 on x64"),
+    (11, "any processor"),
+    (12, "ARM64"),
+    (13, "ARM on 64-bit Windows"),
+    (14, "x86 on ARM64"),
+    (0x8001, "SPARC"),
+    (0x8002, "64-bit PowerPC"),
+    (0x8003, "ARM64"),
+    (0x8004, "64-bit MIPS"),
+    (0x8005, "RISC-V"),
+    (0x8006, "64-bit RISC-V"),
+    (0xFFFF, "unknown processor"),
+];
+
 /// What a processor architecture is called.
 pub fn architecture_words(number: u16) -> Option<&'static str>
     ensures named { option_map (λ name. name.now) result ≡ architecture_words number }
     ensures short { IfSome result (λ name. length name.now ≤ 64) }
 {
-    match number {
-        0 => Some("x86"),
-        1 => Some("MIPS"),
-        2 => Some("Alpha"),
-        3 => Some("PowerPC"),
-        4 => Some("SuperH"),
-        5 => Some("ARM"),
-        6 => Some("IA-64"),
-        7 => Some("64-bit Alpha"),
-        8 => Some("MSIL"),
-        9 => Some("x64"),
-        10 => Some("x86 on x64"),
-        11 => Some("any processor"),
-        12 => Some("ARM64"),
-        13 => Some("ARM on 64-bit Windows"),
-        14 => Some("x86 on ARM64"),
-        0x8001 => Some("SPARC"),
-        0x8002 => Some("64-bit PowerPC"),
-        0x8003 => Some("ARM64"),
-        0x8004 => Some("64-bit MIPS"),
-        0x8005 => Some("RISC-V"),
-        0x8006 => Some("64-bit RISC-V"),
-        0xFFFF => Some("unknown processor"),
-        _ => None,
-    }
+    name_in(&ARCHITECTURES, u32::from(number))
 }

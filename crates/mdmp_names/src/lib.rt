@@ -3,7 +3,7 @@
 //! [`exception_name`] and [`flags_name`] name the code and the flags of an exception, [`platform_words`] and
 //! [`architecture_words`] say what a system and its processor are called, [`stream_name`] names the type of a
 //! stream. A number that has no name here is printed as it is. The tables are made of bindings/names.toml by
-//! `bindings/generate`, each as a function and as the definition that its contract cites.
+//! `bindings/generate`, each as a static and as a list in the definitions that the contracts cite.
 //!
 //! ```text
 //! exception_name(0x8201, 11) // Some("SIGSEGV")
@@ -24,6 +24,7 @@ mod mach_x86_codes;
 mod platforms;
 mod si_codes;
 mod stream_types;
+mod table;
 mod windows_exceptions;
 
 pub use crate::architectures::architecture_words;
