@@ -2,7 +2,7 @@
 use Rattle.std.proofs.Common.{◌≡◌, ◌∙◌, ◌≤◌, ◌+◌, [], ◌∷◌, ℕ, Option, None, Some, Result, Ok, Err, ap, arith, refl, subst, sym}
 use Rattle.std.specs.Prelude.{IfErr, max}
 use Rattle.mdmp_source.specs.Count.{raised}
-use Rattle.mdmp_source.specs.Source.{SourceState}
+use Rattle.mdmp_source.specs.Source.{FetchesAtMost, SourceState}
 use Rattle.mdmp_lister.specs.declared.choice.Choice.{Choice}
 use Rattle.mdmp_lister.specs.declared.fault.FaultKind.{FaultKind}
 use Rattle.mdmp_lister.specs.declared.fault.FaultKind.TheVariants as kinds
@@ -15,25 +15,30 @@ use Rattle.mdmp_lister.specs.declared.meter.Amount.{Amount}
 use Rattle.mdmp_lister.specs.declared.name.Name.{Name}
 use Rattle.mdmp_lister.specs.declared.name.Name.TheVariants.{Long}
 use Rattle.mdmp_lister.specs.Format.Summary.{summary_of}
-use Rattle.mdmp_lister.specs.Lister.{IsNewLister, IsSameLister, ListerState}
+use Rattle.mdmp_lister.specs.Lister.{IsNewLister, ListerLeaves, ListerState, NextLeaves, Rooms, standpoint_in}
 use Rattle.mdmp_lister.specs.Meter.{IsBooked, IsUnmade, KeepsTo, SpendsAside}
+use Rattle.mdmp_lister.specs.NextFetch.{TellsNextOpening}
 use Rattle.mdmp_lister.specs.Opening.{KeepsToBudget, TellsOver}
 use Rattle.mdmp_dump.specs.declared.fault.ReadFault.{ReadFault}
 use Rattle.mdmp_dump.specs.declared.fault.ReadFault.TheVariants as faults
 use Rattle.mdmp_dump.specs.declared.reader.Reader.{Reader}
 use Rattle.mdmp_dump.specs.declared.reader.Told.{Told}
 use Rattle.mdmp_dump.specs.declared.row.ToldRecord.{ToldRecord}
-use Rattle.mdmp_dump.specs.Keeping.{IsSameReading, KeepsStep, KeepsOn, KeepsReading, KeepsTill, ListsOver, TellsFetch, TellsReadOver}
+use Rattle.mdmp_dump.specs.Keeping.{IsAtEntry, IsSameReading, KeepsStep, KeepsOn, KeepsReading, KeepsTill, TellsListedNext, ListsOver, TellsFetch, TellsReadOver, standing_at}
 use Rattle.mdmp_dump.specs.Reading.{IsToldOf, listed_within, read_within, refusal_of}
 use Rattle.mdmp_dump.specs.Refusal.{Refuse, name_steps}
+use Rattle.mdmp_dump.proofs.NextReads.{fault_next, goes_on_at, some_fetch}
 
 same_none : (v : ListerState) → IsSameReading v v
-same_none v = record { rooms = refl; limit = refl; size = refl; start = refl; budget = refl }
+same_none v = record { rooms = refl; limit = refl; choice = refl; entries = refl; content = refl; size = refl; start = refl; budget = refl }
 
 same_then : (a b c : ListerState) → IsSameReading a b → IsSameReading b c → IsSameReading a c
 same_then a b c first then = record {
   rooms = then.rooms ∙ first.rooms;
   limit = then.limit ∙ first.limit;
+  choice = then.choice ∙ first.choice;
+  entries = then.entries ∙ first.entries;
+  content = then.content ∙ first.content;
   size = then.size ∙ first.size;
   start = then.start ∙ first.start;
   budget = then.budget ∙ first.budget;
@@ -46,21 +51,25 @@ long_over v e k _ fault is = absurd (cc)
 
 module _ {S A : Type 0} where
   pub keeps_none : (old : Reader S A) → KeepsOn old old
-  keeps_none old = record { same = same_none old.lister; few = omega arith }
+  keeps_none old = record { same = same_none old.lister; few = omega arith; at = λ at. at }
 
   pub keeps_then : (a b c : Reader S A) → KeepsOn a b → KeepsOn b c → KeepsOn a c
-  keeps_then a b c first then = record { same = same_then a.lister b.lister c.lister first.same then.same; few = omega (arith, first.few, then.few) }
+  keeps_then a b c first then = record {
+    same = same_then a.lister b.lister c.lister first.same then.same;
+    few = omega (arith, first.few, then.few);
+    at = λ at. then.at (first.at at);
+  }
 
   pub keeps_err : (a b c : Reader S A) → KeepsOn a b → (fault : ReadFault) → KeepsTill fault b c → KeepsTill fault a c
   keeps_err a b c first fault then = record {
     same = same_then a.lister b.lister c.lister first.same then.same;
     few = omega (arith, first.few, then.few);
-    over = then.over;
+    over = λ at. then.over (first.at at);
   }
 
   -- a fault that is none of the listing
   pub keeps_till : (a b : Reader S A) (fault : ReadFault) → TellsFetch fault b.lister → KeepsOn a b → KeepsTill fault a b
-  keeps_till a b fault over on = record { same = on.same; few = omega (arith, on.few); over = over }
+  keeps_till a b fault over on = record { same = on.same; few = omega (arith, on.few); over = λ at. over }
 
   pub keeps_memory : (a b : Reader S A) → KeepsOn a b → KeepsTill faults.Memory a b
   keeps_memory a b on = keeps_till a b faults.Memory tt on
@@ -70,29 +79,53 @@ module _ {S A : Type 0} where
   keeps_later (Err fault) a b c first then = keeps_err a b c first fault then
 
   -- a request for the next item fetches nothing beside the listing
-  pub keeps_next : (old new : Reader S A) → IsSameLister old.lister new.lister → new.lister.source.size ≡ old.lister.source.size → new.left ≡ old.left → KeepsOn old new
-  keeps_next old new same size left = record {
-    same = record { rooms = same.rooms; limit = same.limit; size = size; start = same.start; budget = same.budget };
-    few = omega (arith, left, ap (λ (a : Amount). a.bytes) same.aside);
-  }
+  module _ (old new : Reader S A) (left : new.left ≡ old.left) (going : old.lister.stop ≡ None) where
+    same_list : (result : Result (Option Item) ListFault) → NextLeaves old.lister result new.lister → IsSameReading old.lister new.lister
+    same_list result list = record {
+      rooms = list.same.rooms;
+      limit = list.same.limit;
+      choice = list.same.choice;
+      entries = list.same.entries;
+      content = list.spends.fetches.same_content;
+      size = list.spends.fetches.same_size;
+      start = list.same.start;
+      budget = list.same.budget;
+    }
+
+    same_few : (result : Result (Option Item) ListFault) → NextLeaves old.lister result new.lister → new.lister.counts.aside.bytes + new.left ≤ old.lister.counts.aside.bytes + old.left
+    same_few result list = omega (arith, left, ap (λ (a : Amount). a.bytes) list.same.aside)
+
+    pub keeps_next : (result : Result (Option Item) ListFault) → ListerLeaves old.lister result new.lister → KeepsOn old new
+    keeps_next result leaves = record { same = same_list result leaves.list; few = same_few result leaves.list; at = goes_on_at old.lister going result new.lister leaves }
+
+    -- and if it is not answered, that is told of the next fetch
+    pub keeps_refused : (f : ListFault) → ListerLeaves old.lister (Err f) new.lister → KeepsTill (faults.List f) old new
+    keeps_refused f leaves = record {
+      same = same_list (Err f) leaves.list;
+      few = omega (arith, same_few (Err f) leaves.list);
+      over = λ at. (leaves.list.spends.refused, fault_next old.lister going f new.lister leaves.list at);
+    }
 
   -- bytes that are read beside it are taken off
-  module _ (old new : Reader S A) {calls : ℕ} (size : ℕ) (lister : new.lister ≡ record old.lister { source = new.lister.source; counts = new.lister.counts })
-      (aside : SpendsAside calls size old.lister.counts new.lister.counts) (length_is : new.lister.source.size ≡ old.lister.source.size) (fits : size ≤ old.left) where
+  module _ (old new : Reader S A) {calls n : ℕ} (size : ℕ) (lister : new.lister ≡ record old.lister { source = new.lister.source; counts = new.lister.counts })
+      (aside : SpendsAside calls size old.lister.counts new.lister.counts) (fetches : FetchesAtMost n old.lister.source new.lister.source) (fits : size ≤ old.left) where
     same_aside : IsSameReading old.lister new.lister
     same_aside = record {
       rooms = ap (λ (v : ListerState). v.rooms) lister;
       limit = ap (λ (v : ListerState). v.limit) lister;
-      size = length_is;
+      choice = ap (λ (v : ListerState). v.choice) lister;
+      entries = ap (λ (v : ListerState). v.entries) lister;
+      content = fetches.same_content;
+      size = fetches.same_size;
       start = aside.same_start;
       budget = aside.same_budget;
     }
 
     pub keeps_taken : new.left + size ≡ old.left → KeepsOn old new
-    keeps_taken left = record { same = same_aside; few = omega (arith, aside.aside, left) }
+    keeps_taken left = record { same = same_aside; few = omega (arith, aside.aside, left); at = λ at. subst IsAtEntry (sym lister) at }
 
     pub keeps_untaken : (fault : ReadFault) → TellsFetch fault new.lister → KeepsTill fault old new
-    keeps_untaken fault over = record { same = same_aside; few = omega (arith, aside.aside, fits); over = over }
+    keeps_untaken fault over = record { same = same_aside; few = omega (arith, aside.aside, fits); over = λ at. over }
 
   -- what an item tells
   pub keeps_told : {X Z : Type 0} (told : Item → Option (ToldRecord X)) (item : Item) (a b : Reader S A) → KeepsOn a b → (result : Result (Told X Z) ReadFault) → IsToldOf told item result → KeepsStep result a b
@@ -103,25 +136,30 @@ module _ {S A : Type 0} where
 -- ---- as a caller sees it
 
 -- while the file was opened
-opened_over : (limits : Limits) (old : SourceState) (fetched : ℕ) (fault : OpenFault) → TellsOver limits old fetched fault → TellsReadOver limits old fetched (refusal_of fault)
-opened_over limits old fetched opening.Memory over = tt
-opened_over limits old fetched fault over = over
+opened_over : (choice : Choice) (limits : Limits) (old : SourceState) (fetched : ℕ) (fault : OpenFault) (new : SourceState) → TellsOver limits old fetched fault
+    → TellsNextOpening (Some choice) limits old fault new → TellsReadOver choice limits old fetched (refusal_of fault) new
+opened_over choice limits old fetched opening.Memory new over next = tt
+opened_over choice limits old fetched fault new over next = (over, next)
 
-pub opening_keeps : {T : Type 0} (limits : Limits) (parts : ℕ) (old : SourceState) (fault : OpenFault) (new : SourceState) → KeepsToBudget limits old fault new
-    → KeepsReading {T = T} limits parts (Err (refusal_of fault)) old new
-opening_keeps limits parts old fault new keeps = record {
+pub opening_keeps : {T : Type 0} (choice : Choice) (limits : Limits) (parts : ℕ) (old : SourceState) (fault : OpenFault) (new : SourceState) → KeepsToBudget limits old fault new
+    → TellsNextOpening (Some choice) limits old fault new → KeepsReading {T = T} choice limits parts (Err (refusal_of fault)) old new
+opening_keeps choice limits parts old fault new keeps next = record {
   fetched = keeps.fetched;
   aside = 0;
   spent = keeps.spent ∙ ap (raised old.fetched) (let h : keeps.fetched ≡ keeps.fetched + 0 = omega arith in h);
   kept = keeps.kept;
   few = omega arith;
-  over = opened_over limits old keeps.fetched fault keeps.over;
+  over = opened_over choice limits old keeps.fetched fault new keeps.over next;
 }
 
 -- while it was listed
-module _ {S A : Type 0} (limits : Limits) (parts : ℕ) (choice : Choice) (old : SourceState) (first new : Reader S A) (source : SourceState)
-    (opened : IsNewLister old choice limits first.lister) (size : first.lister.source.size ≡ old.size) (left : first.left ≡ parts)
+module _ {S A : Type 0} (choice : Choice) (limits : Limits) (parts : ℕ) (old : SourceState) (first new : Reader S A) (source : SourceState)
+    (opened : IsNewLister old choice limits first.lister) (left : first.left ≡ parts)
     (booked : IsBooked source new.lister.counts) (kept : KeepsTo new.lister.counts.budget new.lister.counts.fetched) where
+  -- nothing was passed yet
+  begins_at : IsAtEntry first.lister
+  begins_at = λ going number is. (let none = opened.list.given.passed in absurd (omega (arith, is, none)))
+
   module _ (same : IsSameReading first.lister new.lister) (few : new.lister.counts.aside.bytes ≤ first.lister.counts.aside.bytes + first.left) where
     budget_is : new.lister.counts.budget ≡ limits.budget
     budget_is = same.budget ∙ opened.list.counts.budget_is
@@ -132,7 +170,8 @@ module _ {S A : Type 0} (limits : Limits) (parts : ℕ) (choice : Choice) (old :
     aside_few : new.lister.counts.aside.bytes ≤ parts
     aside_few = omega (arith, few, left, ap (λ (a : Amount). a.bytes) opened.list.counts.aside)
 
-    keeps_reading : {T : Type 0} (result : Result T ReadFault) → IfErr result (TellsReadOver limits old new.lister.counts.fetched) → KeepsReading limits parts result old source
+    keeps_reading : {T : Type 0} (result : Result T ReadFault) → IfErr result (λ fault. TellsReadOver choice limits old new.lister.counts.fetched fault source)
+        → KeepsReading choice limits parts result old source
     keeps_reading result over = record {
       fetched = new.lister.counts.fetched;
       aside = new.lister.counts.aside.bytes;
@@ -142,28 +181,48 @@ module _ {S A : Type 0} (limits : Limits) (parts : ℕ) (choice : Choice) (old :
       over = over;
     }
 
+    content_is : new.lister.source.store.content ≡ old.store.content
+    content_is = same.content ∙ opened.list.same_content
+
+    size_is : new.lister.source.size ≡ old.size
+    size_is = same.size ∙ opened.fetches.same_size
+
+    window_is : new.lister.rooms.window ≡ limits.window
+    window_is = ap (λ (r : Rooms). r.window) same.rooms ∙ opened.list.asked.window_room
+
+    limit_is : new.lister.limit ≡ limits.name
+    limit_is = same.limit ∙ opened.list.asked.limit_is
+
     listed_over : (f : ListFault) (kind : FaultKind) → IsUnmade (max new.lister.rooms.window new.lister.limit) kind f.offset f.size new.lister.counts new.lister.source.size
-        → ListsOver limits old new.lister.counts.fetched kind f.offset f.size
-    listed_over f kinds.Budget is = record {
+        → TellsListedNext kind f.entry f.offset f.size new.lister → ListsOver choice limits old new.lister.counts.fetched kind f.entry f.offset f.size
+    listed_over f kinds.Budget is next = record {
       passes = rw (← budget_is) is.passes;
-      inside = rw (← size, ← same.size) is.inside;
-      most = rw (← opened.list.asked.window_room, ← opened.list.asked.limit_is, ← same.rooms, ← same.limit) is.few;
+      inside = rw (← size_is) is.inside;
+      most = rw (← window_is, ← limit_is) is.few;
+      next = record {
+        entries = new.lister.entries;
+        directory = λ file known. rw same.entries (opened.list.read.directory file known);
+        entry = new.lister.current;
+        chosen = rw (← (same.choice ∙ opened.list.asked.choice_is)) next.chosen;
+        next = some_fetch (standpoint_in new.lister) (standing_at limits old new.lister.current) kinds.Budget f.offset f.size new.lister.counts.fetched
+            (sym content_is) (sym size_is) (sym window_is) (sym limit_is) refl next.next;
+      };
     }
-    listed_over f kind is = tt
+    listed_over f kind is next = tt
 
-    told_over : (budget : Option ℕ) (f : ListFault) (kind : FaultKind) → f.kind ≡ kind → ListsOver limits old new.lister.counts.fetched kind f.offset f.size
-        → TellsReadOver limits old new.lister.counts.fetched (listed_within budget kind f)
+    told_over : (budget : Option ℕ) (f : ListFault) (kind : FaultKind) → f.kind ≡ kind → ListsOver choice limits old new.lister.counts.fetched kind f.entry f.offset f.size
+        → TellsReadOver choice limits old new.lister.counts.fetched (listed_within budget kind f) source
     told_over None f kinds.Budget is over = tt
-    told_over None f kind is over = subst (λ (k : FaultKind). ListsOver limits old new.lister.counts.fetched k f.offset f.size) (sym is) over
-    told_over (Some most) f kind is over = subst (λ (k : FaultKind). ListsOver limits old new.lister.counts.fetched k f.offset f.size) (sym is) over
+    told_over None f kind is over = subst (λ (k : FaultKind). ListsOver choice limits old new.lister.counts.fetched k f.entry f.offset f.size) (sym is) over
+    told_over (Some most) f kind is over = subst (λ (k : FaultKind). ListsOver choice limits old new.lister.counts.fetched k f.entry f.offset f.size) (sym is) over
 
-    over_by : (budget : Option ℕ) (fault : ReadFault) → TellsFetch fault new.lister → TellsReadOver limits old new.lister.counts.fetched (read_within budget fault)
+    over_by : (budget : Option ℕ) (fault : ReadFault) → TellsFetch fault new.lister → TellsReadOver choice limits old new.lister.counts.fetched (read_within budget fault) source
     over_by budget (faults.Opening f) over = absurd over
-    over_by budget (faults.List f) over = told_over budget f f.kind refl (listed_over f f.kind over)
+    over_by budget (faults.List f) over = told_over budget f f.kind refl (listed_over f f.kind over.0 over.1)
     over_by budget fault over = tt
 
-  pub reading_keeps : {T : Type 0} (x : T) → KeepsOn first new → KeepsReading limits parts (Ok x) old source
+  pub reading_keeps : {T : Type 0} (x : T) → KeepsOn first new → KeepsReading choice limits parts (Ok x) old source
   reading_keeps x on = keeps_reading on.same (omega (arith, on.few)) (Ok x) tt
 
-  pub reading_ends : {T : Type 0} (fault : ReadFault) → KeepsTill fault first new → KeepsReading {T = T} limits parts (Err (read_within limits.budget fault)) old source
-  reading_ends fault till = keeps_reading till.same till.few (Err (read_within limits.budget fault)) (over_by till.same till.few limits.budget fault till.over)
+  pub reading_ends : {T : Type 0} (fault : ReadFault) → KeepsTill fault first new → KeepsReading {T = T} choice limits parts (Err (read_within limits.budget fault)) old source
+  reading_ends fault till = keeps_reading till.same till.few (Err (read_within limits.budget fault)) (over_by till.same till.few limits.budget fault (till.over begins_at))

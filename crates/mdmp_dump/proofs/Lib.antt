@@ -21,6 +21,7 @@ pub mod Limits
 pub mod More
 pub mod Moving
 pub mod Names
+pub mod NextReads
 pub mod Opened
 pub mod OpenedViews
 pub mod ReadWithin

@@ -1,6 +1,6 @@
 -- What is told of a listing's streams, one behind the other.
 use Rattle.std.proofs.Common.{◌≡◌, ◌∙◌, ℕ, Bool, true, false, List, [], ◌∷◌, ◌++◌, length, slice_get, Option, Some, None, Result, Ok, Err, ap, refl, subst, sym}
-use Rattle.std.specs.Prelude.{IsTrue, IsFalse, IfOk, is_some, not, ◌==◌, ◌&&◌, ◌||◌, if◌then◌else◌}
+use Rattle.std.specs.Prelude.{IsTrue, IsFalse, IfOk, flat_map, is_some, not, option_map, ◌==◌, ◌&&◌, ◌||◌, if◌then◌else◌}
 use Rattle.mdmp_source.specs.Range.{is_inside}
 use Rattle.mdmp_source.specs.Source.{FetchesSome}
 use Rattle.mdmp_source.specs.Store.{IsSizeOf}
@@ -19,14 +19,15 @@ use Rattle.mdmp_lister.specs.Format.Shape.{location_fault, shape_of, single}
 use Rattle.mdmp_dump.specs.Keeping.{KeepsOn}
 use Rattle.mdmp_dump.proofs.Keeping.{keeps_none}
 use Rattle.mdmp_dump.specs.declared.fault.ReadFault.{ReadFault}
+use Rattle.mdmp_dump.specs.declared.fault.ReadFault.TheVariants as faults
 use Rattle.mdmp_lister.specs.Lister.{ListerState, tail}
 use Rattle.mdmp_dump.specs.declared.dump.Stream.{Stream}
 use Rattle.mdmp_dump.specs.declared.dump.Stream.TheVariants as streams
 use Rattle.mdmp_dump.specs.declared.reader.Reader.{Reader}
 use Rattle.mdmp_dump.specs.LaysOut.{HasBytes}
 use Rattle.mdmp_dump.specs.Left.{is_item_of, left_from, run_of}
-use Rattle.mdmp_dump.specs.Reading.{HasBytesAt, HasOneRecord, IsEntryRead, IsGoing, IsLeftBehind, IsNextStream, IsOneStream, IsRaw, ListingGoesOn, NoRowFirst, Settles, TakesSteps, owed, refusal_in}
-use Rattle.mdmp_dump.specs.Refusal.{ReadStep, Take, first_refusal, stream_steps}
+use Rattle.mdmp_dump.specs.Reading.{HasBytesAt, HasOneRecord, IsEntryRead, IsGoing, IsLeftBehind, IsNextStream, IsOneStream, IsRaw, IsWanting, ListingGoesOn, NoRowFirst, Settles, TakesSteps, owed, refusal_in}
+use Rattle.mdmp_dump.specs.Refusal.{ReadStep, Take, first_refusal, item_steps, stream_steps}
 use Rattle.mdmp_dump.proofs.Taking.{FetchesSome_none}
 use Rattle.mdmp_dump.proofs.Left.{all_given, no_row_first, stream_given}
 
@@ -119,6 +120,22 @@ module _ {S A : Type 0} (old : Reader S A) (item : StreamItem) (size : ℕ) (is_
         let not : is_inside item.location.rva item.location.size (length F) ≡ false = ap (is_inside item.location.rva item.location.size) (sym same) ∙ outside in
         absurd (cc);
   }
+
+  -- or they are refused
+  pub raw_untaken : {V : Type 0} (at len : ℕ) (at_is : at ≡ item.location.rva) (len_is : len ≡ item.location.size) (new : Reader S A) (fault : ReadFault) → is_inside at len size ≡ true
+      → TakesSteps {T = V} (Take item.entry 0 len ∷ []) old (Err fault) new
+      → (F : List ℕ) (limit : ℕ) (x : Numbered) (xs : List Numbered) → old.lister.source.store.content ≡ Some F → old.lister.left ≡ Some (left_from F limit x 0 xs)
+      → item ≡ is_item_of x → IsRaw x.entry.stream_type → (IsWanting fault → ⊥) → owed F old.left (Some item) old.lister.left ≡ Some fault
+  raw_untaken at len at_is len_is new fault inside takes F limit x xs known left is raw own =
+      let within = rw (at_is, len_is) at inside in
+      let taken = rw len_is at takes in
+      let raw_is : IsRaw item.stream_type = subst (λ (i : StreamItem). IsRaw i.stream_type) (sym is) raw in
+      let run = left_from F limit x 0 xs in
+      let rest = flat_map (item_steps (length F)) run.items in
+      let last = option_map faults.List run.fault in
+      ap (owed F old.left (Some item)) left
+      ∙ ap (λ (steps : List ReadStep). first_refusal old.left 0 (steps ++ rest) last) (steps_by true within F known raw_is)
+      ∙ taken.settles rest last own
 
   module _ {Z : Type 0} (at len : ℕ) (at_is : at ≡ item.location.rva) (len_is : len ≡ item.location.size) (stream : Option (Stream Z)) (reader : Reader S A) where
     pub raw_taken : (bytes : List ℕ) (new : Reader S A) → is_inside at len size ≡ true → TakesSteps (Take item.entry 0 len ∷ []) old (Ok bytes) new

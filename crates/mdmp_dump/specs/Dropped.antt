@@ -15,6 +15,6 @@ pub record DropsSource (may_go : SourceState → Type 0) (limits : Limits) (choi
   pub left : HandsSourceBack limits choice old fault gone
 
 -- that of a reading
-pub record IsReadAndDropped {T : Type 0} (may_go : SourceState → Type 0) (limits : Limits) (parts : ℕ) (result : Result T ReadFault) (old : SourceState) : Type 0 where
-  pub within : IsReadWithin limits parts result old
+pub record IsReadAndDropped {T : Type 0} (may_go : SourceState → Type 0) (choice : Choice) (limits : Limits) (parts : ℕ) (result : Result T ReadFault) (old : SourceState) : Type 0 where
+  pub within : IsReadWithin choice limits parts result old
   pub dropped : may_go within.after

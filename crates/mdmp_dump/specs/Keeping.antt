@@ -1,13 +1,19 @@
 -- What reading a file into a value fetches: for the listing within a budget, and beside it the bytes of parts.
-use Rattle.std.specs.Prelude.{◌≡◌, ◌≤◌, ◌+◌, ℕ, Result, Ok, Err, IfErr, IsTrue, max}
+use Rattle.std.specs.Prelude.{◌≡◌, ◌≤◌, ◌+◌, ℕ, List, None, Some, Result, Ok, Err, IfErr, IsTrue, max, slice_get}
 use Rattle.mdmp_source.specs.Count.{raised}
 use Rattle.mdmp_source.specs.Range.{IsInside}
 use Rattle.mdmp_source.specs.Source.{SourceState}
+use Rattle.mdmp_wire.specs.declared.entry.Entry.{Entry}
+use Rattle.mdmp_lister.specs.declared.choice.Choice.{Choice}
 use Rattle.mdmp_lister.specs.declared.fault.FaultKind.{FaultKind}
 use Rattle.mdmp_lister.specs.declared.fault.FaultKind.TheVariants as kinds
 use Rattle.mdmp_lister.specs.declared.limits.Limits.{Limits}
-use Rattle.mdmp_lister.specs.Lister.{IsRefusedIn, ListerState}
+use Rattle.mdmp_lister.specs.Following.{through}
+use Rattle.mdmp_lister.specs.Format.Directory.{IsDirectory}
+use Rattle.mdmp_lister.specs.Format.Listing.{is_chosen}
+use Rattle.mdmp_lister.specs.Lister.{IsRefusedIn, ListerState, standpoint_in}
 use Rattle.mdmp_lister.specs.Meter.{KeepsTo, is_passed}
+use Rattle.mdmp_lister.specs.NextFetch.{Standpoint, TellsNextOpening, TellsSomeFetch}
 use Rattle.mdmp_lister.specs.Opening.{TellsOver}
 use Rattle.mdmp_dump.specs.declared.fault.ReadFault.{ReadFault}
 use Rattle.mdmp_dump.specs.declared.fault.ReadFault.TheVariants as faults
@@ -15,32 +21,60 @@ use Rattle.mdmp_dump.specs.declared.reader.Reader.{Reader}
 
 -- ---- as a caller sees it
 
+-- this is entry `number` of a directory, and the choice has it
+pub record IsEntryChosen (choice : Choice) (entries : List Entry) (number : ℕ) (entry : Entry) : Type 0 where
+  pub is : slice_get entries number ≡ Some entry
+  pub chosen : IsTrue (is_chosen choice entry.stream_type)
+
+-- a listing of a source by these limits stands in this entry; `TellsSomeFetch` says how far it came there
+abbrev pub standing_at : Limits → SourceState → Entry → Standpoint
+standing_at limits old entry = record {
+  content = old.store.content;
+  size = old.size;
+  room = limits.window;
+  limit = limits.name;
+  entry = entry;
+  standing = through;
+  unread = 0;
+  fetched = 0;
+}
+
+-- a listing that had fetched so many bytes came to this fetch in entry `number` of the file's directory: of the head of its
+-- stream, of a record that was not given yet, or of that record's name
+pub record IsListingFetch (choice : Choice) (limits : Limits) (old : SourceState) (fetched number offset size : ℕ) : Type 0 where
+  pub entries : List Entry
+  pub directory : (file : List ℕ) → old.store.content ≡ Some file → IsDirectory file entries
+  pub entry : Entry
+  pub chosen : IsEntryChosen choice entries number entry
+  pub next : TellsSomeFetch (standing_at limits old entry) kinds.Budget offset size fetched
+
 -- a listing did not fetch so many bytes at an offset, since with what it had fetched they pass the budget: they lie inside the
--- file, and are no more than the window or a name may have
-pub record IsOverIn (limits : Limits) (old : SourceState) (fetched offset size : ℕ) : Type 0 where
+-- file, are no more than the window or a name may have, and come next in the entry that is told
+pub record IsOverIn (choice : Choice) (limits : Limits) (old : SourceState) (fetched number offset size : ℕ) : Type 0 where
   pub passes : IsTrue (is_passed limits.budget (raised fetched size))
   pub inside : IsInside offset size old.size
   pub most : size ≤ max limits.window limits.name
+  pub next : IsListingFetch choice limits old fetched number offset size
 
-abbrev pub ListsOver : Limits → SourceState → ℕ → FaultKind → (offset size : ℕ) → Type 0
-ListsOver limits old fetched kinds.Budget offset size = IsOverIn limits old fetched offset size
-ListsOver limits old fetched kind offset size = Unit {0}
+abbrev pub ListsOver : Choice → Limits → SourceState → ℕ → FaultKind → (number offset size : ℕ) → Type 0
+ListsOver choice limits old fetched kinds.Budget number offset size = IsOverIn choice limits old fetched number offset size
+ListsOver choice limits old fetched kind number offset size = Unit {0}
 
--- a fault that tells the budget is of a fetch that was not made, while the file was opened or listed
-abbrev pub TellsReadOver : Limits → SourceState → ℕ → ReadFault → Type 0
-TellsReadOver limits old fetched (faults.Opening fault) = TellsOver limits old fetched fault
-TellsReadOver limits old fetched (faults.List fault) = ListsOver limits old fetched fault.kind fault.offset fault.size
-TellsReadOver limits old fetched fault = Unit {0}
+-- a fault that tells the budget is of a fetch that was not made, and came next while the file was opened or listed
+abbrev pub TellsReadOver : Choice → Limits → SourceState → ℕ → ReadFault → SourceState → Type 0
+TellsReadOver choice limits old fetched (faults.Opening fault) new = TellsOver limits old fetched fault × TellsNextOpening (Some choice) limits old fault new
+TellsReadOver choice limits old fetched (faults.List fault) new = ListsOver choice limits old fetched fault.kind fault.entry fault.offset fault.size
+TellsReadOver choice limits old fetched fault new = Unit {0}
 
 -- a reading has fetched so many bytes to open and list the file, within the budget, and beside them so many of parts and of
 -- streams whose records are not known, within the limit on them. No other byte was fetched.
-pub record KeepsReading {T : Type 0} (limits : Limits) (parts : ℕ) (result : Result T ReadFault) (old new : SourceState) : Type 0 where
+pub record KeepsReading {T : Type 0} (choice : Choice) (limits : Limits) (parts : ℕ) (result : Result T ReadFault) (old new : SourceState) : Type 0 where
   pub fetched : ℕ
   pub aside : ℕ
   pub spent : new.fetched ≡ raised old.fetched (fetched + aside)
   pub kept : KeepsTo limits.budget fetched
   pub few : aside ≤ parts
-  pub over : IfErr result (TellsReadOver limits old fetched)
+  pub over : IfErr result (λ fault. TellsReadOver choice limits old fetched fault new)
 
 -- ---- as a reader goes on
 
@@ -48,14 +82,30 @@ pub record KeepsReading {T : Type 0} (limits : Limits) (parts : ℕ) (result : R
 pub record IsSameReading (old new : ListerState) : Type 0 where
   pub rooms : new.rooms ≡ old.rooms
   pub limit : new.limit ≡ old.limit
+  pub choice : new.choice ≡ old.choice
+  pub entries : new.entries ≡ old.entries
+  pub content : new.source.store.content ≡ old.source.store.content
   pub size : new.source.size ≡ old.source.size
   pub start : new.counts.start ≡ old.counts.start
   pub budget : new.counts.budget ≡ old.counts.budget
 
+-- the entry in which a listing stands that goes on is the last one that it passed, which is chosen
+abbrev pub IsAtEntry : ListerState → Type 0
+IsAtEntry v = v.stop ≡ None → (number : ℕ) → number + 1 ≡ v.passed → IsEntryChosen v.choice v.entries number v.current
+
+-- the budget is told of the fetch that came next in the current entry, whose number is told
+pub record IsNextIn (v : ListerState) (number offset size : ℕ) : Type 0 where
+  pub chosen : IsEntryChosen v.choice v.entries number v.current
+  pub next : TellsSomeFetch (standpoint_in v) kinds.Budget offset size v.counts.fetched
+
+abbrev pub TellsListedNext : FaultKind → (number offset size : ℕ) → ListerState → Type 0
+TellsListedNext kinds.Budget number offset size v = IsNextIn v number offset size
+TellsListedNext kind number offset size v = Unit {0}
+
 -- a fault that tells the budget is one of the listing
 abbrev pub TellsFetch : ReadFault → ListerState → Type 0
 TellsFetch (faults.Opening fault) v = ⊥
-TellsFetch (faults.List fault) v = IsRefusedIn fault v
+TellsFetch (faults.List fault) v = IsRefusedIn fault v × TellsListedNext fault.kind fault.entry fault.offset fault.size v
 TellsFetch fault v = Unit {0}
 
 module _ {S A : Type 0} where
@@ -63,11 +113,12 @@ module _ {S A : Type 0} where
   pub record KeepsOn (old new : Reader S A) : Type 0 where
     pub same : IsSameReading old.lister new.lister
     pub few : new.lister.counts.aside.bytes + new.left ≤ old.lister.counts.aside.bytes + old.left
+    pub at : IsAtEntry old.lister → IsAtEntry new.lister
 
   pub record KeepsTill (fault : ReadFault) (old new : Reader S A) : Type 0 where
     pub same : IsSameReading old.lister new.lister
     pub few : new.lister.counts.aside.bytes ≤ old.lister.counts.aside.bytes + old.left
-    pub over : TellsFetch fault new.lister
+    pub over : IsAtEntry old.lister → TellsFetch fault new.lister
 
   abbrev pub KeepsStep : {T : Type 0} → Result T ReadFault → Reader S A → Reader S A → Type 0
   KeepsStep (Ok x) old new = KeepsOn old new

@@ -156,10 +156,10 @@ pub record TellsOf (content : Option (List ℕ)) (fault : ReadFault) : Type 0 wh
   pub changed : MayBeTold content (store_fault fault)
 
 -- what a reading answers was fetched so: the source that it left is one of these fetches, and keeps to the limits
-pub record IsReadWithin {T : Type 0} (limits : Limits) (parts : ℕ) (result : Result T ReadFault) (old : SourceState) : Type 0 where
+pub record IsReadWithin {T : Type 0} (choice : Choice) (limits : Limits) (parts : ℕ) (result : Result T ReadFault) (old : SourceState) : Type 0 where
   pub after : SourceState
   pub fetches : Fetches result old after
-  pub keeps : KeepsReading limits parts result old after
+  pub keeps : KeepsReading choice limits parts result old after
   pub unbudgeted : limits.budget ≡ None → IfErr result IsWithoutBudget
 
 -- what some steps ask was done, or the first of them that can't be is told

@@ -61,7 +61,7 @@ where
     ensures short { source.size < 32 → result ≡ Err (ReadFault.Opening (OpenFault.TooShort source.size)) }
     ensures tells { IfErr result (TellsOf source.store.content) }
     ensures limited { MatchResult result (λ _. OpensWithin limits choice source.store.content) (TellsLimit limits choice source.store.content) }
-    ensures within { IsReadAndDropped ⟦<Source<S> as LetGo>⟧.may_go limits parts result source }
+    ensures within { IsReadAndDropped ⟦<Source<S> as LetGo>⟧.may_go choice limits parts result source }
 {
     let ReadAnswered {
         answer,
@@ -85,7 +85,7 @@ pub fn read_source<S: Store + Drop, A: Allocator + Copy>(
     ensures short { source.size < 32 → result.answer ≡ Err (ReadFault.Opening (OpenFault.TooShort source.size)) }
     ensures tells { IfErr result.answer (TellsOf source.store.content) }
     ensures limited { MatchResult result.answer (λ _. OpensWithin limits choice source.store.content) (TellsLimit limits choice source.store.content) }
-    ensures keeps { KeepsReading limits parts result.answer source result.source }
+    ensures keeps { KeepsReading choice limits parts result.answer source result.source }
     ensures unbudgeted { limits.budget ≡ None → IfErr result.answer IsWithoutBudget }
 {
     let all = matches!(&choice, Choice::All);

@@ -1,11 +1,12 @@
 -- Why what was written is not read back.
-use Rattle.std.proofs.Common.{◌≡◌, ◌∙◌, ℕ, refl, sym, Option, None, Some, Err}
+use Rattle.std.proofs.Common.{◌≡◌, ◌∙◌, ℕ, refl, sym, None, Some, Err}
 use Rattle.std.proofs.lemmas.Option.{none-some}
 use Rattle.mdmp_lister.specs.declared.choice.Choice.TheVariants.{All}
 use Rattle.mdmp_lister.specs.declared.fault.FaultKind.{FaultKind}
 use Rattle.mdmp_lister.specs.declared.fault.FaultKind.TheVariants as kinds
 use Rattle.mdmp_lister.specs.declared.fault.OpenFault.{OpenFault}
 use Rattle.mdmp_lister.specs.declared.fault.OpenFault.TheVariants as opening
+use Rattle.mdmp_lister.specs.declared.limits.Limits.{Limits}
 use Rattle.mdmp_lister.specs.Fault.{IsUnobtained}
 use Rattle.mdmp_dump.specs.declared.dump.Dump.{Dump}
 use Rattle.mdmp_dump.specs.declared.fault.ReadFault.{ReadFault}
@@ -38,9 +39,9 @@ not_wanting (reads.List fault) other none unbudgeted own = listed_not fault.kind
 not_wanting (reads.Opening fault) other none unbudgeted own = opened_not fault other none unbudgeted own
 not_wanting fault other none unbudgeted own = own
 
-module _ {Z : Type 0} (d : Dump Z) (budget : Option ℕ) (names parts : ℕ) (writable : layout_fault d ≡ None) (reads_within : IsWithinLimits names parts d → read_refusal (written d) All names parts ≡ None) where
-  refused : (fault : ReadFault) → (not_read fault ≡ backs.Memory → ⊥) → ((IsWanting fault → ⊥) → read_refusal (written d) All names parts ≡ Some fault) → store_fault fault ≡ None
-      → (budget ≡ None → IsWithoutBudget fault) → ComesBack d budget names parts (Err (backs.Read fault))
+module _ {Z : Type 0} (d : Dump Z) (limits : Limits) (parts : ℕ) (writable : layout_fault d ≡ None) (reads_within : IsWithinLimits limits.name parts d → read_refusal (written d) All limits.name parts ≡ None) where
+  refused : (fault : ReadFault) → (not_read fault ≡ backs.Memory → ⊥) → ((IsWanting fault → ⊥) → read_refusal (written d) All limits.name parts ≡ Some fault) → store_fault fault ≡ None
+      → (limits.budget ≡ None → IsWithoutBudget fault) → ComesBack d limits parts (Err (backs.Read fault))
   refused fault other settles none without = (
     writable,
     (
@@ -51,8 +52,8 @@ module _ {Z : Type 0} (d : Dump Z) (budget : Option ℕ) (names parts : ℕ) (wr
     ),
   )
 
-  pub not_back : (fault : ReadFault) → ((IsWanting fault → ⊥) → read_refusal (written d) All names parts ≡ Some fault) → store_fault fault ≡ None
-      → (budget ≡ None → IsWithoutBudget fault) → ComesBack d budget names parts (Err (not_read fault))
+  pub not_back : (fault : ReadFault) → ((IsWanting fault → ⊥) → read_refusal (written d) All limits.name parts ≡ Some fault) → store_fault fault ≡ None
+      → (limits.budget ≡ None → IsWithoutBudget fault) → ComesBack d limits parts (Err (not_read fault))
   not_back reads.Memory = λ settles none without. writable
   not_back (reads.Opening (opening.MemoryLimit held)) = λ settles none without. writable
   not_back (reads.Opening fault) = refused (reads.Opening fault) (λ same. cc same)

@@ -67,7 +67,7 @@ pub fn write_and_read<A: Allocator + Copy>(
     limits: Limits,
     parts: u64,
 ) -> Result<Dump<A>, RoundTripFault>
-    ensures comes_back { ComesBack dump.now limits.budget limits.name parts result }
+    ensures comes_back { ComesBack dump.now limits parts result }
     ensures limited { IfOk result (λ _. OpensWithin limits All (Some (written dump.now))) }
 {
     let bytes = match to_memory(alloc, dump) {

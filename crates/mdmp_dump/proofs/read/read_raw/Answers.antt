@@ -1,6 +1,6 @@
 use Rattle.std.proofs.Common.{◌∙◌, Err, Ok, sym}
 use Rattle.mdmp_dump.proofs.Keeping.{keeps_err, keeps_then}
-use Rattle.mdmp_dump.proofs.Streams.{RawTaken, raw_going, raw_left, raw_read, raw_taken}
+use Rattle.mdmp_dump.proofs.Streams.{RawTaken, raw_going, raw_left, raw_read, raw_taken, raw_untaken}
 use Rattle.mdmp_dump.proofs.Taking.{fetches_err, fetches_ok, refused_by}
 use Rattle.mdmp_dump.proofs.read.read_raw.Goals as goal
 use Rattle.mdmp_dump.proofs.read.read_raw.Goals.{else-inside, then-inside+in_ok-bytes}
@@ -101,3 +101,13 @@ returns-in_err-behind-clause-keeps g c =
     let fault = c.in_err-behind.field-0.0 in
     let is = refused_by c.from_residual-in_err-behind.result fault c.from_residual-in_err-behind.ensures.1 in
     rw is (keeps_err old mid c.behind.new.self taken.keeps fault c.in_err-behind.ensures.keeps)
+
+pub returns-in_err-bytes-clause-of_file : goal.returns-in_err-bytes-clause-of_file
+returns-in_err-bytes-clause-of_file g c =
+    let fault = c.in_err-bytes.field-0.0 in
+    let is = refused_by c.from_residual.result fault c.from_residual.ensures.1 in
+    rw is (λ file limit x xs known left same raw. record {
+      value = tt;
+      settles = raw_untaken c.args.reader.now c.args.item c.size.result c.size.ensures.content c.from-at.result c.from-size.result c.from-at.ensures c.from-size.ensures c.bytes.new.self fault
+          (sym c.inside.ensures.value ∙ c.if-inside.true) c.in_err-bytes.ensures.takes file limit x xs known left same raw;
+    })

@@ -1,6 +1,6 @@
 use Rattle.mdmp_lister.specs.FaultLaws.{next_fits}
 use Rattle.std.proofs.Common.{refl}
-use Rattle.mdmp_dump.proofs.Keeping.{keeps_next, keeps_till}
+use Rattle.mdmp_dump.proofs.Keeping.{keeps_next, keeps_refused}
 use Rattle.mdmp_dump.proofs.Settled.{fault-owed}
 use Rattle.mdmp_dump.proofs.Taking.{Fetches_listed}
 use Rattle.mdmp_dump.proofs.reader.Reader.behind.Goals as goal
@@ -16,5 +16,10 @@ returns-in-Err-clause-fetches g c =
 
 pub returns-in-Err-clause-keeps : goal.returns-in-Err-clause-keeps
 returns-in-Err-clause-keeps g c =
-    let list = c.next.follows.holds-at-none.list in
-    keeps_till c.args.self.now _ _ (rw c.in-Err.is at list.spends.refused) (keeps_next c.args.self.now _ list.same list.spends.fetches.same_size refl)
+    keeps_refused c.args.self.now _ refl c.requires c.in-Err.fault (rw c.in-Err.is at c.next.follows.holds-at-none)
+
+pub returns-in-Ok-Some-Stream-clause-keeps : goal.returns-in-Ok-Some-Stream-clause-keeps
+returns-in-Ok-Some-Stream-clause-keeps g c = keeps_next c.args.self.now _ refl c.requires _ c.next.follows.holds-at-none
+
+pub returns-clause-keeps : goal.returns-clause-keeps
+returns-clause-keeps g c = keeps_next c.args.self.now _ refl c.requires _ c.next.follows.holds-at-none

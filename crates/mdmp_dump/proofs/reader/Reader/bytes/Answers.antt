@@ -21,7 +21,7 @@ returns-clause-takes g c =
       same = reads.same;
       fetches = Fetches_only _ c.args.self.now.lister.source _ (record { count = _; fetches = reads.fetches });
       settles = λ rest last. take-taken c.args.self.now.left c.args.place.entry c.args.place.index c.args.size rest last fits;
-      keeps = keeps_taken c.args.self.now _ c.args.size reads.same (rw len at reads.aside) reads.fetches.same_size fits (omega (arith, fits));
+      keeps = keeps_taken c.args.self.now _ c.args.size reads.same (rw len at reads.aside) reads.fetches fits (omega (arith, fits));
     }
 
 pub returns-in-Err-clause-takes : goal.returns-in-Err-clause-takes
@@ -37,7 +37,7 @@ returns-in-Err-read_part-clause-takes g c =
       same = reads.same;
       fetches = Fetches-read _ fault c.args.self.now.lister.source _ reads.fetches reads.told (λ file good. let no = reads.good file good in cc);
       settles = λ rest last own. absurd (own tt);
-      keeps = keeps_untaken c.args.self.now _ c.args.size reads.same (rw len at reads.aside) reads.fetches.same_size fits _ tt;
+      keeps = keeps_untaken c.args.self.now _ c.args.size reads.same (rw len at reads.aside) reads.fetches fits _ tt;
     }
 
 pub returns-clause-of_file : goal.returns-clause-of_file

@@ -4,7 +4,7 @@ use Rattle.mdmp_lister.specs.FaultLaws.{next_fits}
 use Rattle.mdmp_dump.specs.Left.{left_from}
 use Rattle.mdmp_dump.specs.Telling.{record_told}
 use Rattle.mdmp_dump.proofs.Classed.{found_classed}
-use Rattle.mdmp_dump.proofs.Keeping.{keeps_next, keeps_till, keeps_told}
+use Rattle.mdmp_dump.proofs.Keeping.{keeps_next, keeps_refused, keeps_told}
 use Rattle.mdmp_dump.proofs.Settled.{end-given, fault-owed, found-given}
 use Rattle.mdmp_dump.proofs.Taking.{Fetches_listed, Fetches_told}
 use Rattle.mdmp_dump.proofs.reader.Reader.find.Goals as goal
@@ -42,15 +42,12 @@ returns-in-Ok-Some-clause-classed g c =
 
 pub returns-in-Err-clause-keeps : goal.returns-in-Err-clause-keeps
 returns-in-Err-clause-keeps g c =
-    let list = c.next.follows.holds-at-none.list in
-    keeps_till c.args.self.now _ _ (rw c.in-Err.is at list.spends.refused) (keeps_next c.args.self.now _ list.same list.spends.fetches.same_size refl)
+    keeps_refused c.args.self.now _ refl c.requires c.in-Err.fault (rw c.in-Err.is at c.next.follows.holds-at-none)
 
 pub returns-in-Ok-None-clause-keeps : goal.returns-in-Ok-None-clause-keeps
 returns-in-Ok-None-clause-keeps g c =
-    let list = c.next.follows.holds-at-none.list in
-    keeps_next c.args.self.now _ list.same list.spends.fetches.same_size refl
+    keeps_next c.args.self.now _ refl c.requires _ c.next.follows.holds-at-none
 
 pub returns-in-Ok-Some-clause-keeps : goal.returns-in-Ok-Some-clause-keeps
 returns-in-Ok-Some-clause-keeps g c =
-    let list = c.next.follows.holds-at-none.list in
-    keeps_told (record_told g.T.Row.told) _ c.args.self.now _ (keeps_next c.args.self.now _ list.same list.spends.fetches.same_size refl) c.told_of.result c.told_of.ensures
+    keeps_told (record_told g.T.Row.told) _ c.args.self.now _ (keeps_next c.args.self.now _ refl c.requires _ c.next.follows.holds-at-none) c.told_of.result c.told_of.ensures

@@ -53,3 +53,9 @@ returns-in_err-found-clause-keeps g c =
     let fault = c.in_err-found.field-0.0 in
     let is = refused_by c.from_residual.result fault c.from_residual.ensures.1 in
     rw is (c.in_err-found.ensures.keeps)
+
+pub returns-in_err-found-clause-of_file : goal.returns-in_err-found-clause-of_file
+returns-in_err-found-clause-of_file g c =
+    let fault = c.in_err-found.field-0.0 in
+    let is = refused_by c.from_residual.result fault c.from_residual.ensures.1 in
+    rw is (λ file limit x k xs known left kind. (tt, (c.in_err-found.ensures.of_file file limit x k xs known left kind).1))

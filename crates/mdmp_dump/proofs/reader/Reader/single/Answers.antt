@@ -55,3 +55,9 @@ returns-in_err-row-clause-keeps g c =
     let fault = c.in_err-row.field-0.0 in
     let is = refused_by c.from_residual.result fault c.from_residual.ensures.1 in
     rw is (c.in_err-row.ensures.keeps)
+
+pub returns-in_err-row-clause-of_file : goal.returns-in_err-row-clause-of_file
+returns-in_err-row-clause-of_file g c =
+    let fault = c.in_err-row.field-0.0 in
+    let is = refused_by c.from_residual.result fault c.from_residual.ensures.1 in
+    rw is (λ file limit x xs known left kind one. record { value = tt; settles = λ own. (c.in_err-row.ensures.of_file file limit x 0 xs known left kind).1 own })
