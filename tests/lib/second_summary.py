@@ -79,15 +79,17 @@ class MeteredDump(Dump):
             self.fetch(entry.rva + begin, count)
             self.end = begin + count
 
-    def records(self, entry: Entry) -> Iterator[Record]:
+    def records_but(self, entry: Entry, passed: Sequence[int]) -> Iterator[Record]:
+        """The records of an entry. Those of these kinds are passed over: they are not fetched."""
         self.end = 0
         head = HEADS.get(entry.kind, (0,))[0]
         if head and self.has(entry.rva, entry.size) and entry.size >= head:
             self.need(entry, 0, head)
         count, first, apart = self.shape(entry)
-        found = super().records(entry)
+        found = self.records(entry)
         for index in range(count):
-            self.need(entry, first + index * apart, FORMS[entry.kind].size)
+            if entry.kind not in passed:
+                self.need(entry, first + index * apart, FORMS[entry.kind].size)
             yield next(found)
 
     def name(self, entry: int, index: int, rva: int) -> bytes | int:
@@ -113,12 +115,12 @@ def file_name(name: Name) -> str:
     return escaped(units[first:], UNIT)[1:-1]
 
 
-def read(dump: MeteredDump) -> tuple[list[Record], list[Stop]]:
-    """The records of all entries, each up to its error, and these errors."""
+def read(dump: MeteredDump, *passed: int) -> tuple[list[Record], list[Stop]]:
+    """The records of all entries, each up to its error, and these errors. Records of these kinds are passed over."""
     records, errors = list[Record](), list[Stop]()
     for entry in dump.entries:
         try:
-            for record in dump.records(entry):
+            for record in dump.records_but(entry, passed):
                 records.append(record)
         except Stop as error:
             if error.fault is None:
@@ -131,13 +133,13 @@ class Summary:
     """The summary of a file, and its lines."""
 
     def __init__(self, dump: MeteredDump) -> None:
-        self.dump, (self.records, self.errors) = dump, read(dump)
+        self.dump, (self.records, self.errors) = dump, read(dump, 16)
         self.system = next(iter(self.of(7)), None)
         self.platform = self.system.values["platform"] if self.system else None
         self.processor = self.system.values["architecture"] if self.system else None
         self.crash = self.crashed()
         if self.crash:
-            read(dump)
+            read(dump, 3, 5, 6, 9, 16)
 
     def of(self, *kinds: int) -> list[Record]:
         return [record for record in self.records if record.entry.kind in kinds]

@@ -168,6 +168,7 @@ IsOpened-new source choice limits new is = record {
   choice_is = is.list.asked.choice_is;
   passed = is.list.given.passed;
   stop = is.list.given.stop;
+  standing = is.list.given.standing;
   ranges = is.list.given.ranges;
   header_is = λ file known. is.list.read.header_is file (sym is.fetches.same_content ∙ known);
   left = λ file known. is.list.given.left ∙ ap (option_map (λ (file : List ℕ). listing file choice limits.name)) (sym is.fetches.same_content ∙ known) ∙ ap (λ (limit : ℕ). Some (listing file choice limit)) (sym is.list.asked.limit_is);

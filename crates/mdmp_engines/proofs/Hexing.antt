@@ -54,5 +54,5 @@ pub HexesRun-faulty : (F : List ℕ) (left : Run) (address count : ℕ) (before 
 HexesRun-faulty F left address count before fault = HexesRun-told F left address count before fault fault.kind
 
 -- there was no memory for the bytes
-pub HexesRun-wanting : (F : List ℕ) (left : Run) (address count : ℕ) (before : OutState) → HexesRun F left address count before (Err Memory) before
-HexesRun-wanting F left address count before = record { ends = tt; writes = PutsAll-nothing before }
+pub HexesRun-wanting : (F : List ℕ) (left : Run) (address count : ℕ) (before : OutState) → left.fault ≡ None → HexesRun F left address count before (Err Memory) before
+HexesRun-wanting F left address count before none = record { ends = none; writes = PutsAll-nothing before }

@@ -23,6 +23,7 @@ pub mod ObjectNames
 pub mod ObjectPasses
 pub mod Objects
 pub mod ObjectsTold
+pub mod ObjectsUnused
 pub mod PartsChecking
 pub mod PlainLines
 pub mod Printing

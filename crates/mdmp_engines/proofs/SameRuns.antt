@@ -1,5 +1,5 @@
 -- The room of a lister stays, its budget, and where its counts began.
-use Rattle.std.proofs.Common.{◌≡◌, ◌≤◌, ◌<◌, ◌∙◌, ◌+◌, ◌-◌, ◌*◌, ◌^◌, ℕ, List, Option, None, Some, false, true, ap, arith, leb-true, refl, subst, sym}
+use Rattle.std.proofs.Common.{◌≡◌, ◌≤◌, ◌<◌, ◌∙◌, ◌+◌, ◌-◌, ◌*◌, ◌^◌, ℕ, List, Option, None, Some, false, true, ap, arith, inr, leb-true, refl, subst, sym}
 use Rattle.std.proofs.lemmas.Bool.{le-leb}
 use Rattle.std.proofs.lemmas.Grind.{common_steps}
 use Rattle.std.specs.Prelude.{IsTrue, Result, Ok, Err, IfOk, length, max, min, take}
@@ -25,7 +25,8 @@ use Rattle.std.specs.Option.{option_map}
 use Rattle.mdmp_source.specs.Count.{raised}
 use Rattle.mdmp_lister.specs.declared.choice.Choice.{Choice}
 use Rattle.mdmp_lister.specs.Memory.{IsRefusalWithin, TellsMemory, is_within, leaving}
-use Rattle.mdmp_engines.specs.Causes.{HasAsideCause, HasBudgetCause, HasMemoryCause, HasOpeningBudget, IsWithinMemory, KeepsAside, MayReachAside, MayReachBudget, MayReachMemory, symbols_cost}
+use Rattle.mdmp_summary.specs.InEntry.{IsInChosen, StandsInChosen}
+use Rattle.mdmp_engines.specs.Causes.{EndsByBudget, HasAsideCause, HasBudgetCause, HasMemoryCause, HasOpeningBudget, IsOverInChosen, IsWithinBudget, IsWithinMemory, KeepsAside, MayReachAside, MayReachBudget, MayReachMemory, symbols_cost}
 use Rattle.mdmp_engines.specs.declared.fault.ToolFault.{ToolFault}
 use Rattle.mdmp_engines.specs.declared.fault.ToolFault.TheVariants.{AsideLimit, Budget, MemoryLimit, Out}
 use Rattle.mdmp_engines.specs.Engines.{Access, EndsFlushed, HasListed, IsEarly, IsSameRun, IsReadThrough}
@@ -108,20 +109,50 @@ told_over T f kind v over next = tt
 pub over_listing : (T : Type 0) (f : ListFault) (v : ListerState) → IsRefusedIn f v → TellsSomeFetch (standpoint_in v) f.kind f.offset f.size v.counts.fetched → HasBudgetCause {T = T} (Err (listing_told f)) v
 over_listing T f v over next = told_over T f f.kind v over next
 
+told_budget : (T : Type 0) (f : ListFault) (kind : FaultKind) (u v : ListerState) → IsUnmade (max v.rooms.window v.limit) kind f.offset f.size v.counts v.source.size
+    → TellsSomeFetch (standpoint_in v) kind f.offset f.size v.counts.fetched → (StandsInChosen u → IsInChosen v) → EndsByBudget {T = T} u (Err (told_by kind f)) v
+told_budget T f kinds.Budget u v over next entry = (record { unmade = over; next = next }, entry)
+told_budget T f (kinds.Source fault) u v over next entry = tt
+told_budget T f kind u v over next entry = tt
+
+-- in a chosen entry
+pub budget_listing : (T : Type 0) (f : ListFault) (u v : ListerState) → IsRefusedIn f v → TellsSomeFetch (standpoint_in v) f.kind f.offset f.size v.counts.fetched → (StandsInChosen u → IsInChosen v)
+    → EndsByBudget {T = T} u (Err (listing_told f)) v
+budget_listing T f u v over next entry = told_budget T f f.kind u v over next entry
+
 -- a fault ends a run as it ended a part of it
-pub over_fault : (T U : Type 0) (f : ToolFault) (v : ListerState) → HasBudgetCause {T = T} (Err f) v → HasBudgetCause {T = U} (Err f) v
-over_fault T U (Budget offset size) v over = over
-over_fault T U f v over = tt
+pub budget_later : (T U : Type 0) (f : ToolFault) (u v w : ListerState) → (StandsInChosen u → StandsInChosen v) → EndsByBudget {T = T} v (Err f) w → EndsByBudget {T = U} u (Err f) w
+budget_later T U (Budget offset size) u v w stands over = (over.0, λ in_chosen. over.1 (stands in_chosen))
+budget_later T U f u v w stands over = tt
+
+-- or it is none of a budget
+pub budget_fault : (T U : Type 0) (f : ToolFault) (u v : ListerState) → IsWithinBudget {T = T} (Err f) → EndsByBudget {T = U} u (Err f) v
+budget_fault T U (Budget offset size) u v within = absurd within
+budget_fault T U f u v within = tt
+
+pub budget_none : {T : Type 0} (r : Result T ToolFault) (u v : ListerState) → IsWithinBudget r → EndsByBudget u r v
+budget_none (Err (Budget offset size)) u v within = absurd within
+budget_none r u v within = tt
+
+-- what is told of it
+pub budget_cause : {T : Type 0} (r : Result T ToolFault) (u v : ListerState) → EndsByBudget u r v → HasBudgetCause r v
+budget_cause (Err (Budget offset size)) u v over = over.0
+budget_cause r u v over = tt
+
+pub budget_entry : {T : Type 0} (r : Result T ToolFault) (u v : ListerState) → StandsInChosen u → EndsByBudget u r v → IsOverInChosen r v
+budget_entry (Err (Budget offset size)) u v stands over = over.1 stands
+budget_entry r u v stands over = tt
 
 -- behind another answer, which may tell a limit too
 listed_with : {T : Type 0} (access : Access) (old new : SourceState) (answer other : Result T ToolFault) (is : HasListed access old answer new)
-    → HasBudgetCause other is.lister → HasAsideCause access.aside other is.lister → IsWithinMemory other → HasListed access old other new
-listed_with access old new answer other is over cause within = record {
+    → HasBudgetCause other is.lister → IsOverInChosen other is.lister → HasAsideCause access.aside other is.lister → IsWithinMemory other → HasListed access old other new
+listed_with access old new answer other is over entry cause within = record {
   lister = is.lister;
   opened = is.opened;
   of_file = is.of_file;
   budget = is.budget;
   over = over;
+  entry = entry;
   aside_kept = record { kept = is.aside_kept.kept; over = cause };
   reads = is.reads;
   memory = is.memory;
@@ -142,9 +173,9 @@ module _ {T : Type 0} (access : Access) (old new : SourceState) (answer flushed 
   pub through_flushed : EndsFlushed answer flushed before after → IsReadThrough access old answer new → IsReadThrough access old flushed new
   through_flushed (EndsFlushed.stands is same) through = subst (λ (r : Result T ToolFault). IsReadThrough access old r new) (sym is) through
   through_flushed (EndsFlushed.refused other is same) (IsReadThrough.listed was) =
-      subst (λ (r : Result T ToolFault). IsReadThrough access old r new) (sym is) (IsReadThrough.listed (listed_with access old new answer (Err Out) was tt tt tt))
-  through_flushed (EndsFlushed.refused other is same) (IsReadThrough.refused asked early over memory most inside) =
-      subst (λ (r : Result T ToolFault). IsReadThrough access old r new) (sym is) (IsReadThrough.refused asked tt (kept_answer answer over) tt most inside)
+      subst (λ (r : Result T ToolFault). IsReadThrough access old r new) (sym is) (IsReadThrough.listed (listed_with access old new answer (Err Out) was tt tt tt tt))
+  through_flushed (EndsFlushed.refused other is same) (IsReadThrough.refused fault early over memory back told) =
+      subst (λ (r : Result T ToolFault). IsReadThrough access old r new) (sym is) (IsReadThrough.refused fault tt (kept_answer answer over) tt back (inr refl))
 
 -- ---- a budget that is told
 
@@ -160,7 +191,7 @@ module _ {T : Type 0} (access : Access) (old : SourceState) where
   pub may_reach : (answer : Result T ToolFault) (new : SourceState) → new.size ≡ old.size → IsReadThrough access old answer new → MayReachBudget access.limits old.size answer
   may_reach (Err (Budget offset size)) new same (IsReadThrough.listed is) =
       reached T access.limits old.size _ offset size is.lister.counts is.lister.source.size is.budget (λ i. max (is.opened.asked.window_room i) (is.opened.asked.limit_is i)) (ap (λ (s : SourceState). s.size) is.source ∙ same) is.over.unmade
-  may_reach (Err (Budget offset size)) new same (IsReadThrough.refused asked early over memory most inside) =
+  may_reach (Err (Budget offset size)) new same (IsReadThrough.refused fault early over memory back told) =
       let of = over.unmade.over in (λ none. let never : IsTrue false = rw none at of.passes in cc never, (of.inside, of.most))
   may_reach answer new same through = tt
 
@@ -171,7 +202,7 @@ module _ {T : Type 0} (access : Access) (old : SourceState) where
         λ none. let open_end : is_within access.aside (is.lister.counts.aside.bytes + size) ≡ true = rw none refl in cc,
         (rw (ap (λ (s : SourceState). s.size) is.source ∙ same) at cause.1.0, rw is.opened.asked.limit_is at cause.1.1),
       )
-  may_reach_aside (Err (AsideLimit offset size)) new same (IsReadThrough.refused asked early over memory most inside) = absurd early
+  may_reach_aside (Err (AsideLimit offset size)) new same (IsReadThrough.refused fault early over memory back told) = absurd early
   may_reach_aside answer new same through = tt
 
 -- ---- a limit of memory that is told
@@ -179,7 +210,7 @@ module _ {T : Type 0} (access : Access) (old : SourceState) where
 -- there is one
 pub may_reach_memory : {T : Type 0} (access : Access) (old : SourceState) (answer : Result T ToolFault) (new : SourceState) → IsReadThrough access old answer new → MayReachMemory access.limits answer
 may_reach_memory access old (Err (MemoryLimit held)) new (IsReadThrough.listed is) = absurd is.within
-may_reach_memory access old (Err (MemoryLimit held)) new (IsReadThrough.refused asked early over memory most inside) = memory.over
+may_reach_memory access old (Err (MemoryLimit held)) new (IsReadThrough.refused fault early over memory back told) = memory.over
 may_reach_memory access old answer new through = tt
 
 -- ---- a limit of what is read aside
@@ -214,7 +245,7 @@ aside_read (Some most) old cost n new kept few more =
 behind_most : (head : List ℕ) (size room : ℕ) → min size 24 + fetched_behind head size room ≤ symbols_cost room size
 behind_most head size room = grind (arith, common_steps)
 
-cost_read : (at : Location) (room : ℕ) (head : List ℕ) (rest size : ℕ) → AreFetched at room head rest size → min at.size 24 + rest ≤ symbols_cost room at.size
+pub cost_read : (at : Location) (room : ℕ) (head : List ℕ) (rest size : ℕ) → AreFetched at room head rest size → min at.size 24 + rest ≤ symbols_cost room at.size
 cost_read at room head rest size fetched = rw fetched.rest_is (behind_most (take (min at.size 24) head) at.size room)
 
 pub record_read : (at : Location) (room : ℕ) (result : Result CodeViewBytes SourceFault) → IfOk result (λ bytes. AreFetched at room bytes.head (length bytes.rest.now) bytes.size)

@@ -33,6 +33,7 @@ use Rattle.mdmp_engines.specs.declared.fault.ToolFault.TheVariants.{List as BadL
 use Rattle.mdmp_engines.specs.Causes.{HasSourceCause}
 use Rattle.mdmp_engines.specs.Engines.{EndsAtFault, IsBehind, Leaves, Pace, UnlessEarly, up_to_a_fault}
 use Rattle.mdmp_print.specs.Forms.{item_line_in}
+use Rattle.mdmp_summary.specs.InEntry.{IsInChosen, StandsInChosen}
 use Rattle.mdmp_engines.specs.Runs.{IsBehindNext, ListsNext, PutsSymbols}
 use Rattle.mdmp_engines.specs.Telling.{listing_told, told_by}
 use Rattle.mdmp_engines.specs.Symbols.{IsRecordAt, inside_only, symbols_of}
@@ -169,11 +170,12 @@ pub end-more : {P : Type 0} (r : Result Bool ToolFault) → r ≡ Ok false → r
 end-more r end more = absurd (cc)
 
 -- one item fewer is left where an item was given, and a call aside leaves it so
-pub IsBehindNext-aside : (u v w : ListerState) (x : Item) → NextStands u (Ok (Some x)) v → w ≡ record v { source = w.source; counts = w.counts } → IsBehindNext u w
-IsBehindNext-aside u v w x stands stays = record {
+pub IsBehindNext-aside : (u v w : ListerState) (x : Item) → NextStands u (Ok (Some x)) v → w ≡ record v { source = w.source; counts = w.counts } → (StandsInChosen u → IsInChosen v) → IsBehindNext u w
+IsBehindNext-aside u v w x stands stays entry = record {
   left = ap (λ (l : ListerState). l.left) stays ∙ stands.left;
   going = ap (λ (l : ListerState). l.stop) stays ∙ stands.stop;
   falls = rw (ap (λ (l : ListerState). l.work) stays) stands.falls;
+  stands = λ in_chosen more. subst IsInChosen (sym stays) (entry in_chosen);
 }
 
 -- ---- behind some fetches

@@ -17,6 +17,7 @@ use Rattle.mdmp_lister.specs.NextFetch.{TellsNextOpening, TellsSomeFetch}
 use Rattle.mdmp_lister.specs.Opening.{IsOpenRefusal, KeepsToBudget}
 use Rattle.mdmp_lister.specs.Fault.{IsUnobtained}
 use Rattle.mdmp_lister.specs.Following.{FitsFile}
+use Rattle.mdmp_summary.specs.InEntry.{IsInChosen, StandsInChosen}
 use Rattle.mdmp_dump.specs.Reading.{IsLastTold, MayBeTold}
 use Rattle.mdmp_engines.specs.declared.fault.ToolFault.{ToolFault}
 use Rattle.mdmp_engines.specs.declared.fault.ToolFault.TheVariants.{Opening, List as BadList, Reading, Layout, Source, Budget, MemoryLimit, AsideLimit, Out, NotCopied}
@@ -42,6 +43,21 @@ pub record HasBudgetFetch (offset size : ℕ) (v : ListerState) : Type 0 where
 abbrev pub HasBudgetCause : {T : Type 0} → Result T ToolFault → ListerState → Type 0
 HasBudgetCause (Err (Budget offset size)) v = HasBudgetFetch offset size v
 HasBudgetCause answer v = Unit {0}
+
+-- that entry is one of those that are listed
+abbrev pub IsOverInChosen : {T : Type 0} → Result T ToolFault → ListerState → Type 0
+IsOverInChosen (Err (Budget offset size)) v = IsInChosen v
+IsOverInChosen answer v = Unit {0}
+
+-- a call that goes on with a listing tells the budget only of such a fetch, in such an entry if it began in one or in none
+abbrev pub EndsByBudget : {T : Type 0} → ListerState → Result T ToolFault → ListerState → Type 0
+EndsByBudget old (Err (Budget offset size)) new = HasBudgetFetch offset size new × (StandsInChosen old → IsInChosen new)
+EndsByBudget old answer new = Unit {0}
+
+-- no budget is told of what is read beside a listing
+abbrev pub IsWithinBudget : {T : Type 0} → Result T ToolFault → Type 0
+IsWithinBudget (Err (Budget offset size)) = ⊥
+IsWithinBudget answer = Unit {0}
 
 -- an opening did not make the fetch of these bytes, for the same reason
 pub record HasOpeningFetch (choice : Choice) (limits : Limits) (old : SourceState) (offset size : ℕ) (new : SourceState) : Type 0 where

@@ -10,8 +10,10 @@ use Rattle.mdmp_lister.specs.declared.limits.Limits.{Limits}
 use Rattle.mdmp_lister.specs.Counts.{AreHeld, AreOfFile, AreSpent, numbers_of}
 use Rattle.mdmp_lister.specs.declared.choice.Choice.TheVariants.{All}
 use Rattle.mdmp_lister.specs.Check.{items_of, names_judged}
+use Rattle.mdmp_lister.specs.Following as following
 use Rattle.mdmp_lister.specs.Format.Listing.{chosen, listing, memory_lists, verdicts}
 use Rattle.mdmp_lister.specs.Sink.{names_of_all}
+use Rattle.mdmp_lister.specs.Opening.{IsHandedBack}
 use Rattle.mdmp_lister.specs.Memory.{is_within, leaving, opening_fault_within}
 use Rattle.mdmp_lister.specs.Format.Numbers.{range_count}
 use Rattle.mdmp_lister.specs.Lister.{HasReadDirectory, IsAskedFor, ListerState, room_held}
@@ -20,7 +22,8 @@ use Rattle.mdmp_lister.specs.Format.Refusal.{directory_refusal, most_ranges, ope
 use Rattle.mdmp_engines.specs.declared.fault.ToolFault.{ToolFault}
 use Rattle.mdmp_engines.specs.declared.fault.ToolFault.TheVariants.{Opening, List as BadList, Source, Budget, Out, Memory, MemoryLimit, AsideLimit}
 use Rattle.mdmp_engines.specs.Symbols.{symbols_bytes}
-use Rattle.mdmp_engines.specs.Causes.{HasBudgetCause, HasOpeningBudget, HasOutCause, HasSourceCause, IsListTold, HasMemoryCause, IsNoSourceFault, IsRefusal, IsWithinMemory, KeepsAside, MayChange}
+use Rattle.mdmp_engines.specs.Telling.{opening_beside}
+use Rattle.mdmp_engines.specs.Causes.{HasBudgetCause, HasOpeningBudget, HasOutCause, HasSourceCause, IsListTold, HasMemoryCause, IsNoSourceFault, IsRefusal, IsOverInChosen, IsWithinMemory, KeepsAside, MayChange}
 
 -- ---- what is written, by the class of the answer
 
@@ -72,6 +75,7 @@ pub record IsOpened (choice : Choice) (lister : ListerState) : Type 0 where
   pub choice_is : lister.choice ≡ choice
   pub passed : lister.passed ≡ 0
   pub stop : lister.stop ≡ None
+  pub standing : lister.standing ≡ following.through
   pub ranges : lister.ranges ≡ []
   pub header_is : (file : List ℕ) → lister.source.store.content ≡ Some file → lister.header ≡ header_at file 0
   pub left : (file : List ℕ) → lister.source.store.content ≡ Some file → lister.left ≡ Some (listing file choice lister.limit)
@@ -262,6 +266,7 @@ pub record HasListed {T : Type 0} (access : Access) (old : SourceState) (answer 
   pub of_file : (file : List ℕ) → old.store.content ≡ Some file → AreOfFile file access.choice (numbers_of lister)
   pub budget : lister.counts.budget ≡ access.limits.budget
   pub over : HasBudgetCause answer lister
+  pub entry : IsOverInChosen answer lister
   pub aside_kept : KeepsAside access.aside answer lister
   pub reads : KeepsReads access.beside access.pace lister
   -- what it has room for, and what the command holds beside it, is within the limit of memory, which it does not end by
@@ -280,11 +285,16 @@ IsEarly (Err (BadList fault)) = ⊥
 IsEarly (Err (AsideLimit offset size)) = ⊥
 IsEarly answer = Unit {0}
 
--- or it was refused, and so many entries of its directory were asked for
+-- an opening was refused with this fault, and is told so, unless the flush was refused
+abbrev pub TellsRefusal : {T : Type 0} → ℕ → OpenFault → Result T ToolFault → Type 0
+TellsRefusal held fault answer = (answer ≡ Err (opening_beside held fault)) ⊎ (answer ≡ Err Out)
+
+-- or it was refused, and its source was left as the lister hands it back: a fault of the header, or of the place of the directory,
+-- has asked for no entry, and over a known file none was asked for that the file does not have
 pub data IsReadThrough {T : Type 0} (access : Access) (old : SourceState) (answer : Result T ToolFault) (new : SourceState) : Type 0 where
   listed : HasListed access old answer new → IsReadThrough access old answer new
-  refused : (asked : ℕ) → IsEarly answer → HasOpeningBudget access.choice access.limits old answer new → HasMemoryCause access.limits access.choice access.held old answer
-      → FetchesAtMost (32 + 28 * asked) old new → 12 * asked ≤ old.size → IsReadThrough access old answer new
+  refused : (fault : OpenFault) → IsEarly answer → HasOpeningBudget access.choice access.limits old answer new → HasMemoryCause access.limits access.choice access.held old answer
+      → IsHandedBack access.choice old fault new → TellsRefusal access.held fault answer → IsReadThrough access old answer new
 
 -- ---- where the source is gone
 

@@ -18,13 +18,14 @@ HexesMemory F ranges address length before (Err (Source fault)) after = PutsAll 
 HexesMemory F ranges address length before (Err Out) after = PutsPrefix before (hex_text F ranges address length) after
 HexesMemory F ranges address length before (Err _) after = ⊥
 
--- what may end the printing of the bytes by the ranges of a run, which are printed only where the run has no fault
+-- what may end the printing of the bytes by the ranges of a run: they are printed only if the run has no fault, and only then memory is
+-- taken for them
 abbrev pub HexEnds : Run → Result (Unit {0}) ToolFault → Type 0
 HexEnds run (Ok x) = run.fault ≡ None
 HexEnds run (Err (BadList fault)) = run.fault ≡ Some fault
 HexEnds run (Err (Source fault)) = Unit {0}
 HexEnds run (Err (Budget offset size)) = Unit {0}
-HexEnds run (Err Memory) = Unit {0}
+HexEnds run (Err Memory) = run.fault ≡ None
 HexEnds run (Err Out) = run.fault ≡ None
 HexEnds run (Err fault) = ⊥
 

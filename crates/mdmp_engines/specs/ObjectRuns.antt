@@ -17,7 +17,7 @@ use Rattle.mdmp_lister.specs.declared.sink.Stopped.{Stopped}
 use Rattle.mdmp_summary.specs.BadEntries.{all_items}
 use Rattle.mdmp_summary.specs.Spending.{PaysPasses, ReadsOutside, SpendsPasses}
 use Rattle.mdmp_summary.specs.Summary.{file_summary}
-use Rattle.mdmp_summary.specs.Summing.{IsCallFault}
+use Rattle.mdmp_summary.specs.Summing.{IsCallFault, SpendsToFault}
 use Rattle.mdmp_summary.specs.Visiting.{RisesOutside, Visits}
 use Rattle.mdmp_summary.specs.Walking.{IsSameListing}
 use Rattle.mdmp_summary.specs.declared.summary.SummaryFault.{SummaryFault}
@@ -108,7 +108,7 @@ pub record LeavesPasses {T : Type 0} (passes : ℕ) (old : WalkerState) (result 
 pub record ReadsLists {T : Type 0} (limit : ℕ) (content : Option (List ℕ)) (result : Result T ToolFault) (old new : Amount) : Type 0 where
   pub modules : List Item
   pub threads : List Item
-  -- 24 bytes and a name for each module, and 272 bytes for each thread
+  -- of each module its CodeView record, at most 24 bytes and a name, and 272 bytes for each thread
   pub bytes : new.bytes ≤ old.bytes + sum_by (λ x. (module_room limit x).bytes) modules + sum_by (λ x. (thread_room 0 x).bytes) threads
   pub all : (file : List ℕ) → content ≡ Some file → AreItems (all_items file limit) modules result × AreItems (all_items file limit) threads result
 
@@ -136,7 +136,7 @@ pub data ReadsObject (old : WalkerState) (before : OutState) (answer : Result �
 pub data IsObjectThrough (limits : Limits) (old : SourceState) (before : OutState) (answer : Result ℕ ToolFault) (new : SourceState) (after : OutState) : Type 0 where
   refused : (fault : OpenFault) → IsRefusedWalker (within_object limits) old fault new → answer ≡ Err (opening_beside (object_held limits) fault) → after ≡ before
       → IsObjectThrough limits old before answer new after
-  unread : (opened ended : WalkerState) (fault : SummaryFault) → IsNewWalker old All (within_object limits) opened → SpendsPasses 2 1 opened ended
+  unread : (opened ended : WalkerState) (fault : SummaryFault) → IsNewWalker old All (within_object limits) opened → SpendsToFault fault opened ended
       → IsSameListing opened.list ended.list → IsCallFault opened.list ended.list fault → answer ≡ Err (summary_told fault) → new ≡ ended.list.source → after ≡ before
       → IsObjectThrough limits old before answer new after
   printed : (opened ended last : WalkerState) → IsNewWalker old All (within_object limits) opened → SpendsPasses 2 1 opened ended

@@ -7,7 +7,7 @@ use Rattle.mdmp_lister.specs.declared.item.Item.{Item}
 use Rattle.mdmp_lister.specs.declared.meter.Amount.{Amount}
 use Rattle.mdmp_lister.specs.declared.sink.Stopped.{Stopped}
 use Rattle.mdmp_summary.specs.Spending.{context_cost}
-use Rattle.mdmp_summary.specs.Symbols.{symbols_amount}
+use Rattle.mdmp_summary.specs.Symbols.{symbols_bound}
 use Rattle.mdmp_summary.specs.Visiting.{nothing_read}
 use Rattle.mdmp_summary.specs.declared.visiting.VisitEnd.{VisitEnd}
 use Rattle.mdmp_summary.specs.declared.visiting.VisitEnd.TheVariants as ends
@@ -43,8 +43,9 @@ TakesModule old x (Err stopped) new = PutsPrefix old.out (module_front old.is_fi
 abbrev pub LooksModule : Option (List ℕ) → ModulesAt → Result (Unit {0}) VisitEnd → ModulesAt → Type 0
 LooksModule content old result new = (new ≡ record old { out = new.out; begun = None }) × PutsOf content (λ F. ids_of F old.room old.begun) old.out result new.out
 
+-- how many bytes it reads of the module that is begun, at most
 abbrev pub module_cost : ℕ → Option ModuleRecord → Amount
-module_cost room (Some fields) = symbols_amount room
+module_cost room (Some fields) = symbols_bound fields.cv_record room
 module_cost room None = nothing_read
 
 abbrev pub module_room : ℕ → Item → Amount

@@ -6,6 +6,7 @@ use Rattle.mdmp_lister.specs.declared.choice.Choice.TheVariants.{All}
 use Rattle.mdmp_lister.specs.Format.Listing.{Run, listing, nothing, only_fault}
 use Rattle.mdmp_lister.specs.Lister.{ListerState, tail}
 use Rattle.mdmp_lister.specs.Sink.{names_of_all}
+use Rattle.mdmp_summary.specs.InEntry.{StandsInChosen}
 use Rattle.mdmp_engines.specs.declared.fault.ToolFault.{ToolFault}
 use Rattle.mdmp_engines.specs.declared.fault.ToolFault.TheVariants.{List as BadList, Source, Budget, AsideLimit, Out}
 use Rattle.mdmp_wire.specs.declared.header.Header.{Header}
@@ -63,6 +64,7 @@ pub record IsBehindNext (old new : ListerState) : Type 0 where
   pub left : new.left ≡ option_map tail old.left
   pub going : new.stop ≡ None
   pub falls : new.work < old.work
+  pub stands : StandsInChosen old → StandsInChosen new
 
 -- what giving the next item reads beside the listing: its CodeView record, if such are told
 pub record ReadsNext (pdb : Bool) (old new : ListerState) : Type 0 where

@@ -10,7 +10,7 @@ use Rattle.mdmp_lister.specs.declared.fault.OpenFault.{OpenFault}
 use Rattle.mdmp_lister.specs.declared.limits.Limits.{Limits}
 use Rattle.mdmp_summary.specs.Spending.{SpendsPasses}
 use Rattle.mdmp_summary.specs.Summary.{file_summary}
-use Rattle.mdmp_summary.specs.Summing.{IsCallFault}
+use Rattle.mdmp_summary.specs.Summing.{IsCallFault, SpendsToFault}
 use Rattle.mdmp_summary.specs.Walking.{IsSameListing}
 use Rattle.mdmp_summary.specs.declared.summary.FileSummary.{FileSummary}
 use Rattle.mdmp_summary.specs.declared.summary.SummaryFault.{SummaryFault}
@@ -78,7 +78,7 @@ IsNameEnd old new fault = ⊥
 pub data IsSummedThrough (limits : Limits) (old : SourceState) (answer : Result ℕ ToolFault) (new : SourceState) : Type 0 where
   refused : (fault : OpenFault) → IsRefusedWalker (within_names limits) old fault new → answer ≡ Err (opening_beside (names_held limits) fault)
       → IsSummedThrough limits old answer new
-  unread : (opened ended : WalkerState) (fault : SummaryFault) → IsNewWalker old All (within_names limits) opened → SpendsPasses 2 1 opened ended
+  unread : (opened ended : WalkerState) (fault : SummaryFault) → IsNewWalker old All (within_names limits) opened → SpendsToFault fault opened ended
       → IsSameListing opened.list ended.list → IsCallFault opened.list ended.list fault → answer ≡ Err (summary_told fault) → new ≡ ended.list.source
       → IsSummedThrough limits old answer new
   summed : (opened ended : WalkerState) → IsNewWalker old All (within_names limits) opened → SpendsPasses 2 1 opened ended

@@ -4,7 +4,7 @@ ghost use Rattle.mdmp_lister.specs.declared.choice.Choice.TheVariants.{All};
 ghost use Rattle.mdmp_lister.specs.Format.Listing.{verdicts};
 ghost use Rattle.mdmp_engines.specs.CheckRuns.{CheckEnds, Checks};
 ghost use Rattle.mdmp_engines.specs.CheckText.{verdict_lines};
-ghost use Rattle.mdmp_engines.specs.Causes.{HasBudgetCause, KeepsAside, MayReachAside, MayReachBudget, MayReachMemory};
+ghost use Rattle.mdmp_engines.specs.Causes.{EndsByBudget, KeepsAside, MayReachAside, MayReachBudget, MayReachMemory};
 ghost use Rattle.mdmp_engines.specs.Dropping.{DropsStore};
 ghost use Rattle.mdmp_engines.specs.Engines.{IsOpened, IsSameRun, IsReadThrough, KeepsReads, Leaves, ReadsSource, Tells, WritesText, at_most, directly, past_faults, check_access};
 
@@ -136,7 +136,7 @@ fn check_listed<S: Store + Drop, A: Allocator + Copy, O: Printer>(
         → WritesText past_faults (verdict_lines lines.old.form (verdicts file All lister.old.limit)) (O.state lines.old.out.now) result (O.state lines.new.out.now) }
     ensures leaves { Leaves past_faults (O.state lines.new.out.now ≡ O.state lines.old.out.now) lister.old.source (O.state lines.old.out.now) result lister.new.source (O.state lines.new.out.now) }
     ensures same { IsSameRun lister.old lister.new }
-    ensures over { HasBudgetCause result lister.new }
+    ensures over { EndsByBudget lister.old result lister.new }
     ensures aside { KeepsAside None result lister.new }
     ensures read { KeepsReads (at_most 0) past_faults lister.new }
 {

@@ -2,7 +2,7 @@
 ghost use Rattle.std.specs.Prelude.{◌≡◌, ◌≤◌, ℕ, List, None, Some};
 ghost use Rattle.mdmp_lister.specs.declared.choice.Choice.TheVariants.{All};
 ghost use Rattle.mdmp_summary.specs.CheckRows.{check_rows};
-ghost use Rattle.mdmp_engines.specs.Causes.{HasBudgetCause, KeepsAside, MayReachAside, MayReachBudget, MayReachMemory};
+ghost use Rattle.mdmp_engines.specs.Causes.{EndsByBudget, KeepsAside, MayReachAside, MayReachBudget, MayReachMemory};
 ghost use Rattle.mdmp_engines.specs.CheckParts.{CheckPartsEnds, ChecksParts, row_count, row_lines};
 ghost use Rattle.mdmp_engines.specs.Dropping.{DropsStore};
 ghost use Rattle.mdmp_engines.specs.Engines.{IsOpened, IsSameRun, IsReadThrough, KeepsReads, Leaves, ReadsSource, Tells, WritesText, at_most, directly, past_faults, check_access};
@@ -135,7 +135,7 @@ fn check_parts_listed<S: Store + Drop, A: Allocator + Copy, O: Printer>(
         → WritesText past_faults (row_lines lines.old.form (check_rows file lister.old.limit)) (O.state lines.old.out.now) result (O.state lines.new.out.now) }
     ensures leaves { Leaves past_faults (O.state lines.new.out.now ≡ O.state lines.old.out.now) lister.old.source (O.state lines.old.out.now) result lister.new.source (O.state lines.new.out.now) }
     ensures same { IsSameRun lister.old lister.new }
-    ensures over { HasBudgetCause result lister.new }
+    ensures over { EndsByBudget lister.old result lister.new }
     ensures aside { KeepsAside None result lister.new }
     ensures read { KeepsReads (at_most 0) past_faults lister.new }
 {

@@ -20,7 +20,7 @@ pub trait Engine: Copy {
     ghost use Rattle.mdmp_source.specs.Output.{OutState};
     ghost use Rattle.mdmp_lister.specs.declared.choice.Choice.{Choice};
     ghost use Rattle.mdmp_engines.specs.declared.fault.ToolFault.{ToolFault};
-    ghost use Rattle.mdmp_engines.specs.Causes.{HasBudgetCause, IsWithinMemory, KeepsAside};
+    ghost use Rattle.mdmp_engines.specs.Causes.{EndsByBudget, IsWithinMemory, KeepsAside};
     ghost use Rattle.mdmp_engines.specs.Engines.{Beside, IsOpened, IsSameRun, KeepsReads, Leaves, Pace, WritesText};
 
     /// What it answers where all was printed.
@@ -74,7 +74,7 @@ pub trait Engine: Copy {
             → WritesText pace (text self.now file lister.old.limit) (O.state out.old) result (O.state out.new) }
         ensures leaves { Leaves pace (O.state out.new ≡ O.state out.old) lister.old.source (O.state out.old) result lister.new.source (O.state out.new) }
         ensures same { IsSameRun lister.old lister.new }
-        ensures over { HasBudgetCause result lister.new }
+        ensures over { EndsByBudget lister.old result lister.new }
         ensures aside { KeepsAside (aside self.now) result lister.new }
         ensures read { KeepsReads (reads self.now) pace lister.new }
         ensures within { IsWithinMemory result };

@@ -2,7 +2,7 @@
 ghost use Rattle.std.specs.Prelude.{◌≡◌, ◌≤◌, ◌<◌, ◌+◌, ℕ, List, [], Some, None, length};
 ghost use Rattle.mdmp_map.specs.Ranges.{address_end};
 ghost use Rattle.mdmp_lister.specs.Format.Listing.{Run};
-ghost use Rattle.mdmp_engines.specs.Causes.{HasBudgetCause, KeepsAside, MayReachAside, MayReachBudget, MayReachMemory};
+ghost use Rattle.mdmp_engines.specs.Causes.{EndsByBudget, IsWithinBudget, KeepsAside, MayReachAside, MayReachBudget, MayReachMemory};
 ghost use Rattle.mdmp_engines.specs.Dropping.{DropsStore};
 ghost use Rattle.mdmp_engines.specs.Engines.{IsSameRun, IsReadThrough, Leaves, ReadsSource, Tells, at_the_end, directly, hex_access};
 ghost use Rattle.mdmp_engines.specs.HexRuns.{Hexes, HexesMemory, HexesRun};
@@ -151,7 +151,7 @@ fn hex_listed<S: Store + Drop, A: Allocator + Copy, B: Allocator + Copy, O: Prin
         → HexesRun file left address length (O.state out.old) result (O.state out.new) }
     ensures leaves { Leaves at_the_end (O.state out.new ≡ O.state out.old) lister.old.source (O.state out.old) result lister.new.source (O.state out.new) }
     ensures same { IsSameRun lister.old lister.new }
-    ensures over { HasBudgetCause result lister.new }
+    ensures over { EndsByBudget lister.old result lister.new }
     ensures aside { KeepsAside None result lister.new }
     ensures beside { lister.new.counts.aside.bytes ≤ lister.old.counts.aside.bytes + length }
 {
@@ -182,7 +182,7 @@ fn print_memory<S: Store + Drop, A: Allocator + Copy, O: Printer>(
         → HexesMemory file lister.old.ranges address (length bytes.new) (O.state out.old) result (O.state out.new) }
     ensures leaves { Leaves at_the_end (O.state out.new ≡ O.state out.old) lister.old.source (O.state out.old) result lister.new.source (O.state out.new) }
     ensures same { IsSameRun lister.old lister.new }
-    ensures over { HasBudgetCause result lister.new }
+    ensures over { IsWithinBudget result }
     ensures aside { KeepsAside None result lister.new }
     ensures beside { lister.new.counts.aside.bytes ≤ lister.old.counts.aside.bytes + length bytes.new }
 {

@@ -4,7 +4,7 @@ ghost use Rattle.mdmp_source.specs.Range.{IsInside};
 ghost use Rattle.mdmp_lister.specs.Format.Listing.{Run};
 ghost use Rattle.mdmp_lister.specs.Memory.{is_within};
 ghost use Rattle.mdmp_lister.specs.Sink.{names_of_all};
-ghost use Rattle.mdmp_engines.specs.Causes.{HasBudgetCause, KeepsAside, MayReachAside, MayReachBudget, MayReachMemory, symbols_cost};
+ghost use Rattle.mdmp_engines.specs.Causes.{EndsByBudget, IsWithinBudget, KeepsAside, MayReachAside, MayReachBudget, MayReachMemory, symbols_cost};
 ghost use Rattle.mdmp_engines.specs.Dropping.{DropsStore};
 ghost use Rattle.mdmp_engines.specs.Engines.{IsSameRun, IsReadThrough, Leaves, ReadsSource, Tells, directly, up_to_a_fault, list_access};
 ghost use Rattle.mdmp_engines.specs.Runs.{IsBehindNext, Lists, ListsFile, ListsNext, ListsRun, NamesNext, PutsSymbols, ReadsLeft, ReadsNext};
@@ -146,7 +146,7 @@ fn print_listing<S: Store + Drop, A: Allocator + Copy, O: Printer>(
         → ListsFile form pdb file lister.old.limit lister.old.header left (O.state out.old) result (O.state out.new) }
     ensures leaves { Leaves up_to_a_fault (O.state out.new ≡ O.state out.old) lister.old.source (O.state out.old) result lister.new.source (O.state out.new) }
     ensures same { IsSameRun lister.old lister.new }
-    ensures over { HasBudgetCause result lister.new }
+    ensures over { EndsByBudget lister.old result lister.new }
     ensures aside { KeepsAside aside result lister.new }
     ensures read { ReadsLeft pdb lister.old lister.new }
     ensures names { (left : Run) → lister.old.left ≡ Some left → lister.new.counts.names ≤ lister.old.counts.names + names_of_all left.items + 1 }
@@ -171,7 +171,7 @@ fn list_items<S: Store + Drop, A: Allocator + Copy, O: Printer>(
         → ListsRun form pdb file lister.old.limit left (O.state out.old) result (O.state out.new) }
     ensures leaves { Leaves up_to_a_fault ⊥ lister.old.source (O.state out.old) result lister.new.source (O.state out.new) }
     ensures same { IsSameRun lister.old lister.new }
-    ensures over { HasBudgetCause result lister.new }
+    ensures over { EndsByBudget lister.old result lister.new }
     ensures aside { KeepsAside aside result lister.new }
     ensures read { ReadsLeft pdb lister.old lister.new }
     ensures names { (left : Run) → lister.old.left ≡ Some left → lister.new.counts.names ≤ lister.old.counts.names + names_of_all left.items + 1 }
@@ -199,7 +199,7 @@ pub fn list_next<S: Store + Drop, A: Allocator + Copy, O: Printer>(
     ensures rest { result ≡ Ok true → IsBehindNext lister.old lister.new }
     ensures leaves { Leaves up_to_a_fault ⊥ lister.old.source (O.state out.old) result lister.new.source (O.state out.new) }
     ensures same { IsSameRun lister.old lister.new }
-    ensures over { HasBudgetCause result lister.new }
+    ensures over { EndsByBudget lister.old result lister.new }
     ensures aside { is_within aside lister.old.counts.aside.bytes ≡ true → KeepsAside aside result lister.new }
     ensures read { ReadsNext pdb lister.old lister.new }
     ensures names { (left : Run) → lister.old.left ≡ Some left → NamesNext left result lister.old.counts.names lister.new.counts.names }
@@ -266,7 +266,7 @@ fn list_symbols<S: Store + Drop, A: Allocator + Copy, O: Printer>(
     ensures stays { lister.new ≡ record lister.old { source = lister.new.source; counts = lister.new.counts } }
     ensures leaves { Leaves up_to_a_fault ⊥ lister.old.source (O.state out.old) result lister.new.source (O.state out.new) }
     ensures same { IsSameRun lister.old lister.new }
-    ensures over { HasBudgetCause result lister.new }
+    ensures over { IsWithinBudget result }
     ensures aside { is_within aside lister.old.counts.aside.bytes ≡ true → KeepsAside aside result lister.new }
     ensures read { lister.new.counts.aside.bytes ≤ lister.old.counts.aside.bytes + symbols_read lister.old.limit symbols }
     ensures names { lister.new.counts.names ≡ lister.old.counts.names }

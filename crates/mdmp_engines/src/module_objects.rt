@@ -6,7 +6,7 @@ ghost use Rattle.mdmp_summary.specs.Symbols.{AreSymbolsOf, FitsBuffer};
 ghost use Rattle.mdmp_engines.specs.ObjectVisits.{HasOut};
 ghost use Rattle.mdmp_engines.specs.SummaryObject.{ids_in_class};
 
-use mdmp_lister::{CodeViewBytes, Item, Stopped, Walker};
+use mdmp_lister::{CodeViewBytes, Item, Stopped, StreamKind, Walker};
 use mdmp_print::Printer;
 use mdmp_source::{OutFailed, Store};
 use mdmp_summary::{SymbolsRead, VisitEnd, Visitor, read_symbols};
@@ -72,6 +72,14 @@ impl<'a, O: Printer, A: Allocator> Visitor for ModuleObjects<'a, O, A> {
     ghost span = { λ k. length k.buffer.now.items };
 
     ghost room = { module_room };
+
+    fn wants(&self, kind: StreamKind) -> bool {
+        match self.begun {
+            // Any item ends it. A pass asks where none is begun.
+            Some(_) => true,
+            None => matches!(kind, StreamKind::Modules),
+        }
+    }
 
     fn take(&mut self, item: &Item<'_>) -> Result<(), Stopped> {
         self.begun = None;

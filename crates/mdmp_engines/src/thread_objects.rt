@@ -5,7 +5,7 @@ ghost use Rattle.mdmp_summary.specs.Keeping.{kept};
 ghost use Rattle.mdmp_summary_lines.specs.JsonThreads.{thread_object_text};
 ghost use Rattle.mdmp_engines.specs.SummaryObject.{is_id, name_if};
 
-use mdmp_lister::{Item, Name, Stopped, Walker};
+use mdmp_lister::{Item, Name, Stopped, StreamKind, Walker};
 use mdmp_print::Printer;
 use mdmp_source::{OutFailed, Store};
 use mdmp_summary::{Registers, VisitEnd, Visitor, read_registers};
@@ -86,6 +86,14 @@ impl<'a, O: Printer> Visitor for ThreadObjects<'a, O> {
     ghost span = { λ _. 0 };
 
     ghost room = { thread_room };
+
+    fn wants(&self, kind: StreamKind) -> bool {
+        match self.begun {
+            // Any item ends it. A pass asks where none is begun.
+            Some(_) => true,
+            None => matches!(kind, StreamKind::Threads),
+        }
+    }
 
     fn take(&mut self, item: &Item<'_>) -> Result<(), Stopped> {
         match item {

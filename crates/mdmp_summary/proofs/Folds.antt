@@ -148,7 +148,7 @@ gathered_all items = gathered_over nothing_gathered items ∙ (λ i. record {
 
 -- ---- the module with the greatest base
 
-higher-none : (m : Option ModuleRecord) → m ≡ higher m None
+pub higher-none : (m : Option ModuleRecord) → m ≡ higher m None
 higher-none None = refl
 higher-none (Some m) = refl
 

@@ -1,5 +1,5 @@
 -- What a pass over all entries fetches, a look at a time.
-use Rattle.std.proofs.Common.{◌≡◌, ◌≤◌, ◌+◌, ◌*◌, ◌∙◌, ℕ, List, [], ◌∷◌, Option, Result, Ok, Err, ap, arith, drop, refl, subst, sym, false}
+use Rattle.std.proofs.Common.{◌≡◌, ◌≤◌, ◌+◌, ◌*◌, ◌∙◌, ℕ, List, [], ◌∷◌, Option, Result, Ok, Err, ap, arith, drop, refl, subst, sym, true, false}
 use Rattle.std.proofs.lemmas.List.Sums.{sum_by-cons}
 use Rattle.std.specs.Prelude.{sum_by}
 use Rattle.mdmp_lister.specs.declared.item.Item.{Item}
@@ -9,13 +9,15 @@ use Rattle.mdmp_lister.specs.declared.position.Position.TheVariants.{Begun, Soug
 use Rattle.mdmp_lister.specs.Listed.{cost_of, entry_cost}
 use Rattle.mdmp_lister.specs.Lister.{IsSameLister, ListerState}
 use Rattle.mdmp_lister.specs.Walker.{WalkerState, is_sought, seeks}
-use Rattle.mdmp_summary.specs.Spending.{CountsNames, KeepsSettled, LookPaid, PassPaid, PaysLook, PaysPasses, ReadsContext, RisesByNames, SpendsPasses, ahead, ahead_after, all_listed, room_for_name, next_number, settled}
-use Rattle.mdmp_summary.specs.Summing.{SpendsSummary, contexts_for, passes_for}
-use Rattle.mdmp_summary.specs.Visiting.{RisesOutside, nothing_read}
+use Rattle.mdmp_summary.specs.Spending.{CountsNames, IsBegunAfter, KeepsSettled, LookPaid, PassPaid, PaysLook, PaysPasses, ReadsContext, ReadsNoneSince, RisesByNames, SpendsPasses, ahead, ahead_after, all_listed, room_for_name, next_number, settled}
+use Rattle.mdmp_summary.specs.Summing.{SpendsCrash, SpendsSummary, SpendsToFault, contexts_for, passes_for}
+use Rattle.mdmp_summary.specs.Visiting.{IsAtMost, RisesOutside, nothing_read}
 use Rattle.mdmp_summary.specs.Walking.{IsSameListing}
 use Rattle.mdmp_summary.specs.declared.summary.Crash.{Crash}
 use Rattle.mdmp_summary.specs.declared.summary.FileSummary.{FileSummary}
-use Rattle.mdmp_summary.proofs.Paying.{few_names, rises_then}
+use Rattle.mdmp_summary.specs.declared.summary.SummaryFault.{SummaryFault}
+use Rattle.mdmp_summary.specs.declared.summary.SummaryFault.TheVariants as faults
+use Rattle.mdmp_summary.proofs.Paying.{at_most_same, at_most_then, few_names, rises_then}
 
 -- ---- a pass so far
 
@@ -25,6 +27,9 @@ pub record PassedBy (count : MeterCounts → ℕ) (old now : WalkerState) : Type
   pub kept : KeepsSettled count old → KeepsSettled count now
 
 pub record HasPassed (old now : WalkerState) : Type 0 where
+  pub outside : IsAtMost old.list.counts.aside now.list.counts.aside
+  -- an entry is sought, or one was begun since
+  pub begun : IsBegunAfter old.list.counts.aside now
   pub more_names : old.list.counts.names ≤ now.list.counts.names
   pub asked : CountsNames now → PassedBy (λ c. c.asked) old now
   pub fetched : CountsNames now → PassedBy (λ c. c.fetched) old now
@@ -45,6 +50,8 @@ module _ (old new : WalkerState) (stays : new.list ≡ record old.list { left = 
 
   pub passed_sought : HasPassed old new
   passed_sought = record {
+    outside = let same = ap (λ (l : ListerState). l.counts.aside) stays in at_most_same old.list.counts.aside old.list.counts.aside new.list.counts.aside same (record { bytes = omega arith; calls = omega arith });
+    begun = λ not. let sought : seeks new.position ≡ true = ap seeks position in absurd (cc);
     more_names = let same = ap (λ (l : ListerState). l.counts.names) stays in omega (arith, same);
     asked = λ few. sought_by (λ c. c.asked);
     fetched = λ few. sought_by (λ c. c.fetched);
@@ -101,6 +108,9 @@ module _ (old now mid : WalkerState) (same : now.list.limit ≡ old.list.limit) 
     passed_skip so_far look =
         let same_names = ap (λ (c : MeterCounts). c.names) counts in
         record {
+          outside = at_most_same old.list.counts.aside mid.list.counts.aside new.list.counts.aside (ap (λ (c : MeterCounts). c.aside) counts)
+              (at_most_then old.list.counts.aside now.list.counts.aside mid.list.counts.aside so_far.outside look.outside);
+          begun = λ not. at_most_same old.list.counts.aside mid.mark.aside new.mark.aside (ap (λ (m : MeterCounts). m.aside) mark) (look.begun old.list.counts.aside so_far.outside so_far.begun);
           more_names = omega (arith, so_far.more_names, look.more_names, same_names);
           asked = λ few.
               let few_mid : CountsNames mid = omega (arith, few, same_names) in
@@ -146,6 +156,13 @@ spends_pass items old new pays outside = record {
   fetched = pays.fetched;
   aside = let bytes = outside.bytes in omega (arith, bytes, none_of_all items);
   aside_calls = let calls = outside.calls in omega (arith, calls, none_of_all items);
+}
+
+-- so nothing was since an entry that it began
+pub none_since : (items : List Item) (old new : WalkerState) → RisesOutside (λ item. nothing_read) items old.list.counts.aside new.list.counts.aside → IsAtMost old.list.counts.aside new.mark.aside → ReadsNoneSince new
+none_since items old new outside begun = record {
+  bytes = let more = outside.bytes in let least = begun.bytes in omega (arith, more, least, none_of_all items);
+  calls = let more = outside.calls in let least = begun.calls in omega (arith, more, least, none_of_all items);
 }
 
 module _ (old new : WalkerState) (reads : ReadsContext old new) where
@@ -204,6 +221,12 @@ crash_spends old mid new same first then = spends_then 0 1 1 1 0 (λ cost. omega
 
 pub summary_spends : (old mid new : WalkerState) → IsSameListing old.list mid.list → SpendsPasses 1 0 old mid → SpendsPasses 1 1 mid new → SpendsPasses 2 1 old new
 summary_spends old mid new same first then = spends_then 1 1 2 0 1 (λ cost. omega arith) old mid new same first then
+
+-- and those before an error
+pub fault_spends : (fault : SummaryFault) (old mid new : WalkerState) → IsSameListing old.list mid.list → SpendsPasses 1 0 old mid → SpendsCrash (Err fault) mid new → SpendsToFault fault old new
+fault_spends (faults.Opening fault) old mid new same first then = absurd then
+fault_spends (faults.List fault) old mid new same first then = (summary_spends old mid new same first then.0, then.1)
+fault_spends (faults.Source fault) old mid new same first then = spends_then 1 0 1 0 1 (λ cost. omega arith) old mid new same first then
 
 -- what was made for a crash, or for none, was made for a summary that has it
 pub crash_paid : (summary : FileSummary) (crash : Option Crash) (old new : WalkerState) → summary.crash ≡ crash → SpendsPasses (passes_for crash) (contexts_for crash) old new → SpendsSummary (Ok summary) old new

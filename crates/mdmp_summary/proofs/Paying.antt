@@ -25,7 +25,8 @@ use Rattle.mdmp_lister.specs.Walk.Positions.{mark_by, position_by}
 use Rattle.mdmp_lister.specs.Walker.{GivesEntry, WalkerLeaves, WalkerState, seeks}
 use Rattle.mdmp_lister.proofs.Listed.{cost_by-more, cost_by-passed}
 use Rattle.mdmp_lister.proofs.Summary.{summary_of-item_of, summary_of-plain}
-use Rattle.mdmp_summary.specs.Spending.{CountsNames, KeepsSettled, LookPaid, PaysLook, ReadsOutside, RisesByNames, ahead, ahead_after, room_for_name, next_number, settled}
+use Rattle.mdmp_summary.specs.Spending.{CountsNames, IsBegunAfter, KeepsSettled, LookPaid, PaysLook, ReadsOutside, RisesByNames, ahead, ahead_after, room_for_name, next_number, settled}
+use Rattle.mdmp_summary.specs.Visiting.{IsAtMost}
 use Rattle.mdmp_summary.specs.Walking.{IsSameListing}
 
 -- ---- numbers
@@ -134,11 +135,11 @@ module _ (v : ListerState) (all : v.choice ≡ All) (x : Item) (s : StreamItem) 
 -- ---- an item
 
 -- an item that begins no entry is of no entry that is sought
-unsought : (entries : List Entry) (x : Item) (p : Position) (passed : ℕ) → (summary_of x).stream ≡ None → ((number : ℕ) → p ≡ Sought number → GivesEntry number entries (Ok (Some x))) → next_number p passed ≡ passed
-unsought entries x (Sought number) passed none sought =
-    let gives = sought number refl in
-    let one = sym (ap (λ (s : Summary). s.stream) (summary_of-plain x)) ∙ ap (λ (y : Item). (summary_of y).stream) gives.1.1 in
-    absurd (cc)
+pub no_entry_sought : (entries : List Entry) (x : Item) (number : ℕ) → (summary_of x).stream ≡ None → GivesEntry number entries (Ok (Some x)) → ⊥
+no_entry_sought entries x number none gives = let one = sym (ap (λ (s : Summary). s.stream) (summary_of-plain x)) ∙ ap (λ (y : Item). (summary_of y).stream) gives.1.1 in cc
+
+pub unsought : (entries : List Entry) (x : Item) (p : Position) (passed : ℕ) → (summary_of x).stream ≡ None → ((number : ℕ) → p ≡ Sought number → GivesEntry number entries (Ok (Some x))) → next_number p passed ≡ passed
+unsought entries x (Sought number) passed none sought = absurd (no_entry_sought entries x number none (sought number refl))
 unsought entries x Begun passed none sought = refl
 unsought entries x Within passed none sought = refl
 
@@ -168,12 +169,43 @@ module _ (count : MeterCounts → ℕ) (now new : WalkerState) (same : IsSameLis
 -- ---- a look so far
 
 pub record HasPaid (old now : WalkerState) : Type 0 where
+  pub outside : IsAtMost old.list.counts.aside now.list.counts.aside
+  pub begun : (least : Amount) → IsAtMost least old.list.counts.aside → IsBegunAfter least old → IsBegunAfter least now
   pub more_names : old.list.counts.names ≤ now.list.counts.names
   pub asked : CountsNames now → RisesByNames (room_for_name old) (settled (λ c. c.asked) old + ahead old) old.mark.names (settled (λ c. c.asked) now + ahead now) now.mark.names
   pub fetched : CountsNames now → RisesByNames (room_for_name old) (settled (λ c. c.fetched) old + ahead old) old.mark.names (settled (λ c. c.fetched) now + ahead now) now.mark.names
 
 pub paid_none : (v : WalkerState) → HasPaid v v
-paid_none v = record { more_names = omega arith; asked = λ few. omega arith; fetched = λ few. omega arith }
+paid_none v = record { outside = record { bytes = omega arith; calls = omega arith }; begun = λ least few begun. begun; more_names = omega arith; asked = λ few. omega arith; fetched = λ few. omega arith }
+
+-- ---- what was read outside the listing by then
+
+pub at_most_then : (a b c : Amount) → IsAtMost a b → IsAtMost b c → IsAtMost a c
+at_most_then a b c first then =
+    let bytes = first.bytes in
+    let more_bytes = then.bytes in
+    let calls = first.calls in
+    let more_calls = then.calls in
+    record { bytes = omega (arith, bytes, more_bytes); calls = omega (arith, calls, more_calls) }
+
+pub at_most_same : (a b c : Amount) → c ≡ b → IsAtMost a b → IsAtMost a c
+at_most_same a b c same few = subst (λ (n : Amount). IsAtMost a n) (sym same) few
+
+-- an item begins an entry, or is of the one in which the listing stood
+begun_more : (least : Amount) (now new : WalkerState) (o : Option StreamItem) → new.mark ≡ mark_by o new.list.counts now.mark → IsAtMost least new.list.counts.aside
+    → (o ≡ None → seeks now.position ≡ false) → IsBegunAfter least now → IsAtMost least new.mark.aside
+begun_more least now new None mark few stays begun = at_most_same least now.mark.aside new.mark.aside (ap (λ (m : MeterCounts). m.aside) mark) (begun (stays refl))
+begun_more least now new (Some s) mark few stays begun = at_most_same least new.list.counts.aside new.mark.aside (ap (λ (m : MeterCounts). m.aside) mark) few
+
+unsought_item : (entries : List Entry) (x : Item) (p : Position) → (summary_of x).stream ≡ None → ((number : ℕ) → p ≡ Sought number → GivesEntry number entries (Ok (Some x))) → seeks p ≡ false
+unsought_item entries x (Sought number) none sought = absurd (no_entry_sought entries x number none (sought number refl))
+unsought_item entries x Begun none sought = refl
+unsought_item entries x Within none sought = refl
+
+unsought_error : (entries : List Entry) (f : ListFault) (p : Position) → ((number : ℕ) → p ≡ Sought number → GivesEntry number entries (Err f)) → seeks p ≡ false
+unsought_error entries f (Sought number) sought = absurd (sought number refl)
+unsought_error entries f Begun sought = refl
+unsought_error entries f Within sought = refl
 
 -- names are counted so long as they are later
 pub few_names : (before after : ℕ) → before ≤ after → after + 1 < 2 ^ 128 → before + 1 < 2 ^ 128
@@ -201,7 +233,12 @@ module _ (old now new : WalkerState) (first : IsSameListing old.list now.list) (
     pub paid_more : HasPaid old new
     paid_more =
         let names = leaves.list.spends.counts.more_names in
+        let outside = at_most_same old.list.counts.aside now.list.counts.aside new.list.counts.aside leaves.list.same.aside paid.outside in
         record {
+          outside = outside;
+          begun = λ least few begun not.
+              begun_more least now new (summary_of x).stream leaves.mark (at_most_then least old.list.counts.aside new.list.counts.aside few outside)
+              (λ none. unsought_item now.list.entries x now.position none sought) (paid.begun least few begun);
           more_names = omega (arith, paid.more_names, names);
           asked = λ few. paid_then (λ c. c.asked) (settled (λ c. c.asked) new + ahead new) new.mark.names (paid.asked (few_names now.list.counts.names new.list.counts.names names few)) (more_by (λ c. c.asked) (leaves.spent few));
           fetched = λ few. paid_then (λ c. c.fetched) (settled (λ c. c.fetched) new + ahead new) new.mark.names (paid.fetched (few_names now.list.counts.names new.list.counts.names names few)) (more_by (λ c. c.fetched) (leaves.fetched few));
@@ -222,7 +259,7 @@ module _ (old now new : WalkerState) (first : IsSameListing old.list now.list) (
       (subst (λ (m : MeterCounts). RisesByNames (room_for_name now) (settled count now) m.names (count new.list.counts) new.list.counts.names) (sym mark) spent))
 
   -- and so do the entries ahead
-  look_by : {E : Type 0} (count : MeterCounts → ℕ) (result : Result (Unit {0}) E) → new.mark ≡ now.mark → new.list.current ≡ now.list.current → new.list.source.size ≡ now.list.source.size → new.list.limit ≡ now.list.limit
+  pub look_by : {E : Type 0} (count : MeterCounts → ℕ) (result : Result (Unit {0}) E) → new.mark ≡ now.mark → new.list.current ≡ now.list.current → new.list.source.size ≡ now.list.source.size → new.list.limit ≡ now.list.limit
       → ahead_after result new ≤ ahead now
       → RisesByNames (room_for_name now) (settled count now) now.mark.names (count new.list.counts) new.list.counts.names
       → RisesByNames (room_for_name old) (settled count old + ahead old) old.mark.names (settled count now + ahead now) now.mark.names
@@ -240,6 +277,8 @@ module _ (old now new : WalkerState) (first : IsSameListing old.list now.list) (
       let names = leaves.list.spends.counts.more_names in
       let rest : ahead_after {E = E} (Ok tt) new ≤ ahead now = omega arith in
       record {
+        outside = at_most_same old.list.counts.aside now.list.counts.aside new.list.counts.aside leaves.list.same.aside paid.outside;
+        begun = λ least few begun. tt;
         more_names = omega (arith, paid.more_names, names);
         asked = λ few. look_by (λ c. c.asked) (Ok tt) leaves.mark leaves.list.places.current leaves.list.spends.fetches.same_size leaves.list.same.limit rest (leaves.spent few)
             (paid.asked (few_names now.list.counts.names new.list.counts.names names few));
@@ -263,6 +302,10 @@ module _ (old now new : WalkerState) (first : IsSameListing old.list now.list) (
       let still : ahead new ≡ ahead now = λ i. cost_of (same.choice i) (size i) (drop (at i) (same.entries i)) in
       let rest : ahead_after (Err e) new ≤ ahead now = omega (arith, still) in
       record {
+        outside = at_most_same old.list.counts.aside now.list.counts.aside new.list.counts.aside same.aside paid.outside;
+        begun = λ least few begun.
+            at_most_same least now.mark.aside new.mark.aside (ap (λ (m : MeterCounts). m.aside) leaves.mark)
+            (paid.begun least few begun (unsought_error now.list.entries f now.position sought));
         more_names = omega (arith, paid.more_names, names);
         asked = λ few. look_by (λ c. c.asked) (Err e) leaves.mark leaves.list.places.current size same.limit rest (leaves.spent few) (paid.asked (few_names now.list.counts.names new.list.counts.names names few));
         fetched = λ few. look_by (λ c. c.fetched) (Err e) leaves.mark leaves.list.places.current size same.limit rest (leaves.fetched few) (paid.fetched (few_names now.list.counts.names new.list.counts.names names few));
@@ -291,6 +334,7 @@ unsought_behind (Some s) p is = ap seeks is
 
 -- what an item leaves counted
 pub record KeepsBoth (v : WalkerState) : Type 0 where
+  pub unsought : seeks v.position ≡ false
   pub asked : CountsNames v → KeepsSettled (λ c. c.asked) v
   pub fetched : CountsNames v → KeepsSettled (λ c. c.fetched) v
 
@@ -298,6 +342,7 @@ pub item_kept : (now new : WalkerState) (x : Item) → WalkerLeaves now (Ok (Som
 item_kept now new x leaves =
     let size = leaves.list.spends.fetches.same_size in
     record {
+      unsought = unsought_behind (summary_of x).stream new.position leaves.position;
       asked = λ few. kept_item (λ c. c.asked) now new (summary_of x).stream leaves.mark leaves.list.places.current size leaves.list.same.limit (leaves.spent few);
       fetched = λ few. kept_item (λ c. c.fetched) now new (summary_of x).stream leaves.mark leaves.list.places.current size leaves.list.same.limit (leaves.fetched few);
     }
@@ -323,6 +368,7 @@ module _ (most : Amount) (mid new : WalkerState) (reads : ReadsOutside most mid 
 
   pub both_outside : KeepsBoth mid → KeepsBoth new
   both_outside kept = record {
+    unsought = (λ i. seeks (reads.same i).position) ∙ kept.unsought;
     asked = λ few. kept_outside (λ c. c.asked) reads.aside.same_asked (kept.asked (few_outside few));
     fetched = λ few. kept_outside (λ c. c.fetched) reads.aside.same_fetched (kept.fetched (few_outside few));
   }
@@ -337,6 +383,11 @@ module _ (most : Amount) (mid new : WalkerState) (reads : ReadsOutside most mid 
 
   pub paid_outside : (old : WalkerState) → HasPaid old mid → HasPaid old new
   paid_outside old paid = record {
+    outside =
+        let bytes = reads.aside.more in
+        let calls = reads.aside.more_aside_calls in
+        at_most_then old.list.counts.aside mid.list.counts.aside new.list.counts.aside paid.outside (record { bytes = omega (arith, bytes); calls = omega (arith, calls) });
+    begun = λ least few begun. λ not. subst (λ (v : WalkerState). IsAtMost least v.mark.aside) (sym reads.same) (paid.begun least few begun (sym (λ i. seeks (reads.same i).position) ∙ not));
     more_names = let names = reads.aside.same_names in omega (arith, names, paid.more_names);
     asked = λ few. rises_outside (λ c. c.asked) (room_for_name old) (settled (λ c. c.asked) old + ahead old) old.mark.names (paid.asked (few_outside few));
     fetched = λ few. rises_outside (λ c. c.fetched) (room_for_name old) (settled (λ c. c.fetched) old + ahead old) old.mark.names (paid.fetched (few_outside few));
@@ -344,6 +395,8 @@ module _ (most : Amount) (mid new : WalkerState) (reads : ReadsOutside most mid 
 
 pub look_ended : {E : Type 0} (e : E) (old new : WalkerState) → HasPaid old new → KeepsBoth new → PaysLook old (Err e) new
 look_ended e old new paid kept = record {
+  outside = paid.outside;
+  begun = λ least few begun. paid.begun least few begun kept.unsought;
   more_names = paid.more_names;
   asked = λ few. record { rises = paid.asked few; kept = kept.asked few };
   fetched = λ few. record { rises = paid.fetched few; kept = kept.fetched few };

@@ -128,7 +128,7 @@ look_later a b c f before look = record {
 }
 
 pub pass_later : (a b c : ListerState) (f : ListFault) → FetchesSome a.source b.source → IsPassFault b c f → IsPassFault a c f
-pass_later a b c f before pass = record { unobtained = pass.unobtained; look = look_later a b c f before pass.look }
+pass_later a b c f before pass = record { unobtained = pass.unobtained; look = look_later a b c f before pass.look; entry = pass.entry }
 
 pub call_later : (a b c : ListerState) (f : SummaryFault) → FetchesSome a.source b.source → IsCallFault b c f → IsCallFault a c f
 call_later a b c (faults.Opening fault) before is = is

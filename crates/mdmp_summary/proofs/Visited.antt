@@ -2,7 +2,7 @@
 use Rattle.std.proofs.Common.{◌≡◌, ◌∙◌, ℕ, ◌+◌, List, [], ◌∷◌, ◌++◌, Option, Some, Result, Ok, Err, ap, append_assoc, arith, inl, inr, refl, subst, sym}
 use Rattle.std.proofs.lemmas.List.{append-nil}
 use Rattle.std.proofs.lemmas.List.Sums.{sum_by-append, sum_by-cons}
-use Rattle.std.specs.Prelude.{fold, sum_by}
+use Rattle.std.specs.Prelude.{fold, slice_get, sum_by}
 use Rattle.mdmp_source.specs.Source.{FetchesAtMost, FetchesSome, SourceState}
 use Rattle.mdmp_source.specs.SourceLaws.{fetches_then}
 use Rattle.mdmp_lister.specs.declared.fault.ListFault.{ListFault}
@@ -11,11 +11,12 @@ use Rattle.mdmp_lister.specs.declared.meter.Amount.{Amount}
 use Rattle.mdmp_lister.specs.declared.meter.MeterCounts.{MeterCounts}
 use Rattle.mdmp_lister.specs.declared.sink.Stopped.{Stopped}
 use Rattle.mdmp_lister.specs.Format.Listing.{Run}
-use Rattle.mdmp_lister.specs.Lister.{ListerState}
+use Rattle.mdmp_lister.specs.Lister.{ListerState, tail}
 use Rattle.mdmp_lister.specs.Meter.{SpendsAside}
 use Rattle.mdmp_lister.specs.Sink.{give_all}
 use Rattle.mdmp_lister.specs.Walker.{WalkerState}
 use Rattle.mdmp_lister.proofs.Fetches.{FetchesAtMost-none}
+use Rattle.mdmp_lister.proofs.Handing.{give_all-next}
 use Rattle.mdmp_summary.specs.Spending.{ReadsOutside}
 use Rattle.mdmp_summary.specs.Visiting.{EndedAmong, EndedAt, IsAtMost, ReadsNothing, RisesOutside, TakesBy, Visited, VisitedAll, VisitedTo, nothing_read}
 use Rattle.mdmp_summary.specs.declared.visiting.VisitEnd.{VisitEnd}
@@ -178,3 +179,18 @@ ended_never next content limit (ends.Source fault) x k l (n, (took, (never, read
 
 pub never_ends : {K : Type 0} (next : K → Item → K) (content : Option (List ℕ)) (limit : ℕ) (end : VisitEnd) (xs : List Item) (k l : K) → EndedAmong (TakesBy next) (ReadsNothing content limit) end k xs l → ⊥
 never_ends next content limit end xs k l ended = ended_never next content limit end ended.last ended.mid l ended.ended
+
+-- an item more was taken and looked at
+module _ {K : Type 0} (taken : K → Item → Result (Unit {0}) Stopped → K → Type 0) (looked : Option (List ℕ) → ℕ → K → Result (Unit {0}) VisitEnd → K → Type 0) (room : Item → Amount) (old : ListerState) (k : K) where
+  pub shown_next : (now new : ListerState) (x : Item) (v t l : K) → HasShown taken looked room old k now v → taken v x (Ok tt) t → looked old.source.store.content old.limit t (Ok tt) l
+      → ((left : Run) → now.left ≡ Some left → (slice_get left.items 0 ≡ Some x) × (new.left ≡ Some (tail left))) → RisesOutside room (x ∷ []) now.counts.aside new.counts.aside
+      → HasShown taken looked room old k new l
+  shown_next now new x v t l run took read gives outside = record {
+    items = run.items ++ x ∷ [];
+    visited = visited_on taken (looked old.source.store.content old.limit) run.items x k v l run.visited (t, (took, read));
+    left = λ run_left known.
+        let rest = run.left run_left known in
+        let first = gives rest.0 rest.1.0 in
+        (tail rest.0, (first.1, give_all-next run_left run.items x rest.0 rest.1.1 first.0));
+    outside = outside_then room run.items (x ∷ []) old.counts.aside now.counts.aside new.counts.aside run.outside outside;
+  }

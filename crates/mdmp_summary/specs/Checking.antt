@@ -12,8 +12,9 @@ use Rattle.mdmp_lister.specs.Costs.{end_cost, items_cost}
 use Rattle.mdmp_lister.specs.Format.Listing.{Run, listing}
 use Rattle.mdmp_lister.specs.Format.Numbers.{faulty_name}
 use Rattle.mdmp_lister.specs.Lister.{IsSameLister, ListerState, listing_behind}
-use Rattle.mdmp_lister.specs.Sink.{Handed, TellsRunFetch, names_of_all}
+use Rattle.mdmp_lister.specs.Sink.{Handed, names_of_all}
 use Rattle.mdmp_summary.specs.BadEntries.{all_items}
+use Rattle.mdmp_summary.specs.InEntry.{EndsInEntry, StandsInChosen}
 use Rattle.mdmp_summary.specs.CheckRows.{AreFirstRows, check_rows, run_rows}
 use Rattle.mdmp_summary.specs.declared.check_row.CheckRow.{CheckRow}
 use Rattle.mdmp_summary.specs.declared.check_row.CheckRow.TheVariants.{Part, Entry}
@@ -90,7 +91,8 @@ pub record TellsRows {K : Type 0} (step : K → CheckRow → Result (Unit {0}) S
 -- the same listing of the same file, and what is left after a bad entry
 pub record LeavesRun (old : ListerState) (result : Result Bool RunFault) (new : ListerState) : Type 0 where
   pub same : IsSameLister old new
-  pub next : TellsRunFetch (run_end result) new
+  pub ends : EndsInEntry old (run_end result) new
+  pub stands : result ≡ Ok true → StandsInChosen new
   pub going : result ≡ Ok true → new.stop ≡ None
   pub unread : result ≡ Ok true → new.unread ≡ 0
   pub left : result ≡ Ok true → new.left ≡ listing_behind new new.passed

@@ -1,5 +1,5 @@
 -- What an item is, kind by kind, and what is gathered an item at a time.
-use Rattle.std.specs.Prelude.{ℕ, List, [], ◌∷◌, None}
+use Rattle.std.specs.Prelude.{ℕ, List, [], ◌∷◌, None, Bool, true, false}
 use Rattle.mdmp_source.specs.declared.location.Extent.{Extent}
 use Rattle.mdmp_source.specs.declared.location.Extent.TheVariants.{Empty, Absent, Inside, Outside}
 use Rattle.mdmp_wire.specs.declared.module.ModuleRecord.{ModuleRecord}
@@ -11,6 +11,8 @@ use Rattle.mdmp_lister.specs.declared.item.Item.TheVariants as items
 use Rattle.mdmp_lister.specs.declared.item.RangeItem.{RangeItem}
 use Rattle.mdmp_lister.specs.declared.item.StreamItem.{StreamItem}
 use Rattle.mdmp_lister.specs.declared.item.ThreadItem.{ThreadItem}
+use Rattle.mdmp_lister.specs.declared.kind.StreamKind.{StreamKind}
+use Rattle.mdmp_lister.specs.declared.kind.StreamKind.TheVariants as kinds
 use Rattle.mdmp_summary.specs.Crash.{exceptions_seen}
 use Rattle.mdmp_summary.specs.Keeping.{counted_on, kept, summed_on}
 use Rattle.mdmp_summary.specs.Part.{parts_outside, parts_seen}
@@ -56,6 +58,15 @@ inside_bytes Outside size = 0
 abbrev pub memory_given : Item → List ℕ
 memory_given (items.Range x) = inside_bytes x.extent x.size ∷ []
 memory_given x = []
+
+-- ---- kinds
+
+-- something is gathered of records of this kind
+abbrev pub is_gathered : StreamKind → Bool
+is_gathered kinds.Unloaded = false
+is_gathered kinds.MemoryInfo = false
+is_gathered kinds.ThreadNames = false
+is_gathered kind = true
 
 -- ---- an item at a time
 

@@ -6,11 +6,13 @@ pub mod Crash
 pub mod Passes
 pub mod Gathering
 pub mod Identity
+pub mod InEntry
 pub mod Keeping
 pub mod Part
 pub mod Reach
 pub mod RowMaking
 pub mod Search
+pub mod Skipping
 pub mod Spending
 pub mod SpendingLaws
 pub mod Summary

@@ -1,8 +1,10 @@
 -- The modules at an address, and the name of a thread.
-use Rattle.std.specs.Prelude.{ℕ, ◌+◌, List, [], ◌∷◌, Option, Some, None, Bool, filter, nat_le, nat_lt, ◌==◌, ◌&&◌, if◌then◌else◌}
+use Rattle.std.specs.Prelude.{ℕ, ◌+◌, List, [], ◌∷◌, Option, Some, None, Bool, filter, true, false, nat_le, nat_lt, ◌==◌, ◌&&◌, if◌then◌else◌}
 use Rattle.mdmp_wire.specs.declared.module.ModuleRecord.{ModuleRecord}
 use Rattle.mdmp_wire.specs.declared.thread_name.ThreadNameRecord.{ThreadNameRecord}
 use Rattle.mdmp_lister.specs.declared.item.Item.{Item}
+use Rattle.mdmp_lister.specs.declared.kind.StreamKind.{StreamKind}
+use Rattle.mdmp_lister.specs.declared.kind.StreamKind.TheVariants as kinds
 use Rattle.mdmp_summary.specs.Gathering.{modules_given, thread_names_given}
 use Rattle.mdmp_summary.specs.Keeping.{kept}
 use Rattle.mdmp_summary.specs.declared.search.CrashSearch.{CrashSearch}
@@ -33,6 +35,14 @@ highest (m ∷ ms) = higher (Some m) (highest ms)
 -- the module with the greatest base at or below an address
 abbrev pub nearest_below : ℕ → List ModuleRecord → Option ModuleRecord
 nearest_below address ms = highest (filter (begins_below address) ms)
+
+-- ---- kinds
+
+-- something is searched among records of this kind
+abbrev pub is_searched : StreamKind → Bool
+is_searched kinds.Modules = true
+is_searched kinds.ThreadNames = true
+is_searched kind = false
 
 -- ---- an item at a time
 

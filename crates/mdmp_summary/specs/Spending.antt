@@ -1,5 +1,5 @@
 -- What a summary fetches: at most the listed streams twice, and for each name that is reached its length and the limit on names.
-use Rattle.std.specs.Prelude.{◌≡◌, ◌≤◌, ◌<◌, ◌+◌, ◌*◌, ◌^◌, ℕ, drop, Result, Ok, Err}
+use Rattle.std.specs.Prelude.{◌≡◌, ◌≤◌, ◌<◌, ◌+◌, ◌*◌, ◌^◌, ℕ, drop, false, IfErr, Result, Ok, Err}
 use Rattle.mdmp_source.specs.Source.{FetchesAtMost}
 use Rattle.mdmp_lister.specs.declared.meter.Amount.{Amount}
 use Rattle.mdmp_lister.specs.declared.meter.MeterCounts.{MeterCounts}
@@ -7,8 +7,9 @@ use Rattle.mdmp_lister.specs.declared.position.Position.{Position}
 use Rattle.mdmp_lister.specs.declared.position.Position.TheVariants.{Begun, Sought, Within}
 use Rattle.mdmp_lister.specs.Listed.{cost_of, entry_cost}
 use Rattle.mdmp_lister.specs.Meter.{SpendsAside}
-use Rattle.mdmp_lister.specs.Walker.{WalkerState}
+use Rattle.mdmp_lister.specs.Walker.{WalkerState, is_sought}
 use Rattle.mdmp_summary.specs.Summary.{context_room}
+use Rattle.mdmp_summary.specs.Visiting.{IsAtMost}
 
 -- a number rose by no more than so many bytes for each name that was reached
 abbrev pub RisesByNames : (room old before new after : ℕ) → Type 0
@@ -62,11 +63,22 @@ module _ (count : MeterCounts → ℕ) where
 abbrev pub CountsNames : WalkerState → Type 0
 CountsNames v = v.list.counts.names + 1 < 2 ^ 128
 
+-- at least so much had been read outside the listing when the entry was begun in which the listing stands, unless one is sought
+abbrev pub IsBegunAfter : Amount → WalkerState → Type 0
+IsBegunAfter least v = is_sought v ≡ false → IsAtMost least v.mark.aside
+
+-- no more was read outside the listing since that entry was begun
+abbrev pub ReadsNoneSince : WalkerState → Type 0
+ReadsNoneSince v = IsAtMost v.list.counts.aside v.mark.aside
+
 -- what a look fetches for the listing
 pub record PaysLook {E : Type 0} (old : WalkerState) (result : Result (Unit {0}) E) (new : WalkerState) : Type 0 where
   pub more_names : old.list.counts.names ≤ new.list.counts.names
   pub asked : CountsNames new → LookPaid (λ c. c.asked) old result new
   pub fetched : CountsNames new → LookPaid (λ c. c.fetched) old result new
+  pub outside : IsAtMost old.list.counts.aside new.list.counts.aside
+  -- an error is one of the entry in which it began, or of one that it began
+  pub begun : (least : Amount) → IsAtMost least old.list.counts.aside → IsBegunAfter least old → IfErr result (λ e. IsAtMost least new.mark.aside)
 
 -- what so many passes over all entries fetch for the listing
 pub record PaysPasses (passes : ℕ) (old new : WalkerState) : Type 0 where

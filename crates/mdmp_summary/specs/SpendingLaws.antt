@@ -14,6 +14,7 @@ use Rattle.mdmp_summary.specs.Walking.{IsSameListing}
 use Rattle.mdmp_summary.specs.declared.summary.Crash.{Crash}
 use Rattle.mdmp_summary.specs.declared.summary.FileSummary.{FileSummary}
 use Rattle.mdmp_summary.specs.declared.summary.SummaryFault.{SummaryFault}
+use Rattle.mdmp_summary.specs.declared.summary.SummaryFault.TheVariants as faults
 
 -- what keeps to fewer passes keeps to more
 more_by : (count : MeterCounts → ℕ) (m n : ℕ) (old new : WalkerState) → m ≤ n → PassPaid count m old new → PassPaid count n old new
@@ -38,7 +39,9 @@ spends_crash (Some crash) old new spends = spends
 
 pub spends_both : (result : Result FileSummary SummaryFault) (old new : WalkerState) → SpendsSummary result old new → SpendsPasses 2 1 old new
 spends_both (Ok summary) old new spends = spends_crash summary.crash old new spends
-spends_both (Err fault) old new spends = spends
+spends_both (Err (faults.Opening fault)) old new spends = absurd spends
+spends_both (Err (faults.List fault)) old new spends = spends.0
+spends_both (Err (faults.Source fault)) old new spends = spends_more 1 2 1 1 old new (omega arith) (omega arith) spends
 
 -- the bytes that a summary fetches for the listing at most: of a file with so many entries, whose listed streams have so many
 -- bytes, where so many names were reached. A name counts as often as it is reached

@@ -11,8 +11,9 @@ use Rattle.mdmp_lister.specs.Memory.{IsWalkRefusal}
 use Rattle.mdmp_lister.specs.Opening.{IsUnread}
 use Rattle.mdmp_lister.specs.Refused.{IsRefusedWalker}
 use Rattle.mdmp_lister.specs.Walker.{IsNewWalker, WalkerState}
-use Rattle.mdmp_summary.specs.Spending.{SpendsPasses}
+use Rattle.mdmp_summary.specs.Spending.{ReadsNoneSince, SpendsPasses}
 use Rattle.mdmp_summary.specs.Walking.{IsPassFault, IsSameListing}
+use Rattle.mdmp_summary.specs.declared.summary.Crash.{Crash}
 use Rattle.mdmp_summary.specs.declared.summary.FileSummary.{FileSummary}
 use Rattle.mdmp_summary.specs.declared.summary.SummaryFault.{SummaryFault}
 use Rattle.mdmp_summary.specs.declared.summary.SummaryFault.TheVariants as faults
@@ -53,10 +54,24 @@ abbrev pub contexts_for : {C : Type 0} → Option C → ℕ
 contexts_for None = 0
 contexts_for (Some crash) = 1
 
--- so many were made, or at most two and a context before an error
+-- before an error one pass was made and a context was not read, and nothing after that; or an entry was not read in the first pass
+-- or the second, and nothing outside the listing since that entry was begun
+abbrev pub SpendsToFault : SummaryFault → WalkerState → WalkerState → Type 0
+SpendsToFault (faults.Opening fault) old new = ⊥
+SpendsToFault (faults.List fault) old new = SpendsPasses 2 1 old new × ReadsNoneSince new
+SpendsToFault (faults.Source fault) old new = SpendsPasses 1 1 old new
+
+-- the same of a crash, which is told by a context and one pass
+abbrev pub SpendsCrash : Result Crash SummaryFault → WalkerState → WalkerState → Type 0
+SpendsCrash (Ok crash) old new = SpendsPasses 1 1 old new
+SpendsCrash (Err (faults.Opening fault)) old new = ⊥
+SpendsCrash (Err (faults.List fault)) old new = SpendsPasses 1 1 old new × ReadsNoneSince new
+SpendsCrash (Err (faults.Source fault)) old new = SpendsPasses 0 1 old new
+
+-- so many were made, or those before an error
 abbrev pub SpendsSummary : Result FileSummary SummaryFault → WalkerState → WalkerState → Type 0
 SpendsSummary (Ok summary) old new = SpendsPasses (passes_for summary.crash) (contexts_for summary.crash) old new
-SpendsSummary (Err fault) old new = SpendsPasses 2 1 old new
+SpendsSummary (Err fault) old new = SpendsToFault fault old new
 
 -- how a source was read before it was dropped: its opening was refused, and says why; or a walker that was just opened made the
 -- passes, and read no more than these, with an error that has its cause and its place in them

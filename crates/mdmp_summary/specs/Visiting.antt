@@ -2,10 +2,12 @@
 use Rattle.std.specs.Prelude.{◌≡◌, ◌≤◌, ◌+◌, ◌++◌, ◌⊎◌, ℕ, List, [], ◌∷◌, Option, None, Some, Result, Ok, Err, sum_by}
 use Rattle.mdmp_source.specs.Source.{IsTold, SourceState}
 use Rattle.mdmp_lister.specs.declared.item.Item.{Item}
+use Rattle.mdmp_lister.specs.declared.kind.StreamKind.{StreamKind}
 use Rattle.mdmp_lister.specs.declared.meter.Amount.{Amount}
 use Rattle.mdmp_lister.specs.declared.sink.Stopped.{Stopped}
 use Rattle.mdmp_lister.specs.Fault.{IsOfStore, IsUnobtained}
 use Rattle.mdmp_lister.specs.Format.Listing.{Run}
+use Rattle.mdmp_lister.specs.Format.Summary.{summary_kind, summary_of}
 use Rattle.mdmp_lister.specs.Lister.{ListerState}
 use Rattle.mdmp_lister.specs.Sink.{give_all}
 use Rattle.mdmp_summary.specs.BadEntries.{all_items}
@@ -71,6 +73,16 @@ module _ {K : Type 0} (taken : K → Item → Result (Unit {0}) Stopped → K �
   VisitedTo k xs (Ok done) l = VisitedAll k xs l
   VisitedTo k xs (Err (faults.List fault)) l = VisitedAll k xs l
   VisitedTo k xs (Err (faults.Ended end)) l = EndedAmong end k xs l
+
+-- ---- records that it has no use for
+
+-- the item is a record of this kind; a range is one of either kind of memory list
+abbrev pub IsOfKind : StreamKind → Item → Type 0
+IsOfKind kind x = (summary_of x).kind ≡ Some (summary_kind kind)
+
+-- a visitor that visits a record of this kind is then as it was before, whatever the file
+abbrev pub HasNoUse : {K : Type 0} → (K → Item → Result (Unit {0}) Stopped → K → Type 0) → (Option (List ℕ) → ℕ → K → Result (Unit {0}) VisitEnd → K → Type 0) → K → StreamKind → Type 0
+HasNoUse taken looked k kind = (content : Option (List ℕ)) (limit : ℕ) (x : Item) → IsOfKind kind x → Visited taken (looked content limit) k x k
 
 -- ---- what it reads outside the listing
 

@@ -5,6 +5,7 @@ use Rattle.mdmp_lister.specs.declared.fault.ListFault.{ListFault}
 use Rattle.mdmp_lister.specs.Fault.{IsToldIn, IsUnobtained, TellsNoChange}
 use Rattle.mdmp_lister.specs.Lister.{IsRefusedIn, ListerState, standpoint_in}
 use Rattle.mdmp_lister.specs.NextFetch.{TellsSomeFetch}
+use Rattle.mdmp_summary.specs.InEntry.{IsInChosen}
 
 -- ---- the error of a look
 
@@ -16,10 +17,11 @@ pub record IsLookFault (old new : ListerState) (f : ListFault) : Type 0 where
   pub refused : IsRefusedIn f new
   pub next : TellsSomeFetch (standpoint_in new) f.kind f.offset f.size new.counts.fetched
 
--- the error of a pass: bytes were not read
+-- the error of a pass: bytes were not read, in a chosen entry
 pub record IsPassFault (old new : ListerState) (f : ListFault) : Type 0 where
   pub unobtained : IsUnobtained f.kind
   pub look : IsLookFault old new f
+  pub entry : IsInChosen new
 
 -- ---- what a pass leaves
 

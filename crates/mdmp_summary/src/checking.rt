@@ -6,9 +6,9 @@ ghost use Rattle.mdmp_lister.specs.Counts.{AreSpent, numbers_of};
 ghost use Rattle.mdmp_lister.specs.Fault.{IsOfStore, IsToldIn, IsUnobtained};
 ghost use Rattle.mdmp_lister.specs.Format.Listing.{chosen, verdicts};
 ghost use Rattle.mdmp_lister.specs.Lister.{IsRefusedIn, IsSameLister};
-ghost use Rattle.mdmp_lister.specs.Sink.{TellsRunFetch};
 ghost use Rattle.mdmp_lister.specs.declared.choice.Choice.TheVariants.{All};
 ghost use Rattle.mdmp_summary.specs.Checking.{IsAllLeft, LeavesRun, RowsHanded, TellsRows};
+ghost use Rattle.mdmp_summary.specs.InEntry.{EndsInEntry};
 
 use crate::check_row::CheckRowSink;
 use crate::row_maker::RowMaker;
@@ -35,7 +35,7 @@ pub fn check_parts_into<S: Store + Drop, A: Allocator + Copy, K: CheckRowSink>(
     ensures good { (file : List ℕ) → IsGood lister.old.source.store file
         → IfErr result (λ r. (fault : _) → r ≡ RunFault.At fault → IsOfStore fault.kind → ⊥) }
     ensures refused { IfErr result (λ r. (fault : _) → r ≡ RunFault.At fault → IsRefusedIn fault lister.new) }
-    ensures next { TellsRunFetch result lister.new }
+    ensures ends { EndsInEntry lister.old result lister.new }
     ensures names { (file : List ℕ) → lister.old.source.store.content ≡ Some file
         → lister.new.counts.names ≤ lister.old.counts.names + names_judged (items_of file lister.old.limit (chosen file All)) (verdicts file All lister.old.limit) + 1 }
     ensures same { IsSameLister lister.old lister.new }
@@ -66,7 +66,7 @@ fn check_runs<S: Store + Drop, A: Allocator + Copy, K: CheckRowSink>(
     ensures good { (file : List ℕ) → IsGood lister.old.source.store file
         → IfErr result (λ r. (fault : _) → r ≡ RunFault.At fault → IsOfStore fault.kind → ⊥) }
     ensures refused { IfErr result (λ r. (fault : _) → r ≡ RunFault.At fault → IsRefusedIn fault lister.new) }
-    ensures next { TellsRunFetch result lister.new }
+    ensures ends { EndsInEntry lister.old result lister.new }
     ensures names { (file : List ℕ) → lister.old.source.store.content ≡ Some file
         → lister.new.counts.names ≤ lister.old.counts.names + names_judged (items_of file lister.old.limit (chosen file All)) (verdicts file All lister.old.limit) + 1 }
     ensures same { IsSameLister lister.old lister.new }

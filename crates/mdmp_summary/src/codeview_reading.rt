@@ -6,7 +6,7 @@ ghost use Rattle.mdmp_source.specs.Source.{IsTold};
 ghost use Rattle.mdmp_source.specs.Store.{IsGood};
 ghost use Rattle.mdmp_lister.specs.CodeView.{fetched_behind};
 ghost use Rattle.mdmp_summary.specs.Spending.{ReadsOutside};
-ghost use Rattle.mdmp_summary.specs.Symbols.{AreSymbolsOf, FitsBuffer, rest_cost, symbols_amount};
+ghost use Rattle.mdmp_summary.specs.Symbols.{AreSymbolsOf, FitsBuffer, TellsSymbols, rest_cost, symbols_amount};
 
 use mdmp_lister::Walker;
 use mdmp_source::{Extent, Location, SourceFault, Store};
@@ -28,19 +28,21 @@ pub struct SymbolsRead {
 }
 
 /// Reads the CodeView record at a location, if it lies inside the file: its first 24 bytes and, of a record of the
-/// kind RSDS, as many of those after them as the buffer holds. They are read outside the listing.
+/// kind RSDS, as many of those after them as the buffer holds. They are read outside the listing: the first by one call,
+/// and those after them by a second one, if there are any. Of a record that does not lie inside the file nothing is read.
 pub fn read_symbols<S: Store + Drop, A: Allocator + Copy>(
     walker: &mut Walker<S, A>,
     at: Location,
     buffer: &mut [u8],
 ) -> Result<Option<SymbolsRead>, SourceFault>
     ensures room { length buffer.new ≡ length buffer.old }
+    ensures gives { TellsSymbols (extent_of at walker.old.list.source.size) at (length buffer.old) result }
     ensures fits { IfOk result (FitsBuffer (length buffer.old)) }
     ensures value { (file : List ℕ) → walker.old.list.source.store.content ≡ Some file
         → IfOk result (λ read. AreSymbolsOf file at (length buffer.old) (extent_of at (length file)) read buffer.new) }
     ensures told { IfErr result (λ fault. IsTold fault walker.old.list.source walker.new.list.source) }
     ensures good { (file : List ℕ) → IsGood walker.old.list.source.store file → IsOk result }
-    ensures reads { ReadsOutside (symbols_amount (length buffer.old)) walker.old walker.new }
+    ensures reads { ReadsOutside (symbols_amount at (length buffer.old) result) walker.old walker.new }
 {
     match at.classify(walker.size()) {
         Extent::Empty | Extent::Absent | Extent::Outside => Ok(None),
@@ -63,7 +65,7 @@ pub fn read_symbols<S: Store + Drop, A: Allocator + Copy>(
 }
 
 /// Reads the bytes after the first 24 of a CodeView record, which are `head`: of the kind RSDS as many as it has and
-/// the buffer holds. The answer is how many were read.
+/// the buffer holds, by one call if there are any. The answer is how many were read.
 fn read_rest<S: Store + Drop, A: Allocator + Copy>(
     walker: &mut Walker<S, A>,
     at: Location,
@@ -77,7 +79,7 @@ fn read_rest<S: Store + Drop, A: Allocator + Copy>(
     ensures value { (file : List ℕ) → walker.old.list.source.store.content ≡ Some file → IfOk result (λ n. take n buffer.new ≡ bytes_at file (at.rva + 24) n) }
     ensures told { IfErr result (λ fault. IsTold fault walker.old.list.source walker.new.list.source) }
     ensures good { (file : List ℕ) → IsGood walker.old.list.source.store file → IsOk result }
-    ensures reads { ReadsOutside (rest_cost (length buffer.old)) walker.old walker.new }
+    ensures reads { ReadsOutside (rest_cost at (length buffer.old) result) walker.old walker.new }
 {
     if at.size < 24 {
         return Ok(0);
@@ -87,6 +89,9 @@ fn read_rest<S: Store + Drop, A: Allocator + Copy>(
         return Ok(0);
     }
     let count = (at.size as usize - HEAD).min(buffer.len());
+    if count == 0 {
+        return Ok(0);
+    }
     match walker.read_part(u64::from(at.rva) + 24, &mut buffer[..count]) {
         Ok(()) => Ok(count),
         Err(fault) => Err(fault),

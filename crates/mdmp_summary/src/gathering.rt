@@ -7,7 +7,9 @@ use crate::keeping::{count, keep};
 use crate::lost_parts::LostParts;
 use crate::part::PartsOutside;
 use crate::visiting::{VisitEnd, Visitor};
-use mdmp_lister::{ExceptionItem, Item, ModuleItem, RangeItem, Stopped, ThreadItem, Walker};
+use mdmp_lister::{
+    ExceptionItem, Item, ModuleItem, RangeItem, Stopped, StreamKind, ThreadItem, Walker,
+};
 use mdmp_source::{Extent, Store};
 use mdmp_wire::{ModuleRecord, SystemRecord};
 use std::alloc::Allocator;
@@ -131,6 +133,14 @@ impl Visitor for Gathering {
     ghost span = { λ _. 0 };
 
     ghost room = { λ span item. nothing_read };
+
+    #[tactic(auto, using(crate::proofs::Unused::gathers_nothing))]
+    fn wants(&self, kind: StreamKind) -> bool {
+        !matches!(
+            kind,
+            StreamKind::Unloaded | StreamKind::MemoryInfo | StreamKind::ThreadNames
+        )
+    }
 
     #[tactic(auto, using(crate::proofs::Folds::gathered_plain))]
     fn take(&mut self, item: &Item<'_>) -> Result<(), Stopped> {

@@ -6,7 +6,7 @@ ghost use Rattle.mdmp_lister.specs.Walker.{is_failed};
 ghost use Rattle.mdmp_lister.specs.declared.choice.Choice.TheVariants.{All};
 ghost use Rattle.mdmp_summary.specs.BadEntries.{all_items};
 ghost use Rattle.mdmp_summary.specs.Passes.{all_gathered, searched};
-ghost use Rattle.mdmp_summary.specs.Spending.{SpendsPasses};
+ghost use Rattle.mdmp_summary.specs.Spending.{ReadsNoneSince, SpendsPasses};
 ghost use Rattle.mdmp_summary.specs.Walking.{IsPassFault, IsSameListing};
 
 use crate::bad_entries::BadEntries;
@@ -58,6 +58,7 @@ pub(crate) fn gather_all<S: Store + Drop, A: Allocator + Copy>(
     ensures fault { IfErr result (IsPassFault walker.old.list walker.new.list) }
     ensures good { (file : List ℕ) → IsGood walker.old.list.source.store file → IfErr result (λ fault. IsOfStore fault.kind → ⊥) }
     ensures spends { SpendsPasses 1 0 walker.old walker.new }
+    ensures none { IfErr result (λ fault. ReadsNoneSince walker.new) }
     ensures same { IsSameListing walker.old.list walker.new.list }
 {
     let mut gathering = Gathering::new();
@@ -82,6 +83,7 @@ pub(crate) fn search_all<S: Store + Drop, A: Allocator + Copy>(
     ensures fault { IfErr result (IsPassFault walker.old.list walker.new.list) }
     ensures good { (file : List ℕ) → IsGood walker.old.list.source.store file → IfErr result (λ fault. IsOfStore fault.kind → ⊥) }
     ensures spends { SpendsPasses 1 0 walker.old walker.new }
+    ensures none { IfErr result (λ fault. ReadsNoneSince walker.new) }
     ensures same { IsSameListing walker.old.list walker.new.list }
     ensures going { IfOk result (λ search. is_failed walker.new.list.stop ≡ false) }
 {

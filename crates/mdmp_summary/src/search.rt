@@ -4,7 +4,7 @@ ghost use Rattle.mdmp_summary.specs.Search.{higher, holds_address};
 
 use crate::keeping::keep;
 use crate::visiting::{VisitEnd, Visitor};
-use mdmp_lister::{Item, Stopped, Walker};
+use mdmp_lister::{Item, Stopped, StreamKind, Walker};
 use mdmp_source::Store;
 use mdmp_wire::{ModuleRecord, ThreadNameRecord};
 use std::alloc::Allocator;
@@ -113,6 +113,11 @@ impl Visitor for CrashSearch {
     ghost span = { λ _. 0 };
 
     ghost room = { λ span item. nothing_read };
+
+    #[tactic(auto, using(crate::proofs::Unused::finds_nothing))]
+    fn wants(&self, kind: StreamKind) -> bool {
+        matches!(kind, StreamKind::Modules | StreamKind::ThreadNames)
+    }
 
     #[tactic(auto, using(crate::proofs::Folds::found_plain))]
     fn take(&mut self, item: &Item<'_>) -> Result<(), Stopped> {

@@ -5,10 +5,9 @@ ghost use Rattle.mdmp_source.specs.Store.{IsGood};
 ghost use Rattle.mdmp_lister.specs.Memory.{walk_fault};
 ghost use Rattle.mdmp_lister.specs.Walker.{is_failed};
 ghost use Rattle.mdmp_lister.specs.declared.choice.Choice.TheVariants.{All};
-ghost use Rattle.mdmp_summary.specs.Spending.{SpendsPasses};
 ghost use Rattle.mdmp_summary.specs.BadEntries.{all_items};
 ghost use Rattle.mdmp_summary.specs.Summary.{address_ran, crash_told, near_of, place_in_module, platform_in, file_summary};
-ghost use Rattle.mdmp_summary.specs.Summing.{IsCallFault, IsFileFault, IsSummarizedThrough, IsSummaryFault, IsUnreadIn, SpendsSummary};
+ghost use Rattle.mdmp_summary.specs.Summing.{IsCallFault, IsFileFault, IsSummarizedThrough, IsSummaryFault, IsUnreadIn, SpendsCrash, SpendsSummary};
 ghost use Rattle.mdmp_summary.specs.Walking.{IsSameListing};
 
 use crate::context::Registers;
@@ -78,7 +77,7 @@ fn tell_crash<S: Store + Drop, A: Allocator + Copy>(
         → IfOk result (λ crash. crash ≡ crash_told file (all_items file walker.old.list.limit) system exception) }
     ensures fault { IfErr result (IsCallFault walker.old.list walker.new.list) }
     ensures good { (file : List ℕ) → IsGood walker.old.list.source.store file → IfErr result (λ fault. IsUnreadIn fault → ⊥) }
-    ensures spends { SpendsPasses 1 1 walker.old walker.new }
+    ensures spends { SpendsCrash result walker.old walker.new }
     ensures same { IsSameListing walker.old.list walker.new.list }
     ensures going { IfOk result (λ told. is_failed walker.new.list.stop ≡ false) }
 {

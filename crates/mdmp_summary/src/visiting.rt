@@ -1,6 +1,6 @@
 //! What is told of the items of all entries, one after the other, and may read bytes of the file after each.
 
-use mdmp_lister::{Item, ListFault, Stopped, Walker};
+use mdmp_lister::{Item, ListFault, Stopped, StreamKind, Walker};
 use mdmp_source::{SourceFault, Store};
 use std::alloc::Allocator;
 
@@ -25,7 +25,7 @@ pub enum VisitFault {
 /// A value that is shown the items of a listing, one after the other. After each item it may read bytes of the file
 /// outside the listing.
 pub trait Visitor {
-    ghost use Rattle.std.specs.Prelude.{◌≡◌, ℕ, List, Option, Result, IfErr, IfOk};
+    ghost use Rattle.std.specs.Prelude.{◌≡◌, ℕ, List, Option, Result, IfErr, IfOk, false};
     ghost use Rattle.mdmp_source.specs.Store.{IsGood};
     ghost use Rattle.mdmp_lister.specs.Format.Item.{plain};
     ghost use Rattle.mdmp_lister.specs.declared.item.Item.{Item};
@@ -33,7 +33,7 @@ pub trait Visitor {
     ghost use Rattle.mdmp_lister.specs.declared.sink.Stopped.{Stopped};
     ghost use Rattle.mdmp_summary.specs.declared.visiting.VisitEnd.{VisitEnd};
     ghost use Rattle.mdmp_summary.specs.Spending.{ReadsOutside};
-    ghost use Rattle.mdmp_summary.specs.Visiting.{IsAtMost, IsEndTold, IsUnreadEnd};
+    ghost use Rattle.mdmp_summary.specs.Visiting.{HasNoUse, IsAtMost, IsEndTold, IsUnreadEnd};
 
     // What one item does: the visitor before it, the item, the answer, the visitor after it.
     ghost taken: { Self → Item → Result (Unit {0}) Stopped → Self → Type 0 };
@@ -49,6 +49,10 @@ pub trait Visitor {
 
     // How many bytes an item may make it read, with such a limit.
     ghost room: { ℕ → Item → Amount };
+
+    /// Whether it has any use for records of this kind. If not, a pass need neither read them nor show them.
+    fn wants(&self, kind: StreamKind) -> bool
+        ensures uses { result ≡ false → HasNoUse taken looked self.now kind };
 
     /// Takes the next item. It has the item also if it answers that it wants no more.
     fn take(&mut self, item: &Item<'_>) -> Result<(), Stopped>

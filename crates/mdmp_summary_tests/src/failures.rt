@@ -48,7 +48,7 @@ fn store_that_fails_at_a_call_ends_the_summary(rt: HostRuntime) {
             assert_same_at(&rt, &call, end, whole);
         }
     }
-    assert_same_at(&rt, &"calls", calls, 11);
+    assert_same_at(&rt, &"calls", calls, 9);
 }
 
 #[test]
@@ -67,8 +67,8 @@ fn growth_of_memory_that_is_refused_ends_the_summary(rt: HostRuntime) {
 fn budget_of_what_is_fetched_is_enough(rt: HostRuntime) {
     let file = crash_file(&rt, rt.alloc(), LINUX);
     let whole = SummaryEnd::Told(summary_in(&rt, rt.alloc(), &file));
-    // Header, directory, and twice two exceptions, a module list and a system.
-    let fetched = 32 + 60 + 2 * (168 + 168 + 112 + 56);
+    // Header, directory, two exceptions, and twice a module list and a system: what is searched is among no exceptions.
+    let fetched = 32 + 60 + 168 + 168 + 2 * (112 + 56);
     assert_same_at(
         &rt,
         &"fetched",

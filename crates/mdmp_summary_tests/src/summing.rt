@@ -27,8 +27,13 @@ pub fn summary_of_first(rt: &impl Abort, alloc: Global, file: &[u8], len: usize)
 
 /// How many bytes the listing of a file and its summary have fetched together, and how many aside.
 pub fn fetched_for(alloc: Global, file: &[u8]) -> Option<(u128, u128)> {
+    fetched_within(alloc, file, Limits::default())
+}
+
+/// The same within these limits.
+pub fn fetched_within(alloc: Global, file: &[u8], limits: Limits) -> Option<(u128, u128)> {
     let source = Source::new(MemoryStore::new(file));
-    let Ok(mut walker) = Walker::open(alloc, source, Limits::default(), Choice::All) else {
+    let Ok(mut walker) = Walker::open(alloc, source, limits, Choice::All) else {
         return None;
     };
     match summarize_listing(&mut walker) {

@@ -1,7 +1,7 @@
 //! A visitor of all items, and what is read outside the listing.
 use crate::files::{LINUX, crash_file};
 use crate::same::{assert_same, assert_same_at};
-use mdmp_lister::{Choice, Item, Limits, Stopped, Walker};
+use mdmp_lister::{Choice, Item, Limits, Stopped, StreamKind, Walker};
 use mdmp_source::{Location, MemoryStore, PatchyStore, Source, Store};
 use mdmp_summary::{
     Registers, SymbolsRead, VisitEnd, VisitFault, Visitor, read_registers, read_symbols, visit_all,
@@ -30,6 +30,10 @@ impl Visitor for Counter {
     ghost span = { λ _. 0 };
 
     ghost room = { λ span item. nothing_read };
+
+    fn wants(&self, _kind: StreamKind) -> bool {
+        true
+    }
 
     fn take(&mut self, _item: &Item<'_>) -> Result<(), Stopped> {
         self.items = self.items.saturating_add(1);

@@ -12,7 +12,8 @@ use Rattle.mdmp_engines.specs.CheckRuns.{CheckEnds}
 use Rattle.mdmp_engines.specs.Engines.{Leaves, WritesText, past_faults}
 use Rattle.mdmp_engines.proofs.Checking.{PutsPrefix-first, StopsShort-first, bad-taken, bad_entries, lines-stopped, lines-taken, name-stopped, name-taken, told-cause, told-source}
 use Rattle.mdmp_engines.proofs.Reached.{keeps_checked}
-use Rattle.mdmp_engines.proofs.SameRuns.{over_listing, run_list, run_none, aside_listing}
+use Rattle.mdmp_summary.proofs.InEntries.{check_ends}
+use Rattle.mdmp_engines.proofs.SameRuns.{budget_listing, run_list, run_none, aside_listing}
 use Rattle.mdmp_engines.proofs.check.check_listed.Goals as goal
 
 pub returns-in-Ok-clause-same_output : goal.returns-in-Ok-clause-same_output
@@ -114,7 +115,8 @@ returns-in-Err-Stopped-clause-same g c = run_list _ _ _ (run_none _) c.in-Err-St
 pub returns-in-Err-At-clause-over : goal.returns-in-Err-At-clause-over
 returns-in-Err-At-clause-over g c =
     let f = c.in-Err-At.fault in
-    rw c.told_list.ensures (over_listing ℕ f c.check_into.new.self (c.in-Err-At.ensures.refused f c.in-Err-At.field-0-is) (rw c.in-Err-At.field-0-is at c.in-Err-At.ensures.checks.next))
+    let checks = rw c.in-Err-At.field-0-is at c.in-Err-At.ensures.checks in
+    rw c.told_list.ensures (budget_listing ℕ f c.args.lister.now c.check_into.new.self (c.in-Err-At.ensures.refused f c.in-Err-At.field-0-is) checks.next (λ stands. check_ends _ _ _ _ _ f checks))
 
 pub returns-in-Err-At-clause-aside : goal.returns-in-Err-At-clause-aside
 returns-in-Err-At-clause-aside g c = rw c.told_list.ensures (aside_listing ℕ None c.in-Err-At.fault c.check_into.new.self refl)

@@ -10,7 +10,7 @@ use Rattle.mdmp_engines.specs.CheckParts.{CheckPartsEnds, bad_rows, row_lines}
 use Rattle.mdmp_engines.specs.Engines.{Leaves, WritesText, past_faults}
 use Rattle.mdmp_engines.proofs.Checking.{told-cause, told-source}
 use Rattle.mdmp_engines.proofs.PartsChecking.{PutsPrefix-rows, StopsShort-rows, bad_of_file, count-taken, keeps_parts_checked, output-stopped, output-taken, rows-stopped, rows-taken}
-use Rattle.mdmp_engines.proofs.SameRuns.{over_listing, run_list, run_none, aside_listing}
+use Rattle.mdmp_engines.proofs.SameRuns.{budget_listing, run_list, run_none, aside_listing}
 use Rattle.mdmp_engines.proofs.check_parts.check_parts_listed.Goals as goal
 
 pub check_parts_into-requires : goal.check_parts_into-requires
@@ -114,7 +114,8 @@ returns-in-Err-Stopped-clause-same g c = run_list _ _ _ (run_none _) c.in-Err-St
 pub returns-in-Err-At-clause-over : goal.returns-in-Err-At-clause-over
 returns-in-Err-At-clause-over g c =
     let f = c.in-Err-At.fault in
-    rw c.told_list.ensures (over_listing ℕ f c.check_parts_into.new.lister (c.in-Err-At.ensures.refused f c.in-Err-At.field-0-is) (rw c.in-Err-At.field-0-is at c.in-Err-At.ensures.next))
+    let ends = rw c.in-Err-At.field-0-is at c.in-Err-At.ensures.ends in
+    rw c.told_list.ensures (budget_listing ℕ f c.args.lister.now c.check_parts_into.new.lister (c.in-Err-At.ensures.refused f c.in-Err-At.field-0-is) ends.next ends.chosen)
 
 pub returns-in-Err-At-clause-aside : goal.returns-in-Err-At-clause-aside
 returns-in-Err-At-clause-aside g c = rw c.told_list.ensures (aside_listing ℕ None c.in-Err-At.fault c.check_parts_into.new.lister refl)

@@ -1,4 +1,4 @@
-use Rattle.std.proofs.Common.{rules, ◌≡◌, ◌∙◌, ◌+◌, ℕ, Err, Some, ap, refl, subst, sym}
+use Rattle.std.proofs.Common.{rules, inl, ◌≡◌, ◌∙◌, ◌+◌, ℕ, Err, Some, ap, refl, subst, sym}
 use Rattle.mdmp_source.specs.SourceLaws.{fetches_then}
 use Rattle.mdmp_engines.proofs.Engining.{IsQuiet-behind, IsRefusal-behind, Runs-opened, Runs-unopened, Tells-unopened, may_change}
 use Rattle.mdmp_lister.specs.Format.Refusal.{opening_fault}
@@ -11,7 +11,7 @@ use Rattle.mdmp_engines.specs.Telling.{opening_beside}
 use Rattle.mdmp_engines.specs.Engines.{Access, IsBehind, IsReadThrough, Runs, Tells, directly, unless_refused}
 use Rattle.mdmp_engines.specs.declared.fault.ToolFault.{ToolFault}
 use Rattle.mdmp_engines.proofs.Besides.{run_opened}
-use Rattle.mdmp_engines.proofs.SameRuns.{early_opening, kept_leaving, memory_opening, next_leaving, over_opening, run_within}
+use Rattle.mdmp_engines.proofs.SameRuns.{budget_cause, budget_entry, early_opening, kept_leaving, memory_opening, next_leaving, over_opening, run_within}
 use Rattle.mdmp_engines.proofs.engine.run_source.Goals as goal
 
 pub returns-in-Err-clause-runs : goal.returns-in-Err-clause-runs
@@ -73,11 +73,12 @@ returns-in-Err-clause-through g c =
     let memory = memory_opening g.row.E-Answer.Denot c.args.limits g.E.Engine.choice beside c.args.source c.in-Err.refused.fault c.in-Err.refused.source (search rules) (search rules)
     (rw c.leave_memory.ensures at c.in-Err.ensures.refused.over) (λ file known. rw (c.leave_memory.ensures, c.chosen.ensures) at (c.in-Err.ensures.within file known)) in
     subst (λ (f : ToolFault). IsReadThrough {T = g.row.E-Answer.Denot} access c.args.source (Err f) c.in-Err.refused.source) (sym c.refused_beside.ensures)
-    (IsReadThrough.refused back.asked (early_opening g.row.E-Answer.Denot beside c.in-Err.refused.fault)
+    (IsReadThrough.refused c.in-Err.refused.fault (early_opening g.row.E-Answer.Denot beside c.in-Err.refused.fault)
     (over_opening g.row.E-Answer.Denot beside g.E.Engine.choice c.args.limits c.args.source c.in-Err.refused.fault c.in-Err.refused.source
     (kept_leaving beside c.args.limits c.args.source c.in-Err.refused.fault c.in-Err.refused.source (rw c.leave_memory.ensures at c.in-Err.ensures.refused.fetches.kept))
     (next_leaving (Some g.E.Engine.choice) beside c.args.limits c.args.source c.in-Err.refused.fault c.in-Err.refused.source (rw (c.leave_memory.ensures, c.chosen.ensures) at c.in-Err.ensures.refused.fetches.next)))
-    (subst (λ (n : ℕ). HasMemoryCause {T = g.row.E-Answer.Denot} c.args.limits g.E.Engine.choice n c.args.source (Err (opening_beside beside c.in-Err.refused.fault))) c.beside-beside.ensures memory) back.bound back.inside)
+    (subst (λ (n : ℕ). HasMemoryCause {T = g.row.E-Answer.Denot} c.args.limits g.E.Engine.choice n c.args.source (Err (opening_beside beside c.in-Err.refused.fault))) c.beside-beside.ensures memory)
+    (rw c.chosen.ensures at back) (inl (ap (λ (n : ℕ). Err (opening_beside n c.in-Err.refused.fault)) c.beside-beside.ensures)))
 
 pub returns-clause-through : goal.returns-clause-through
 returns-clause-through g c =
@@ -93,7 +94,8 @@ returns-clause-through g c =
           let choice : c.print-answer.new.lister.choice ≡ g.E.Engine.choice = same.choice ∙ new.asked.choice_is ∙ c.chosen.ensures in
           subst (λ (n : Counts). AreOfFile file g.E.Engine.choice n) counts.value (subst (λ (ch : Choice). AreOfFile file ch c.counts-counts.result) choice (counts.of_file file content));
       budget = same.budget ∙ new.counts.budget_is ∙ ap (λ (l : Limits). l.budget) under;
-      over = c.print-answer.ensures.over;
+      over = budget_cause c.print-answer.result c.in-Ok.lister c.print-answer.new.lister c.print-answer.ensures.over;
+      entry = budget_entry c.print-answer.result c.in-Ok.lister c.print-answer.new.lister (λ more. absurd (more new.given.standing)) c.print-answer.ensures.over;
       aside_kept = c.print-answer.ensures.aside;
       reads = c.print-answer.ensures.read;
       memory = rw (← c.beside-beside.ensures) (run_within c.args.limits c.leave_memory.result c.beside-beside.result _ c.print-answer.new.lister under same new.asked.window_room new.memory);

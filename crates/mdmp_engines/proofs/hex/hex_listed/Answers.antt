@@ -1,10 +1,12 @@
-use Rattle.std.proofs.Common.{rules, ◌≡◌, ◌∙◌, ◌+◌, ℕ, length, ap, arith, refl, subst, None}
+use Rattle.std.proofs.Common.{Err, rules, ◌≡◌, ◌∙◌, ◌+◌, ℕ, length, ap, arith, refl, subst, None}
 use Rattle.mdmp_source.specs.SourceLaws.{fetches_then}
 use Rattle.mdmp_lister.specs.FaultLaws.{ranges_fit}
 use Rattle.mdmp_engines.specs.Engines.{IsBehind, at_the_end}
 use Rattle.mdmp_lister.specs.declared.meter.Amount.{Amount}
-use Rattle.mdmp_engines.proofs.Hexing.{HexesRun-printed}
-use Rattle.mdmp_engines.proofs.SameRuns.{over_listing, run_list, run_none, run_then, aside_listing}
+use Rattle.mdmp_lister.specs.declared.sink.RunFault.TheVariants as run
+use Rattle.mdmp_summary.proofs.InEntries.{run_ends}
+use Rattle.mdmp_engines.proofs.Hexing.{HexesRun-printed, HexesRun-wanting}
+use Rattle.mdmp_engines.proofs.SameRuns.{budget_listing, budget_none, run_list, run_none, run_then, aside_listing}
 use Rattle.mdmp_engines.proofs.Symbols.{Leaves-listed}
 use Rattle.mdmp_engines.proofs.hex.hex_listed.Goals as goal
 
@@ -14,6 +16,12 @@ returns-clause-hexes g c = λ file known left given.
     let room : length c.print_memory.new.bytes ≡ c.args.length = grind (arith, c.print_memory.auto.bytes, c.deref_mut.ensures, c.in-Ok-vec.ensures) in
     let printed = c.print_memory.ensures.hexes file (c.list_ranges.ensures.fetches.fetches.same_content ∙ known) in
     HexesRun-printed file c.list_ranges.new.self.ranges left c.args.address c.args.length _ _ c.print_memory.result listed.0 (rw c.requires.none at listed.1) (rw room at printed)
+
+pub returns-in_default-clause-hexes : goal.returns-in_default-clause-hexes
+returns-in_default-clause-hexes g c = λ file known left given. HexesRun-wanting file left c.args.address c.args.length _ (c.in-Ok.ensures.lists left given).0
+
+pub returns-in_default-vec-clause-hexes : goal.returns-in_default-vec-clause-hexes
+returns-in_default-vec-clause-hexes g c = λ file known left given. HexesRun-wanting file left c.args.address c.args.length _ (c.in-Ok.ensures.lists left given).0
 
 pub returns-clause-leaves : goal.returns-clause-leaves
 returns-clause-leaves g c =
@@ -40,7 +48,14 @@ returns-in-Err-clause-leaves g c =
     rw c.told_list.ensures (Leaves-listed at_the_end _ c.list_ranges.new.self.current c.in-Err.fault _ _ _ of.fetches of.told of.good fits refl refl)
 
 pub returns-in-Err-clause-over : goal.returns-in-Err-clause-over
-returns-in-Err-clause-over g c = rw c.told_list.ensures (over_listing (Unit {0}) c.in-Err.fault c.list_ranges.new.self c.in-Err.ensures.refused c.in-Err.ensures.follows.next)
+returns-in-Err-clause-over g c =
+    let of = c.in-Err.ensures in
+    let new = c.list_ranges.new.self in
+    rw c.told_list.ensures (budget_listing (Unit {0}) c.in-Err.fault c.args.lister.now new of.refused of.follows.next
+    (run_ends c.args.lister.now new of.follows.items (Err (run.At c.in-Err.fault)) of.same.choice of.same.entries of.follows.follows))
+
+pub returns-clause-over : goal.returns-clause-over
+returns-clause-over g c = budget_none c.print_memory.result c.args.lister.now c.print_memory.new.lister c.print_memory.ensures.over
 
 pub returns-in-Err-clause-same : goal.returns-in-Err-clause-same
 returns-in-Err-clause-same g c = run_list _ _ _ (run_none _) c.list_ranges.ensures.same

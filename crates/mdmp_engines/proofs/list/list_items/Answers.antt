@@ -5,7 +5,7 @@ use Rattle.mdmp_engines.proofs.Besides.{HasRead-end, HasRead-next}
 use Rattle.mdmp_engines.proofs.Printing.{HasPrinted-next, ListsRun-end, ListsRun-fault, next_told, next_within}
 use Rattle.mdmp_engines.proofs.Reached.{HasNamed-end, HasNamed-fault, HasNamed-next}
 use Rattle.mdmp_engines.proofs.Symbols.{Leaves-fault, Leaves-later, refused_by}
-use Rattle.mdmp_engines.proofs.SameRuns.{run_then, aside_fault}
+use Rattle.mdmp_engines.proofs.SameRuns.{budget_later, run_then, aside_fault}
 use Rattle.mdmp_engines.proofs.list.list_items.Goals as goal
 
 pub returns-in_err-list_next-clause-lists : goal.returns-in_err-list_next-clause-lists
@@ -31,6 +31,7 @@ loop-preserved g c =
     let rest = of.rest (ap Ok c.if-branch.true) in
     record {
       going = rest.going;
+      stands = λ in_chosen. rest.stands (so_far.stands in_chosen);
       source = record { count = so_far.source.count + of.leaves.reads.fetches.count; fetches = fetches_then _ _ _ _ _ so_far.source.fetches of.leaves.reads.fetches.fetches };
       run = run_then _ _ _ so_far.run of.same;
       steady = of.leaves.out_cause ∙ so_far.steady;
@@ -62,6 +63,12 @@ returns-clause-leaves g c =
       reads = record { cause = tt; fetches = record { count = so_far.source.count + left.reads.fetches.count; fetches = fetches_then _ _ _ _ _ so_far.source.fetches left.reads.fetches.fetches } };
       out_cause = left.out_cause ∙ so_far.steady;
     }
+
+pub returns-in_err-list_next-clause-over : goal.returns-in_err-list_next-clause-over
+returns-in_err-list_next-clause-over g c =
+    let f = c.in_err-list_next.field-0.0 in
+    let is = refused_by c.from_residual.result f c.from_residual.ensures.1 in
+    rw is (budget_later Bool (Unit {0}) f c.args.lister.now c.loop.lister c.list_next.new.lister c.loop.invariant.stands c.in_err-list_next.ensures.over)
 
 pub returns-in_err-list_next-clause-aside : goal.returns-in_err-list_next-clause-aside
 returns-in_err-list_next-clause-aside g c =

@@ -2,6 +2,7 @@ use Rattle.std.proofs.Common.{◌≡◌, ℕ, List, Some, None, true}
 use Rattle.mdmp_lister.specs.Memory.{is_within}
 use Rattle.mdmp_source.specs.Source.{FetchesSome}
 use Rattle.mdmp_lister.specs.Format.Listing.{Run}
+use Rattle.mdmp_summary.specs.InEntry.{StandsInChosen}
 use Rattle.mdmp_engines.specs.Engines.{IsSameRun}
 use Rattle.mdmp_engines.proofs.Besides.{HasRead}
 use Rattle.mdmp_engines.proofs.Printing.{HasPrinted}
@@ -12,6 +13,7 @@ use Rattle.mdmp_engines.proofs.list.list_items.Given as goal
 abbrev pub invariant-loop : goal.invariant-loop
 invariant-loop g l = record {
   going : l.lister.stop ≡ None;
+  stands : StandsInChosen l.initial.lister → StandsInChosen l.lister;
   source : FetchesSome l.initial.lister.source l.lister.source;
   run : IsSameRun l.initial.lister l.lister;
   steady : (g.O.Printer.state l.out).failures ≡ (g.O.Printer.state l.initial.out).failures;

@@ -4,6 +4,7 @@ use Rattle.mdmp_source.specs.SourceLaws.{fetches_then}
 use Rattle.mdmp_lister.proofs.Standpoints.{run_fetch}
 use Rattle.mdmp_lister.specs.FaultLaws.{next_fits}
 use Rattle.mdmp_lister.specs.Format.Item.{plain}
+use Rattle.mdmp_summary.proofs.InEntries.{answers_fault, answers_item}
 use Rattle.mdmp_engines.specs.Engines.{up_to_a_fault}
 use Rattle.mdmp_engines.specs.Runs.{PutsSymbols}
 use Rattle.mdmp_engines.specs.Text.{symbols_text}
@@ -11,7 +12,7 @@ use Rattle.mdmp_engines.specs.declared.list.ModuleSymbols.{ModuleSymbols}
 use Rattle.mdmp_engines.proofs.Symbols.{IsBehindNext-aside, Leaves-cut, Leaves-done, Leaves-fault, Leaves-later, Leaves-listed, ListsNext-cut, ListsNext-fault, ListsNext-line, ListsNext-symbols, end-more, fault-more, refused_by, symbols-inside, symbols_text-is}
 use Rattle.mdmp_engines.proofs.Besides.{ReadsNext-none, ReadsNext-record}
 use Rattle.mdmp_engines.proofs.Reached.{names_fault, names_next, names_none}
-use Rattle.mdmp_engines.proofs.SameRuns.{over_fault, over_listing, run_list, run_none, run_then, aside_fault, aside_listing, aside_same}
+use Rattle.mdmp_engines.proofs.SameRuns.{budget_fault, budget_listing, run_list, run_none, run_then, aside_fault, aside_listing, aside_same}
 use Rattle.mdmp_engines.proofs.list.list_next.Goals as goal
 
 pub returns-in-Err-print_item-clause-lists : goal.returns-in-Err-print_item-clause-lists
@@ -85,7 +86,10 @@ returns-in-Err-clause-over g c =
     let fetches = list.spends.fetches in
     let f = c.in-Err.fault in
     let new = c.next_inlined.follows.lender-at-none in
-    rw c.told_list.ensures (over_listing Bool f new list.spends.refused (run_fetch c.args.lister.now new f list.same fetches.same_content fetches.same_size list.places.current (list.next c.requires)))
+    let follows = rw c.in-Err.is at (c.next_inlined.follows.holds-at-none.follows c.requires) in
+    rw c.told_list.ensures
+    (budget_listing Bool f c.args.lister.now new list.spends.refused (run_fetch c.args.lister.now new f list.same fetches.same_content fetches.same_size list.places.current (list.next c.requires))
+    (λ stands. answers_fault c.args.lister.now new list.same.choice list.same.entries stands f follows))
 
 pub returns-in-Ok-None-clause-lists : goal.returns-in-Ok-None-clause-lists
 returns-in-Ok-None-clause-lists g c = λ file content left known. (rw c.in-Ok-None.field-0-is at (c.in-Ok-None.ensures.gives left known), refl)
@@ -121,11 +125,13 @@ pub returns-in_err-list_symbols-clause-over : goal.returns-in_err-list_symbols-c
 returns-in_err-list_symbols-clause-over g c =
     let f = c.in_err-list_symbols.field-0.0 in
     let is = refused_by c.from_residual.result f c.from_residual.ensures.1 in
-    rw is (over_fault (Unit {0}) Bool f _ c.in_err-list_symbols.ensures.over)
+    rw is (budget_fault (Unit {0}) Bool f c.args.lister.now c.list_symbols.new.lister c.in_err-list_symbols.ensures.over)
 
 pub returns-clause-rest : goal.returns-clause-rest
 returns-clause-rest g c = λ more.
-    IsBehindNext-aside _ _ _ c.in-Ok-Some.item (rw (c.in-Ok-Some.is, c.in-Ok-Some.field-0-is) at c.next_inlined.follows.holds-at-none.list.stands) c.in_ok-list_symbols.ensures.stays
+    let holds = rw (c.in-Ok-Some.is, c.in-Ok-Some.field-0-is) at c.next_inlined.follows.holds-at-none in
+    IsBehindNext-aside _ _ _ c.in-Ok-Some.item holds.list.stands c.in_ok-list_symbols.ensures.stays
+    (λ stands. answers_item c.args.lister.now c.next_inlined.follows.lender-at-none holds.list.same.choice holds.list.same.entries stands c.in-Ok-Some.item (holds.follows c.requires))
 
 pub returns-clause-same : goal.returns-clause-same
 returns-clause-same g c = run_then _ _ _ (run_list _ _ _ (run_none _) c.next_inlined.follows.holds-at-none.list.same) c.in_ok-list_symbols.ensures.same

@@ -131,7 +131,7 @@ returns-in-Err-summarize_listing-clause-through g c =
     let opened = c.in-Ok.walker in
     let ended = c.summarize_listing.new.walker in
     IsObjectThrough.unread opened ended c.in-Err-summarize_listing.fault (subst (λ (l : Limits). IsNewWalker c.args.source All l opened) within c.in-Ok.ensures.new)
-    (spends_both c.summarize_listing.result opened ended c.summarize_listing.ensures.spends) c.in-Err-summarize_listing.ensures.same
+    c.in-Err-summarize_listing.ensures.spends c.in-Err-summarize_listing.ensures.same
     c.in-Err-summarize_listing.ensures.fault (ap Err c.told_summary.ensures) c.into_source-in-Err-summarize_listing.ensures.value refl
 
 pub returns-in-Err-summarize_listing-clause-reads : goal.returns-in-Err-summarize_listing-clause-reads

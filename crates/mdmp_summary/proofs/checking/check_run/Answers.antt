@@ -1,4 +1,6 @@
-use Rattle.std.proofs.Common.{◌∙◌, sym}
+use Rattle.std.proofs.Common.{◌∙◌, Err, sym}
+use Rattle.mdmp_lister.specs.declared.sink.RunFault.TheVariants as run
+use Rattle.mdmp_summary.proofs.InEntries.{run_ends}
 use Rattle.mdmp_summary.proofs.RowsTaken.{rows_made, rows_stopped}
 use Rattle.mdmp_summary.proofs.RunTold.{run_bad, run_bad_cut, run_end_cut, run_ended, run_stopped, run_unread}
 use Rattle.mdmp_summary.proofs.checking.check_run.Goals as goal
@@ -63,6 +65,24 @@ returns-in-Ok-close_bad-clause-rows g c =
 pub returns-in-Err-close_bad-clause-rows : goal.returns-in-Err-close_bad-clause-rows
 returns-in-Err-close_bad-clause-rows g c =
     run_bad_cut g.K.CheckRowSink.step (λ m. m.sink.now) (λ m. m.entry) (λ m. m.loses_parts) (λ m. m.sink.ghost_name) c.args.lister.now c.list_into.new.self c.args.maker.now c.list_into.new.sink c.requires.going c.requires.fresh c.in-Err-At.fault (rw c.in-Err-At.field-0-is at c.in-Err-At.ensures.runs) (sym c.is_unobtained.ensures ∙ c.if-is_unobtained.false) c.close_bad.new.self.sink.now c.in-Err-close_bad.ensures.puts
+
+-- ---- the listing
+
+pub returns-then-is_unobtained-clause-leaves : goal.returns-then-is_unobtained-clause-leaves
+returns-then-is_unobtained-clause-leaves g c =
+    let of = c.in-Err-At.ensures in
+    let ran = rw c.in-Err-At.field-0-is at of.runs in
+    record {
+      same = of.same;
+      ends = record {
+        next = ran.next c.requires.going;
+        chosen = run_ends c.args.lister.now c.list_into.new.self ran.items (Err (run.At c.in-Err-At.fault)) of.same.choice of.same.entries (ran.follows c.requires.going);
+      };
+      stands = λ is. absurd (cc);
+      going = λ is. absurd (cc);
+      unread = λ is. absurd (cc);
+      left = λ is. absurd (cc);
+    }
 
 -- ---- a store that never fails
 

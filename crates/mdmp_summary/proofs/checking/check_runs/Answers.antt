@@ -1,4 +1,4 @@
-use Rattle.std.proofs.Common.{◌≡◌, ◌≤◌, ◌∙◌, ◌+◌, ◌++◌, ◌-◌, [], Ok, Err, ap, arith, refl}
+use Rattle.std.proofs.Common.{◌≡◌, ◌∙◌, ◌+◌, ◌++◌, ◌-◌, [], Ok, Err, ap, arith, refl}
 use Rattle.mdmp_wire.specs.declared.header.Header.{Header}
 use Rattle.mdmp_lister.specs.Format.Listing.{entry_count}
 use Rattle.mdmp_lister.proofs.Fetches.{FetchesAtMost-none, FetchesAtMost-within}
@@ -16,6 +16,7 @@ entries-init g c = record {
   fresh = c.requires.fresh;
   same = record { header_is = refl; entries = refl; choice = refl; limit = refl; rooms = refl; aside = refl; start = refl; budget = refl };
   going = c.requires.left.stop;
+  stands = λ in_chosen. in_chosen;
   rows = [];
   items = [];
   fetches = FetchesAtMost-within 0 _ _ _ (omega arith) (FetchesAtMost-none c.args.lister.now.source);
@@ -40,6 +41,7 @@ entries-preserved g c =
       fresh = of.fresh;
       same = same_lister-then old now new so_far.same leaves.same;
       going = leaves.going refl;
+      stands = λ _. leaves.stands refl;
       rows = so_far.rows ++ told.rows;
       items = so_far.items ++ told.items;
       fetches =
@@ -111,6 +113,11 @@ returns-in-Err-clause-names g c = λ file known.
 
 pub returns-in-Err-clause-same : goal.returns-in-Err-clause-same
 returns-in-Err-clause-same g c = same_lister-then c.args.lister.now c.entries.lister c.check_run.new.lister c.entries.invariant.same c.in-Err.ensures.leaves.same
+
+pub returns-in-Err-clause-ends : goal.returns-in-Err-clause-ends
+returns-in-Err-clause-ends g c =
+    let of = c.in-Err.ensures.leaves.ends in
+    record { next = of.next; chosen = λ in_chosen. of.chosen (c.entries.invariant.stands in_chosen) }
 
 pub returns-in-Err-clause-told : goal.returns-in-Err-clause-told
 returns-in-Err-clause-told g c =

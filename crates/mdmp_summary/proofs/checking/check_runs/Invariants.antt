@@ -4,6 +4,7 @@ use Rattle.mdmp_lister.specs.declared.item.Item.{Item}
 use Rattle.mdmp_lister.specs.Lister.{IsSameLister}
 use Rattle.mdmp_lister.specs.Sink.{Taken}
 use Rattle.mdmp_summary.specs.Checking.{rows_cost}
+use Rattle.mdmp_summary.specs.InEntry.{StandsInChosen}
 use Rattle.mdmp_summary.specs.declared.check_row.CheckRow.{CheckRow}
 use Rattle.mdmp_summary.proofs.CheckingOn.{ChecksOn}
 use Rattle.mdmp_summary.proofs.checking.check_runs.Given as goal
@@ -15,6 +16,7 @@ invariant-entries g l = record {
   fresh : (l.maker.entry ≡ None) × (l.maker.loses_parts ≡ false);
   same : IsSameLister l.fn.lister l.lister;
   going : l.lister.stop ≡ None;
+  stands : StandsInChosen l.fn.lister → StandsInChosen l.lister;
   rows : List CheckRow;
   items : List Item;
   fetches : FetchesAtMost (l.fn.lister.unread + rows_cost l.fn.lister.source.size l.fn.lister.limit items rows - l.lister.unread) l.fn.lister.source l.lister.source;

@@ -5,7 +5,7 @@ use Rattle.mdmp_summary.specs.BadEntries.{all_items}
 use Rattle.mdmp_summary.specs.Gathering.{gathered_with}
 use Rattle.mdmp_summary.specs.declared.gathering.Gathering.{Gathering}
 use Rattle.mdmp_summary.proofs.Folds.{gathered_all}
-use Rattle.mdmp_summary.proofs.Passing.{spends_pass}
+use Rattle.mdmp_summary.proofs.Passing.{none_since, spends_pass}
 use Rattle.mdmp_summary.proofs.Visited.{folded_all}
 use Rattle.mdmp_summary.proofs.passes.gather_all.Goals as goal
 
@@ -28,3 +28,8 @@ pub returns-in-Err-List-clause-spends : goal.returns-in-Err-List-clause-spends
 returns-in-Err-List-clause-spends g c =
     let of = c.in-Err-List.ensures in
     spends_pass of.visits.items c.args.walker.now c.visit_all.new.walker of.pays of.visits.outside
+
+pub returns-in-Err-List-clause-none : goal.returns-in-Err-List-clause-none
+returns-in-Err-List-clause-none g c =
+    let of = c.in-Err-List.ensures in
+    none_since of.visits.items c.args.walker.now c.visit_all.new.walker of.visits.outside of.begun

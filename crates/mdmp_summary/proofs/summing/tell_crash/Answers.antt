@@ -1,7 +1,5 @@
-use Rattle.std.proofs.Common.{arith}
 use Rattle.mdmp_summary.proofs.Passing.{crash_spends, spends_read}
 use Rattle.mdmp_summary.specs.Spending.{context_cost}
-use Rattle.mdmp_summary.specs.SpendingLaws.{spends_more}
 use Rattle.mdmp_summary.proofs.Told.{good_still, outside_listing, pass_later, same_listing_then}
 use Rattle.mdmp_summary.proofs.summing.tell_crash.Goals as goal
 
@@ -9,7 +7,7 @@ pub returns-in-Err-clause-spends : goal.returns-in-Err-clause-spends
 returns-in-Err-clause-spends g c =
     let old = c.args.walker.now in
     let mid = c.read_registers.new.walker in
-    spends_more 0 1 1 1 old mid (omega arith) (omega arith) (spends_read old mid c.in-Err.ensures.reads)
+    spends_read old mid c.in-Err.ensures.reads
 
 pub returns-in-Err-clause-same : goal.returns-in-Err-clause-same
 returns-in-Err-clause-same g c = outside_listing context_cost c.args.walker.now c.read_registers.new.walker c.in-Err.ensures.reads
@@ -43,7 +41,8 @@ returns-in-Err-search_all-clause-spends g c =
     let old = c.args.walker.now in
     let mid = c.read_registers.new.walker in
     let reads = c.in-Ok.ensures.reads in
-    crash_spends old mid c.search_all.new.walker (outside_listing context_cost old mid reads) (spends_read old mid reads) c.in-Err-search_all.ensures.spends
+    let search = c.in-Err-search_all.ensures in
+    (crash_spends old mid c.search_all.new.walker (outside_listing context_cost old mid reads) (spends_read old mid reads) search.spends, search.none)
 
 pub returns-in-Err-search_all-clause-same : goal.returns-in-Err-search_all-clause-same
 returns-in-Err-search_all-clause-same g c =

@@ -1,8 +1,10 @@
-use Rattle.std.proofs.Common.{Ok, Err, ◌≡◌, ◌<◌, ◌+◌, [], ◌∷◌, ◌++◌, ap, arith, refl, subst, sym, ◌∙◌, false}
+use Rattle.std.proofs.Common.{Ok, Err, ◌≡◌, ◌<◌, ◌+◌, [], ◌∷◌, ◌++◌, ap, arith, refl, subst, sym, ◌∙◌, false, true}
 use Rattle.mdmp_wire.specs.declared.header.Header.{Header}
 use Rattle.mdmp_lister.specs.Fault.{is_unobtained}
 use Rattle.mdmp_lister.specs.Format.Listing.{entry_count}
 use Rattle.mdmp_lister.specs.Lister.{is_for_good}
+use Rattle.mdmp_lister.specs.Walker as walker
+use Rattle.mdmp_lister.specs.Walker.{is_sought}
 use Rattle.mdmp_lister.specs.declared.meter.Amount.{Amount}
 use Rattle.mdmp_lister.specs.declared.meter.MeterCounts.{MeterCounts}
 use Rattle.mdmp_summary.specs.BadEntries.{told_bad}
@@ -12,7 +14,8 @@ use Rattle.mdmp_summary.specs.declared.visiting.VisitFault.TheVariants as faults
 use Rattle.mdmp_summary.proofs.Entries.{no_faults, no_items}
 use Rattle.mdmp_summary.proofs.Counting.{bad_on, counts_begin, counts_more, faults_end, items_end, items_first, skipped_left}
 use Rattle.mdmp_summary.proofs.Passing.{passed_done, passed_end, passed_skip, passed_sought, pays_none}
-use Rattle.mdmp_summary.proofs.Sought.{sought_left}
+use Rattle.mdmp_summary.proofs.Skipped.{between_skipped}
+use Rattle.mdmp_summary.proofs.Sought.{sought_between, sought_left}
 use Rattle.mdmp_summary.proofs.Told.{end_later, good_still, look_later, obtained, same_listing_none, same_listing_then, skipped_listing, sought_listing, unobtained}
 use Rattle.mdmp_summary.proofs.Visited.{outside_none, outside_same, outside_then, visited_same, visited_to}
 use Rattle.mdmp_summary.proofs.walking.visit_all.Goals as goal
@@ -51,6 +54,10 @@ entries-init g c =
     record {
       same = sought_listing old.list new.list seeks.same;
       going = goes.stop;
+      walks = λ not. let sought : is_sought new ≡ true = ap walker.seeks goes.position in absurd (cc);
+      between = sought_between old new seeks.same goes c.requires.all (λ file known.
+          let count : c.header-streams.result.number_of_streams ≡ entry_count file = ap (λ (h : Header). h.number_of_streams) (c.header-streams.ensures.of_file file known) in
+          omega (arith, count, c.if-streams-eq0.false));
       count = ap (λ (b : BadEntries). b.count) c.none-bad.ensures;
       met = [];
       bad = c.none-bad.ensures;
@@ -83,6 +90,8 @@ entries-preserved g c =
     record {
       same = same_listing_then first mid new before (skipped_listing mid new keeps.same keeps.source);
       going = skips.stop;
+      walks = λ not more. absurd (more skips.standing);
+      between = between_skipped c.visit_rest.new.walker c.skip_entry.new.self skips keeps (c.skip_entry.ensures.position.0 ∙ look.position);
       count = let more = ap (λ (b : BadEntries). b.count) c.take.ensures in omega (arith, so_far.count, more);
       met = so_far.met ++ f ∷ [];
       bad = bad_on so_far.met f c.entries.bad c.take.new.self so_far.bad c.take.ensures;
@@ -171,6 +180,12 @@ returns-in-Err-Ended-clause-pays g c =
     let look = rw c.in-Err-Ended.field-0-is at c.in-Err-Ended.ensures in
     passed_end c.args.walker.now c.entries.walker c.visit_rest.new.walker so_far.same.limit (Err (faults.Ended c.in-Err-Ended.end)) so_far.passed look.pays
 
+pub returns-in-Err-Ended-clause-begun : goal.returns-in-Err-Ended-clause-begun
+returns-in-Err-Ended-clause-begun g c =
+    let so_far = c.entries.invariant.passed in
+    let look = rw c.in-Err-Ended.field-0-is at c.in-Err-Ended.ensures in
+    look.pays.begun c.args.walker.now.list.counts.aside so_far.outside so_far.begun
+
 pub returns-in-Err-Ended-clause-same : goal.returns-in-Err-Ended-clause-same
 returns-in-Err-Ended-clause-same g c =
     let look = rw c.in-Err-Ended.field-0-is at c.in-Err-Ended.ensures in
@@ -202,6 +217,7 @@ returns-then-is_unobtained-clause-fault g c =
     record {
       unobtained = unobtained f.kind (sym c.is_unobtained.ensures ∙ c.if-is_unobtained.true);
       look = look_later c.args.walker.now.list c.entries.walker.list c.visit_rest.new.walker.list f c.entries.invariant.same.same_file look.fault;
+      entry = look.entry c.entries.invariant.walks;
     }
 
 pub returns-then-is_unobtained-clause-good : goal.returns-then-is_unobtained-clause-good
@@ -215,6 +231,12 @@ returns-then-is_unobtained-clause-pays g c =
     let so_far = c.entries.invariant in
     let look = rw c.in-Err-List.field-0-is at c.in-Err-List.ensures in
     passed_end c.args.walker.now c.entries.walker c.visit_rest.new.walker so_far.same.limit (Err (faults.List c.in-Err-List.fault)) so_far.passed look.pays
+
+pub returns-then-is_unobtained-clause-begun : goal.returns-then-is_unobtained-clause-begun
+returns-then-is_unobtained-clause-begun g c =
+    let so_far = c.entries.invariant.passed in
+    let look = rw c.in-Err-List.field-0-is at c.in-Err-List.ensures in
+    look.pays.begun c.args.walker.now.list.counts.aside so_far.outside so_far.begun
 
 pub returns-then-is_unobtained-clause-same : goal.returns-then-is_unobtained-clause-same
 returns-then-is_unobtained-clause-same g c =

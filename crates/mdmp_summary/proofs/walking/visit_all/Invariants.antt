@@ -2,7 +2,9 @@ use Rattle.std.proofs.Common.{◌≡◌, ℕ, List, Some, None}
 use Rattle.mdmp_lister.specs.declared.fault.ListFault.{ListFault}
 use Rattle.mdmp_lister.specs.declared.item.Item.{Item}
 use Rattle.mdmp_summary.specs.BadEntries.{told_bad}
+use Rattle.mdmp_summary.specs.Skipping.{IsBetween}
 use Rattle.mdmp_summary.specs.Visiting.{RisesOutside, VisitedAll}
+use Rattle.mdmp_summary.specs.InEntry.{WalksInChosen}
 use Rattle.mdmp_summary.specs.Walking.{IsSameListing}
 use Rattle.mdmp_summary.proofs.Counting.{CountsOn}
 use Rattle.mdmp_summary.proofs.Passing.{HasPassed}
@@ -13,6 +15,8 @@ abbrev pub invariant-entries : goal.invariant-entries
 invariant-entries g l = record {
   same : IsSameListing l.fn.walker.list l.walker.list;
   going : l.walker.list.stop ≡ None;
+  walks : WalksInChosen l.walker;
+  between : IsBetween l.walker;
   count : l.bad.count ≡ l.counter;
   met : List ListFault;
   bad : l.bad ≡ told_bad met;

@@ -1,5 +1,7 @@
 use Rattle.std.proofs.Common.{◌≡◌, None}
+use Rattle.mdmp_summary.specs.InEntry.{WalksInChosen}
 use Rattle.mdmp_summary.specs.Walking.{IsSameListing}
+use Rattle.mdmp_summary.proofs.LeftOn.{LeftBy}
 use Rattle.mdmp_summary.proofs.Paying.{HasPaid}
 use Rattle.mdmp_summary.proofs.Visited.{HasShown}
 use Rattle.mdmp_summary.proofs.walking.visit_rest.Given as goal
@@ -11,7 +13,9 @@ invariant-loop-item g l = record {
   going : l.walker.list.stop ≡ None;
   spans : g.V.Visitor.span l.visitor ≡ g.V.Visitor.span l.initial.visitor;
   shown : HasShown g.V.Visitor.taken g.V.Visitor.looked (g.V.Visitor.room (g.V.Visitor.span l.initial.visitor)) l.initial.walker.list l.initial.visitor l.walker.list l.visitor;
+  left : LeftBy l.initial.walker.list.source.store.content l.walker;
   paid : HasPaid l.initial.walker l.walker;
+  walks : WalksInChosen l.initial.walker → WalksInChosen l.walker;
 }
 
 abbrev pub decreases-loop-item : goal.decreases-loop-item
