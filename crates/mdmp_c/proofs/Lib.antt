@@ -7,7 +7,10 @@ pub mod Told
 pub mod Directories
 pub mod Remembered
 pub mod Named
+pub mod NextRows
 pub mod Copied
+pub mod Coming
+pub mod CheckEnded
 pub mod Sliced
 pub mod Judging
 pub mod Worded

@@ -13,9 +13,10 @@ use Rattle.mdmp_lister.specs.declared.fault.OpenFault.TheVariants as opening
 use Rattle.mdmp_lister.specs.declared.limits.Limits.{Limits}
 use Rattle.mdmp_lister.specs.Fault.{IsOfStore}
 use Rattle.mdmp_lister.specs.Format.Refusal.{directory_refusal, range_fault}
-use Rattle.mdmp_lister.specs.Lister.{ListerState, Rooms}
+use Rattle.mdmp_lister.specs.Lister.{ListerState, standpoint_in}
 use Rattle.mdmp_lister.specs.Memory.{IsWalkRefusal, TellsWalkMemory, earlier_fault, is_within, mapped_fault, opening_fault_within, unmapped_fault, walk_fault}
 use Rattle.mdmp_lister.specs.Meter.{IsRefusedFetch, IsUnmade, KeepsTo, is_passed}
+use Rattle.mdmp_lister.specs.NextFetch.{TellsNextOpening, TellsSomeFetch}
 use Rattle.mdmp_lister.specs.Opening.{IsUnread, KeepsToBudget}
 use Rattle.mdmp_summary.specs.Summing.{IsCallFault, IsUnreadIn}
 use Rattle.mdmp_summary.specs.Walking.{IsPassFault, IsSameListing}
@@ -25,6 +26,7 @@ use Rattle.mdmp_c.specs.declared.limits.PlainLimits.{PlainLimits}
 use Rattle.mdmp_c.specs.Fault.{open_fault, plain_list_fault}
 use Rattle.mdmp_c.specs.Limits.{AreGiven, reaches_memory}
 use Rattle.mdmp_c.specs.Summary.{IsUnsummarized, of_file, of_limit, of_memory, summary_fault}
+use Rattle.mdmp_c.proofs.Coming.{IsOpenedIn, comes_next, listing_next, opened_on, stays_on}
 use Rattle.mdmp_c.proofs.Ending.{plain_budget}
 use Rattle.mdmp_c.proofs.Stopping.{budget_passed, is_budget, is_limit, opening_passed}
 
@@ -53,19 +55,19 @@ module _ (plain : PlainLimits) (limits : Limits) (F : List ℕ) (given : AreGive
   over_memory : (held : ℕ) → walk_fault limits F ≡ Some (opening.MemoryLimit held) → opening_fault_within limits F All ≡ Some (opening.MemoryLimit held)
   over_memory held is = ap (λ (w : Option OpenFault). earlier_fault w (earlier_fault (range_fault F All) (mapped_fault limits F All))) is
 
-  pub opening_told : (old : SourceState) (fault : OpenFault) (new : SourceState) → old.store.content ≡ Some F → old.size ≡ length F → old.size < 2 ^ 64
-      → IsWalkRefusal limits F fault → (IsUnread fault → ⊥) → KeepsToBudget limits old fault new → TellsWalkMemory limits old fault new → IsUnsummarized F plain (open_fault fault)
-  opening_told old (opening.Source f) new known size small is read kept over = absurd (read tt)
-  opening_told old (opening.Budget at len) new known size small is read kept over =
-      of_limit (opening_passed plain limits F All None old at len new given known size small tt kept)
-  opening_told old (opening.MemoryLimit held) new known size small is read kept over =
+  pub opening_told : (old : SourceState) (fault : OpenFault) (new : SourceState) → old.store.content ≡ Some F → old.size ≡ length F → old.size < 2 ^ 64 → old.fetched ≡ 0
+      → IsWalkRefusal limits F fault → (IsUnread fault → ⊥) → KeepsToBudget limits old fault new → TellsNextOpening None limits old fault new → TellsWalkMemory limits old fault new → IsUnsummarized F plain (open_fault fault)
+  opening_told old (opening.Source f) new known size small none is read kept next over = absurd (read tt)
+  opening_told old (opening.Budget at len) new known size small none is read kept next over =
+      of_limit (opening_passed plain limits F All None None old at len new given known size small none tt kept next)
+  opening_told old (opening.MemoryLimit held) new known size small none is read kept next over =
       of_limit (reaches_memory (is_limit plain.memory limits.memory given.memory (λ none. let more = over.over in let open_end : is_within limits.memory held ≡ true = rw none refl in cc)) held refl limits given (over_memory held is))
-  opening_told old opening.Memory new known size small is read kept over = of_memory refl
-  opening_told old (opening.TooShort n) new known size small is read kept over = refused (opening.TooShort n) (λ never. never) is
-  opening_told old opening.BadSignature new known size small is read kept over = refused opening.BadSignature (λ never. never) is
-  opening_told old (opening.BadVersion low) new known size small is read kept over = refused (opening.BadVersion low) (λ never. never) is
-  opening_told old (opening.DirectoryOutside at len) new known size small is read kept over = refused (opening.DirectoryOutside at len) (λ never. never) is
-  opening_told old (opening.TooManyRanges n) new known size small is read kept over = refused (opening.TooManyRanges n) (λ never. never) is
+  opening_told old opening.Memory new known size small none is read kept next over = of_memory refl
+  opening_told old (opening.TooShort n) new known size small none is read kept next over = refused (opening.TooShort n) (λ never. never) is
+  opening_told old opening.BadSignature new known size small none is read kept next over = refused opening.BadSignature (λ never. never) is
+  opening_told old (opening.BadVersion low) new known size small none is read kept next over = refused (opening.BadVersion low) (λ never. never) is
+  opening_told old (opening.DirectoryOutside at len) new known size small none is read kept next over = refused (opening.DirectoryOutside at len) (λ never. never) is
+  opening_told old (opening.TooManyRanges n) new known size small none is read kept next over = refused (opening.TooManyRanges n) (λ never. never) is
 
   -- ---- the passes
 
@@ -75,24 +77,24 @@ module _ (plain : PlainLimits) (limits : Limits) (F : List ℕ) (given : AreGive
   passes_more (Some b) n m le passes = grind (arith, nat_tests, passes)
 
   -- a pass ended by its budget
-  pass_told : (old new : ListerState) (f : ListFault) → old.counts.budget ≡ limits.budget → old.rooms.window ≡ limits.window → old.limit ≡ limits.name → old.source.size ≡ length F
-      → IsSameListing old new → KeepsTo new.counts.budget new.counts.fetched → IsPassFault old new f → (IsOfStore f.kind → ⊥) → IsUnsummarized F plain (plain_list_fault f)
-  pass_told old new f budget window limit size same keeps told never =
+  pass_told : (old new : ListerState) (f : ListFault) → IsOpenedIn limits F All old → IsSameListing old new → KeepsTo new.counts.budget new.counts.fetched → IsPassFault old new f → (IsOfStore f.kind → ⊥) → IsUnsummarized F plain (plain_list_fault f)
+  pass_told old new f begun same keeps told never =
+      let opened = opened_on limits F All old new begun same told.entry in
       let kind : f.kind ≡ kinds.Budget = is_budget f.kind never told.unobtained in
       let over : IsRefusedFetch (max new.rooms.window new.limit) f.offset f.size new.counts new.source.size =
       subst (λ (k : FaultKind). IsUnmade (max new.rooms.window new.limit) k f.offset f.size new.counts new.source.size) kind told.look.refused in
-      let given_budget : new.counts.budget ≡ limits.budget = same.budget ∙ budget in
+      let next = subst (λ (k : FaultKind). TellsSomeFetch (standpoint_in new) k f.offset f.size new.counts.fetched) kind told.look.next in
       let most : raised new.counts.fetched f.size ≤ new.counts.fetched + f.size = omega arith in
       let passes : IsTrue (is_passed limits.budget (new.counts.fetched + f.size)) =
-      subst (λ (b : Option ℕ). IsTrue (is_passed b (new.counts.fetched + f.size))) given_budget (passes_more new.counts.budget _ _ most over.passes) in
+      subst (λ (b : Option ℕ). IsTrue (is_passed b (new.counts.fetched + f.size))) opened.budget (passes_more new.counts.budget _ _ most over.passes) in
       let few : f.size ≤ max limits.window limits.name =
-      subst (λ n. f.size ≤ n) (ap (λ n. max n new.limit) (ap (λ (r : Rooms). r.window) same.rooms ∙ window) ∙ ap (max limits.window) (same.limit ∙ limit)) over.few in
+      subst (λ n. f.size ≤ n) (ap (λ n. max n new.limit) opened.window ∙ ap (max limits.window) opened.name) over.few in
       subst (IsUnsummarized F plain) (sym (plain_budget f kind))
-      (of_limit (budget_passed plain limits F All None new.counts.fetched f.offset f.size new.source.size given
-      (subst (λ (b : Option ℕ). KeepsTo b new.counts.fetched) given_budget keeps) passes tt over.inside (same.same_file.fetches.same_size ∙ size) few))
+      (of_limit (budget_passed plain limits F All None None new.counts.fetched f.offset f.size new.source.size given
+      (subst (λ (b : Option ℕ). KeepsTo b new.counts.fetched) opened.budget keeps) passes tt over.inside opened.size few
+      (listing_next plain limits F All None given new.counts.fetched f.offset f.size new opened (comes_next new new f.offset f.size (stays_on new) (λ stands. told.entry) next))))
 
-  pub call_told : (old new : ListerState) (fault : SummaryFault) → old.counts.budget ≡ limits.budget → old.rooms.window ≡ limits.window → old.limit ≡ limits.name → old.source.size ≡ length F
-      → IsSameListing old new → KeepsTo new.counts.budget new.counts.fetched → IsCallFault old new fault → (IsUnreadIn fault → ⊥) → IsUnsummarized F plain (summary_fault fault)
-  call_told old new (faults.Opening f) budget window limit size same keeps told never = absurd told
-  call_told old new (faults.List f) budget window limit size same keeps told never = pass_told old new f budget window limit size same keeps told never
-  call_told old new (faults.Source f) budget window limit size same keeps told never = absurd (never tt)
+  pub call_told : (old new : ListerState) (fault : SummaryFault) → IsOpenedIn limits F All old → IsSameListing old new → KeepsTo new.counts.budget new.counts.fetched → IsCallFault old new fault → (IsUnreadIn fault → ⊥) → IsUnsummarized F plain (summary_fault fault)
+  call_told old new (faults.Opening f) begun same keeps told never = absurd told
+  call_told old new (faults.List f) begun same keeps told never = pass_told old new f begun same keeps told never
+  call_told old new (faults.Source f) begun same keeps told never = absurd (never tt)

@@ -11,6 +11,7 @@ pub mod Table
 pub mod Texts
 pub mod ToolFault
 pub mod Names
+pub mod NextRead
 pub mod Copies
 pub mod Symbols
 pub mod Verdicts

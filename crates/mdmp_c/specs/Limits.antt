@@ -4,6 +4,7 @@ use Rattle.mdmp_source.specs.Range.{IsInside}
 use Rattle.mdmp_c.specs.declared.fault.PlainFault.{PlainFault}
 use Rattle.mdmp_c.specs.Fault.{aside_fault, budget_fault, wide_fault}
 use Rattle.mdmp_c.specs.declared.limits.PlainLimits.{PlainLimits}
+use Rattle.mdmp_c.specs.NextRead.{IsNextRead}
 use Rattle.mdmp_lister.specs.declared.choice.Choice.{Choice}
 use Rattle.mdmp_lister.specs.declared.choice.Choice.TheVariants.{All}
 use Rattle.mdmp_lister.specs.declared.fault.OpenFault.TheVariants.{MemoryLimit}
@@ -66,15 +67,17 @@ names_checked F choice limit = names_judged (items_of F limit (chosen F choice))
 
 -- ---- limits that were reached
 
--- a call did not read these bytes of F: with them it would have read more than the budget, without them it has not. They lie inside F,
--- and are at most as many as the window or a name may have. A call that reads at most so many bytes does so only below that budget.
-pub record PassesBudget (limits : PlainLimits) (F : List ℕ) (most : Option ℕ) (offset size : ℕ) : Type 0 where
+-- a call did not read these bytes of F, which came next: with them it would have read more than the budget, without them it has not. They
+-- lie inside F, and are at most as many as the window or a name may have. A call that reads at most so many bytes does so only below that
+-- budget.
+pub record PassesBudget (limits : PlainLimits) (F : List ℕ) (choice : Choice) (counted : Option Choice) (most : Option ℕ) (offset size : ℕ) : Type 0 where
   pub read : ℕ
   pub kept : read ≤ limits.budget
   pub passes : limits.budget < read + size
   pub bound : IfSome most (λ n. read + size ≤ n)
   pub inside : IsInside offset size (length F)
   pub few : size ≤ max limits.window limits.name
+  pub next : IsNextRead limits F choice counted read offset size
 
 -- a call did not read the CodeView record at this place of F: with it, it might have read more bytes of such records than the limit,
 -- without it, it has not
@@ -85,20 +88,21 @@ pub record PassesAside (limits : PlainLimits) (F : List ℕ) (offset size : ℕ)
   pub inside : IsInside offset size (length F)
   pub few : size ≤ 24 + limits.name
 
--- a call over these entries of F says that a limit was reached, and there is one: the budget, or that of memory, which is the first
--- that keeps F from being opened
-pub data ReachesLimit (limits : PlainLimits) (F : List ℕ) (choice : Choice) (most : Option ℕ) (told : PlainFault) : Type 0 where
-  reaches_budget : IsLimit limits.budget → (offset size : ℕ) → told ≡ budget_fault offset size → PassesBudget limits F most offset size → ReachesLimit limits F choice most told
+-- a call over these entries of F, which counts the ranges of some lists or none, says that a limit was reached, and there is one: the
+-- budget, or that of memory, which is the first that keeps F from being opened
+pub data ReachesLimit (limits : PlainLimits) (F : List ℕ) (choice : Choice) (counted : Option Choice) (most : Option ℕ) (told : PlainFault) : Type 0 where
+  reaches_budget : IsLimit limits.budget → (offset size : ℕ) → told ≡ budget_fault offset size → PassesBudget limits F choice counted most offset size
+      → ReachesLimit limits F choice counted most told
   reaches_memory : IsLimit limits.memory → (held : ℕ) → told ≡ wide_fault 72 held → (given : Limits) → AreGiven limits given
-      → opening_fault_within given F choice ≡ Some (MemoryLimit held) → ReachesLimit limits F choice most told
+      → opening_fault_within given F choice ≡ Some (MemoryLimit held) → ReachesLimit limits F choice counted most told
 
 -- a call that lists these entries
 abbrev pub EndsListing : PlainLimits → List ℕ → Choice → PlainFault → Type 0
-EndsListing limits F choice = ReachesLimit limits F choice (Some (most_read F choice limits.name (names_listed F choice limits.name)))
+EndsListing limits F choice = ReachesLimit limits F choice (Some choice) (Some (most_read F choice limits.name (names_listed F choice limits.name)))
 
 -- a call that checks all entries
 abbrev pub EndsChecking : PlainLimits → List ℕ → PlainFault → Type 0
-EndsChecking limits F = ReachesLimit limits F All (Some (most_read F All limits.name (names_checked F All limits.name)))
+EndsChecking limits F = ReachesLimit limits F All (Some All) (Some (most_read F All limits.name (names_checked F All limits.name)))
 
 -- a call that gives the text of a list, which also reads CodeView records: of these the budget counts nothing
 pub data EndsText (limits : PlainLimits) (F : List ℕ) (pdb : Bool) (told : PlainFault) : Type 0 where

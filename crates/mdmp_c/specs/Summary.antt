@@ -32,7 +32,7 @@ pub record KeepsWalk (plain : PlainLimits) (F : List ℕ) : Type 0 where
 pub data IsUnsummarized (F : List ℕ) (plain : PlainLimits) (told : PlainFault) : Type 0 where
   of_file : (fault : OpenFault) → directory_refusal F ≡ Some fault → told ≡ open_fault fault → IsUnsummarized F plain told
   of_memory : told ≡ no_memory → IsUnsummarized F plain told
-  of_limit : ReachesLimit plain F All None told → IsUnsummarized F plain told
+  of_limit : ReachesLimit plain F All None None told → IsUnsummarized F plain told
 
 -- nothing was given, for this reason
 pub record LeavesSummary (told : PlainFault) (status : ℕ) (fault : PlainFault) (before after : SummaryRow) : Type 0 where

@@ -4,6 +4,7 @@ use Rattle.mdmp_source.specs.Range.{IsInside}
 use Rattle.mdmp_c.specs.declared.fault.PlainFault.{PlainFault}
 use Rattle.mdmp_c.specs.Fault.{list_told, told_unless}
 use Rattle.mdmp_c.specs.Giving.{put_front, told_count}
+use Rattle.mdmp_c.specs.NextRead.{CameNext}
 use Rattle.mdmp_lister.specs.declared.choice.Choice.{Choice}
 use Rattle.mdmp_lister.specs.declared.fault.FaultKind.TheVariants as kinds
 use Rattle.mdmp_lister.specs.declared.fault.ListFault.{ListFault}
@@ -29,8 +30,8 @@ pub record PutsRows {T : Type 0} (row : Item → Option T) (items : List Item) (
   pub count_is : count ≡ told_count (length (filter_map row items))
   pub out : after ≡ put_front (filter_map row items) before
 
--- a lister v did not read these bytes, since with them it would have read more than its budget; without them it has not. With them it
--- would have read at most so many bytes, if that is said
+-- a lister v did not read these bytes, which came next, since with them it would have read more than its budget; without them it has not.
+-- With them it would have read at most so many bytes, if that is said
 pub record IsEndedAt (v : ListerState) (most : Option ℕ) (offset size : ℕ) : Type 0 where
   pub read : ℕ
   pub kept : KeepsTo v.counts.budget read
@@ -38,6 +39,7 @@ pub record IsEndedAt (v : ListerState) (most : Option ℕ) (offset size : ℕ) :
   pub bound : IfSome most (λ n. read + size ≤ n)
   pub inside : IsInside offset size v.source.size
   pub few : size ≤ max v.rooms.window v.limit
+  pub next : CameNext v read offset size
 
 -- the same of a fault of its listing
 abbrev pub EndsListAt : ListerState → ℕ → ListFault → Type 0

@@ -12,6 +12,9 @@ use Rattle.mdmp_lister.specs.Lister.{tail}
 use Rattle.mdmp_lister.specs.Sink.{names_of_all}
 use Rattle.mdmp_c.specs.Limits.{most_read}
 use Rattle.mdmp_c.specs.Table.{EndsListAt}
+use Rattle.mdmp_lister.proofs.Standpoints.{run_fetch}
+use Rattle.mdmp_summary.proofs.InEntries.{answers_fault, answers_item}
+use Rattle.mdmp_c.proofs.Coming.{lists_on}
 use Rattle.mdmp_c.proofs.Gathered.{Collects-end, Collects-fault, HasCollected-nothing, HasCollected-passed, HasCollected-taken, names_left}
 use Rattle.mdmp_c.proofs.Stopping.{listing_over}
 use Rattle.mdmp_c.proofs.collecting.collect.Goals as goal
@@ -20,6 +23,7 @@ pub loop-item-init : goal.loop-item-init
 loop-item-init g c = record {
   source = search rules;
   going = c.requires.going;
+  stands = λ in_chosen. in_chosen;
   same = record { header_is = refl; entries = refl; choice = refl; limit = refl; rooms = refl; aside = refl; start = refl; budget = refl };
   collected = λ file good run known. (run, (known, (HasCollected-nothing g.T.PlainRow.row_of run c.args.out.now, refl)));
 }
@@ -37,6 +41,8 @@ loop-item-preserved-in-Some g c =
     record {
       source = record { count = so_far.count + _; fetches = fetches_then _ _ _ _ _ so_far.fetches holds.list.spends.fetches };
       going = rw (c.in-Ok-Some.is, c.in-Ok-Some.field-0-is) at holds.list.stands.stop;
+      stands = λ in_chosen more. answers_item c.loop-item.lister c.next.follows.lender-at-none holds.list.same.choice holds.list.same.entries (c.loop-item.invariant.stands in_chosen) c.in-Ok-Some.item
+          (rw (c.in-Ok-Some.is, c.in-Ok-Some.field-0-is) at (holds.follows c.loop-item.invariant.going));
       same = same_lister-then _ _ _ c.loop-item.invariant.same holds.list.same;
       collected = λ file good run known.
           let before = c.loop-item.invariant.collected file good run known in
@@ -60,6 +66,8 @@ loop-item-preserved g c =
     record {
       source = record { count = so_far.count + _; fetches = fetches_then _ _ _ _ _ so_far.fetches holds.list.spends.fetches };
       going = rw (c.in-Ok-Some.is, c.in-Ok-Some.field-0-is) at holds.list.stands.stop;
+      stands = λ in_chosen more. answers_item c.loop-item.lister c.next.follows.lender-at-none holds.list.same.choice holds.list.same.entries (c.loop-item.invariant.stands in_chosen) c.in-Ok-Some.item
+          (rw (c.in-Ok-Some.is, c.in-Ok-Some.field-0-is) at (holds.follows c.loop-item.invariant.going));
       same = same_lister-then _ _ _ c.loop-item.invariant.same holds.list.same;
       collected = λ file good run known.
           let before = c.loop-item.invariant.collected file good run known in
@@ -89,6 +97,9 @@ returns-in-Err g c = λ file good run known.
     let refused = rw c.in-Err.is at spends.refused in
     let names = (rw c.in-Err.is at (spends.names_at_fault c.loop-item.invariant.going)).1 in
     let ended : c.in-Err.fault.kind ≡ kinds.Budget → EndsListAt old (most_read file old.choice old.limit (old.counts.names + names_of_all run.items)) c.in-Err.fault =
-    λ is. listing_over old new file (names_of_all run.items) c.counts-counts.result c.in-Err.fault (same_lister-then _ _ _ c.loop-item.invariant.same holds.same) (spends.fetches.same_size ∙ fetched.same_size)
-    counts.value (counts.of_file file content) counts.held counts.spent (omega (arith, names, ap maybe_name is, so_far.1.1.1)) refused is in
+    λ is. listing_over old new file (names_of_all run.items) c.counts-counts.result c.in-Err.fault
+    (lists_on old new (same_lister-then _ _ _ c.loop-item.invariant.same holds.same) (spends.fetches.same_content ∙ fetched.same_content) (spends.fetches.same_size ∙ fetched.same_size))
+    counts.value (counts.of_file file content) counts.held counts.spent (omega (arith, names, ap maybe_name is, so_far.1.1.1)) refused
+    (run_fetch c.loop-item.lister new c.in-Err.fault holds.same spends.fetches.same_content spends.fetches.same_size (rw c.in-Err.is at holds.places.current) (rw c.in-Err.is at (holds.next c.loop-item.invariant.going)))
+    (λ in_chosen. answers_fault c.loop-item.lister new holds.same.choice holds.same.entries (c.loop-item.invariant.stands in_chosen) c.in-Err.fault (rw c.in-Err.is at (c.next.follows.holds-at-none.follows c.loop-item.invariant.going))) is in
     Collects-fault g.T.PlainRow.row_of _ run so_far.0 _ c.in-Err.fault _ _ so_far.1.1.0 (c.in-Err.ensures.good file now) (c.in-Err.ensures.gives so_far.0 so_far.1.0) ended

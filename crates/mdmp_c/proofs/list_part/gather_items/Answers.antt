@@ -1,4 +1,4 @@
-use Rattle.std.proofs.Common.{◌≡◌, ◌∙◌, ◌+◌, Ok, Err, Some, true, false, ap, sym}
+use Rattle.std.proofs.Common.{◌≡◌, ◌∙◌, ◌+◌, Bool, Ok, Err, Some, true, false, ap, sym}
 use Rattle.mdmp_source.specs.SourceLaws.{fetches_then}
 use Rattle.mdmp_source.specs.Output.{OutState}
 use Rattle.mdmp_source.specs.Store.{IsGood}
@@ -6,7 +6,8 @@ use Rattle.mdmp_lister.proofs.Fetches.{IsGood-later}
 use Rattle.mdmp_lister.specs.Lister.{tail}
 use Rattle.mdmp_engines.proofs.Printing.{next_told, next_within}
 use Rattle.mdmp_engines.specs.Text.{next_lines}
-use Rattle.mdmp_engines.proofs.SameRuns.{run_then}
+use Rattle.mdmp_engines.proofs.SameRuns.{budget_later, run_then}
+use Rattle.mdmp_c.proofs.Coming.{runs_on}
 use Rattle.mdmp_c.proofs.Listed.{HasGiven-next, among_given, PutsRun-end, PutsRun-ended, lines_taken}
 use Rattle.mdmp_c.specs.Limits.{most_read}
 use Rattle.mdmp_c.specs.TextPart.{EndsTextAt}
@@ -31,11 +32,12 @@ returns-in-Err g c = λ file good run known skip room before part.
     let next = next_within c.args.form c.args.pdb file _ _ given.0 _ (Err c.in-Err.fault) _ so_far.run.limit (c.in-Err.ensures.lists file now.known given.0 given.1.0) in
     PutsRun-ended c.args.form c.args.pdb file c.args.lister.now.limit (EndsTextAt c.args.lister.now (most_read file c.args.lister.now.choice c.args.lister.now.limit (c.args.lister.now.counts.names + names_of_all run.items)) c.args.aside c.args.pdb run) run given.0 before _ skip room _ _ _ _ _ _ _ _ _ _ c.in-Err.fault _ given.1.1 next
     (ap (λ (o : OutState). o.taken) c.new-lines.ensures ∙ ap Some c.clear.ensures.items) (sym c.into_inner.ensures) (c.end_items.ensures skip room) (c.in-Err.ensures.leaves.good file now)
-    (text_over c.args.lister.now c.list_next.new.lister file run c.args.aside c.args.pdb c.counts-counts.result c.in-Err.fault (among_given c.args.form c.args.pdb file c.args.lister.now.limit run given.0 before skip room _ _ _ _ _ _ c.in-Err.fault given.1.1 next) (run_then _ _ _ so_far.run c.in-Err.ensures.same)
-    (c.in-Err.ensures.leaves.reads.fetches.fetches.same_size ∙ so_far.source.fetches.same_size) c.counts-counts.ensures.value
+    (text_over c.args.lister.now c.list_next.new.lister file run c.args.aside c.args.pdb c.counts-counts.result c.in-Err.fault (among_given c.args.form c.args.pdb file c.args.lister.now.limit run given.0 before skip room _ _ _ _ _ _ c.in-Err.fault given.1.1 next)
+    (runs_on _ _ (run_then _ _ _ so_far.run c.in-Err.ensures.same) (c.in-Err.ensures.leaves.reads.fetches.fetches.same_content ∙ so_far.source.fetches.same_content)
+    (c.in-Err.ensures.leaves.reads.fetches.fetches.same_size ∙ so_far.source.fetches.same_size)) c.counts-counts.ensures.value
     (c.counts-counts.ensures.of_file file (c.in-Err.ensures.leaves.reads.fetches.fetches.same_content ∙ now.known)) (HasNamed-fault _ _ _ so_far.named c.in-Err.ensures.names run known)
     c.counts-counts.ensures.held c.counts-counts.ensures.spent
-    c.in-Err.ensures.over (c.in-Err.ensures.aside so_far.aside))
+    (budget_later Bool Bool c.in-Err.fault c.args.lister.now c.loop-lines.lister c.list_next.new.lister so_far.stands c.in-Err.ensures.over) (c.in-Err.ensures.aside so_far.aside))
 
 pub loop-lines-preserved : goal.loop-lines-preserved
 loop-lines-preserved g c =
@@ -44,6 +46,7 @@ loop-lines-preserved g c =
     let rest = of.rest (ap Ok c.in-Ok-true.field-0-test) in
     record {
       going = rest.going;
+      stands = λ in_chosen. rest.stands (so_far.stands in_chosen);
       source = record { count = so_far.source.count + of.leaves.reads.fetches.count; fetches = fetches_then _ _ _ _ _ so_far.source.fetches of.leaves.reads.fetches.fetches };
       run = run_then _ _ _ so_far.run of.same;
       aside = (of.aside so_far.aside).kept;

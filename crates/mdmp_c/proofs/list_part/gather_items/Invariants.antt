@@ -4,6 +4,7 @@ use Rattle.mdmp_source.specs.Source.{FetchesSome}
 use Rattle.mdmp_source.specs.Store.{IsGood}
 use Rattle.mdmp_lister.specs.Format.Listing.{Run}
 use Rattle.mdmp_engines.proofs.Reached.{HasNamed}
+use Rattle.mdmp_summary.specs.InEntry.{StandsInChosen}
 use Rattle.mdmp_engines.specs.Engines.{IsSameRun}
 use Rattle.mdmp_c.specs.TextPart.{IsPartOf}
 use Rattle.mdmp_c.proofs.Listed.{HasGiven}
@@ -13,6 +14,7 @@ use Rattle.mdmp_c.proofs.list_part.gather_items.Given as goal
 abbrev pub invariant-loop-lines : goal.invariant-loop-lines
 invariant-loop-lines g l = record {
   going : l.lister.stop ≡ None;
+  stands : StandsInChosen l.initial.lister → StandsInChosen l.lister;
   source : FetchesSome l.initial.lister.source l.lister.source;
   run : IsSameRun l.initial.lister l.lister;
   aside : is_within l.aside l.lister.counts.aside.bytes ≡ true;

@@ -13,6 +13,7 @@ use Rattle.mdmp_engines.specs.declared.fault.ToolFault.{ToolFault}
 use Rattle.mdmp_print.specs.Forms.{dump_line_in}
 use Rattle.mdmp_engines.specs.Text.{run_text}
 use Rattle.mdmp_wire.specs.declared.header.Header.{Header}
+use Rattle.mdmp_c.proofs.Coming.{opened_in}
 use Rattle.mdmp_c.proofs.Ending.{Ends-refused, keeps_memory}
 use Rattle.mdmp_c.proofs.Listed.{Ends-part, all_parts, no_part}
 use Rattle.mdmp_c.proofs.Stopping.{least_read, most_listed, opening_over, sized, text_ended}
@@ -25,8 +26,8 @@ returns-in-Err c =
     let valid : AreLimits c.args.limits.now = c.in-Some.ensures.valid in
     Ends-refused (IsListPart c.args.form c.args.pdb c.args.skip file c.args.limits.now.name) file All (AreLimits c.args.limits.now) c.args.limits.now c.in-Some.limits c.in-Some.ensures
     (EndsText c.args.limits.now file c.args.pdb) (no_part c.args.form c.args.pdb file c.args.limits.now.name c.args.skip) (all_parts c.args.form c.args.pdb file c.args.limits.now.name c.args.skip)
-    c.in-Err.refused.fault _ _ _ _ _ valid (λ told. ends_text (opening_over c.args.limits.now c.in-Some.limits file All _ _ c.in-Err.refused.fault _ c.in-Some.ensures good.known (sized file c.new-source.result good.known c.new-source.ensures.content) (search rules)
-    (least_read file All c.args.limits.now.name _) c.in-Err.ensures.refused.fetches.kept c.in-Err.ensures.refused.over (c.in-Err.ensures.within file good.known) told))
+    c.in-Err.refused.fault _ _ _ _ _ valid (λ told. ends_text (opening_over c.args.limits.now c.in-Some.limits file All _ _ _ c.in-Err.refused.fault _ c.in-Some.ensures good.known (sized file c.new-source.result good.known c.new-source.ensures.content) (search rules) c.new-source.ensures.counts.0
+    (least_read file All c.args.limits.now.name _) c.in-Err.ensures.refused.fetches.kept c.in-Err.ensures.refused.fetches.next c.in-Err.ensures.refused.over (c.in-Err.ensures.within file good.known) told))
     (c.in-Err.ensures.opens file good.known) (c.in-Err.ensures.within file good.known) (c.in-Err.ensures.refused.fetches.good file good)
     (c.refuse-in-Err.ensures.status ∙ ap status_of c.open_fault.ensures) c.refuse-in-Err.ensures.count
     (c.refuse-in-Err.ensures.fault ∙ c.open_fault.ensures) refl
@@ -54,7 +55,7 @@ returns c =
     (new.list.read.header_is file good.known) named in
     let size : lister.source.size ≡ length file = new.fetches.same_size ∙ sized file c.new-source.result good.known c.new-source.ensures.content in
     let can : (f : ToolFault) → EndsTextAt lister (most_read file lister.choice lister.limit (lister.counts.names + names_of_all run.items)) c.in-Some.limits.aside pdb run f → EndsText c.args.limits.now file pdb (list_answer (Err f)) =
-    text_ended c.args.limits.now c.in-Some.limits file lister _ pdb c.in-Some.ensures new.list.counts.budget_is new.list.asked.window_room new.list.asked.limit_is size
+    text_ended c.args.limits.now c.in-Some.limits file lister _ pdb c.in-Some.ensures (opened_in _ All c.in-Some.limits file lister good.known size new.list)
     (most_listed file All name name lister new.list.asked.choice_is (new.list.asked.limit_is ∙ limit) new.list.counts.names refl) in
     Ends-part c.args.form pdb file name skip (AreLimits c.args.limits.now) (KeepsMemory c.args.limits.now file All) (EndsText c.args.limits.now file c.args.pdb) (EndsTextAt lister (most_read file lister.choice lister.limit (lister.counts.names + names_of_all run.items)) c.in-Some.limits.aside pdb run)
     (keeps_memory c.args.limits.now c.in-Some.limits file All None c.in-Some.ensures (c.in-Ok.ensures.within file good.known) (c.in-Ok.ensures.opens file good.known)) c.gather_list-answer.result c.give.result c.give.new.size c.give.new.fault c.args.out.now c.give.new.out _ _ _ _ valid can

@@ -11,6 +11,8 @@ use Rattle.mdmp_lister.specs.Memory.{IsRefusalWithin}
 use Rattle.mdmp_lister.specs.Sink.{names_of_all}
 use Rattle.mdmp_c.specs.Limits.{AreLimits, EndsListing, KeepsMemory, most_read, names_listed}
 use Rattle.mdmp_c.specs.Table.{IsEndedAt}
+use Rattle.mdmp_lister.specs.NextFetch.{TellsNextOpening}
+use Rattle.mdmp_c.proofs.Coming.{IsOpenedIn, opened_in}
 use Rattle.mdmp_c.proofs.Ending.{keeps_memory}
 use Rattle.mdmp_c.proofs.Remembered.{ReadsMemory-fault, ReadsMemory-refused}
 use Rattle.mdmp_c.proofs.Stopping.{ended_over, least_read, most_listed, opening_over, sized}
@@ -22,8 +24,9 @@ returns-in-Err c =
     let good : IsGood c.new-source.result.store file = search rules in
     let valid : AreLimits c.args.limits.now = c.in-Some.ensures.valid in
     ReadsMemory-refused file c.args.limits.now c.memory_lists.result c.args.address _ _ valid c.if-out-known.false c.memory_lists.ensures c.in-Some.limits c.in-Some.ensures c.in-Err.refused.fault _ _
-    (opening_over c.args.limits.now c.in-Some.limits file memory_lists _ _ c.in-Err.refused.fault _ c.in-Some.ensures good.known (sized file c.new-source.result good.known c.new-source.ensures.content) (search rules)
-    (least_read file memory_lists c.args.limits.now.name _) c.in-Err.ensures.refused.fetches.kept c.in-Err.ensures.refused.over
+    (opening_over c.args.limits.now c.in-Some.limits file memory_lists _ _ _ c.in-Err.refused.fault _ c.in-Some.ensures good.known (sized file c.new-source.result good.known c.new-source.ensures.content) (search rules) c.new-source.ensures.counts.0
+    (least_read file memory_lists c.args.limits.now.name _) c.in-Err.ensures.refused.fetches.kept
+    (subst (λ (choice : Choice). TellsNextOpening (Some choice) c.in-Some.limits c.new-source.result c.in-Err.refused.fault c.in-Err.refused.source) c.memory_lists.ensures c.in-Err.ensures.refused.fetches.next) c.in-Err.ensures.refused.over
     (subst (λ (choice : Choice). IsRefusalWithin c.in-Some.limits file choice c.in-Err.refused.fault) c.memory_lists.ensures (c.in-Err.ensures.within file good.known)))
     (c.in-Err.ensures.opens file good.known) (c.in-Err.ensures.within file good.known) (c.in-Err.ensures.refused.fetches.good file good)
     (ap status_of c.open_fault.ensures) c.open_fault.ensures
@@ -46,7 +49,8 @@ returns-in-Err-list_ranges c =
     let most : most_read file lister.choice lister.limit (lister.counts.names + names_of_all run.items) ≡ most_read file memory_lists c.args.limits.now.name (names_listed file memory_lists c.args.limits.now.name) =
     most_listed file memory_lists name c.args.limits.now.name lister (new.list.asked.choice_is ∙ c.memory_lists.ensures) new.list.asked.limit_is new.list.counts.names c.in-Some.ensures.name in
     let can : f.kind ≡ kinds.Budget → EndsListing c.args.limits.now file memory_lists (budget_fault f.offset f.size) = λ is.
-    ended_over c.args.limits.now c.in-Some.limits file memory_lists _ lister f.offset f.size c.in-Some.ensures new.list.counts.budget_is new.list.asked.window_room new.list.asked.limit_is size
+    ended_over c.args.limits.now c.in-Some.limits file memory_lists (Some memory_lists) _ lister f.offset f.size c.in-Some.ensures
+    (subst (λ (choice : Choice). IsOpenedIn c.in-Some.limits file choice lister) c.memory_lists.ensures (opened_in _ choice c.in-Some.limits file lister good.known size new.list))
     (subst (λ n. IsEndedAt lister (Some n) f.offset f.size) most (c.in-Err-list_ranges.ensures.ended file now run listed is)) in
     let keeps : KeepsMemory c.args.limits.now file memory_lists =
     subst (KeepsMemory c.args.limits.now file) c.memory_lists.ensures

@@ -10,6 +10,7 @@ use Rattle.mdmp_c.specs.PartsOutside.{gives_all, gives_some, outside_parts}
 use Rattle.mdmp_c.specs.SummaryRows.{outside_fault}
 use Rattle.mdmp_c.proofs.Gathered.{put_front-nothing}
 use Rattle.mdmp_c.proofs.Losing.{bad-all, name-taken, never_stopped, rows-taken}
+use Rattle.mdmp_c.proofs.Coming.{lists_on}
 use Rattle.mdmp_c.proofs.Stopping.{is_budget, listing_over}
 use Rattle.mdmp_c.proofs.outside_rows.take_rows.Goals as goal
 
@@ -51,8 +52,9 @@ returns-in-Err-At-clause-gives g c = λ file good.
     let counts = c.counts-counts.ensures in
     let names = ap (λ (choice : Choice). names_checked file choice lister.limit) c.requires.left.choice_is in
     let reached = c.in-Err-At.ensures.names file good.known in
-    let can = listing_over lister c.check_parts_into.new.lister file (names_checked file lister.choice lister.limit) c.counts-counts.result fault c.in-Err-At.ensures.same told.fetches.same_size counts.value
-    (counts.of_file file (told.fetches.same_content ∙ good.known)) counts.held counts.spent (omega (arith, reached, names)) (c.in-Err-At.ensures.refused fault c.in-Err-At.field-0-is) kind in
+    let ends = rw c.in-Err-At.field-0-is at c.in-Err-At.ensures.ends in
+    let can = listing_over lister c.check_parts_into.new.lister file (names_checked file lister.choice lister.limit) c.counts-counts.result fault (lists_on lister c.check_parts_into.new.lister c.in-Err-At.ensures.same told.fetches.same_content told.fetches.same_size) counts.value
+    (counts.of_file file (told.fetches.same_content ∙ good.known)) counts.held counts.spent (omega (arith, reached, names)) (c.in-Err-At.ensures.refused fault c.in-Err-At.field-0-is) ends.next ends.chosen kind in
     gives_some told.rows
     record { rest = first.0; first = first.1; told = fault; told_is = ap (λ (j : Judged). j.fault) judged; kind = kind; reached = can }
     record {

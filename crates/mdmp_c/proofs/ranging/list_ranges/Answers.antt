@@ -1,9 +1,12 @@
-use Rattle.std.proofs.Common.{◌∙◌, ◌++◌, ap, arith}
+use Rattle.std.proofs.Common.{Err, ◌∙◌, ◌++◌, ap, arith}
 use Rattle.std.proofs.lemmas.List.Sums.{sum_by-append}
 use Rattle.mdmp_lister.specs.Format.Listing.{Run}
 use Rattle.mdmp_lister.specs.Format.Numbers.{names_of}
 use Rattle.mdmp_lister.specs.Sink.{names_of_all}
 use Rattle.mdmp_lister.proofs.Unseen.{never_stopped, ranges-all}
+use Rattle.mdmp_lister.specs.declared.sink.RunFault.TheVariants as runs
+use Rattle.mdmp_summary.proofs.InEntries.{run_ends}
+use Rattle.mdmp_c.proofs.Coming.{lists_on}
 use Rattle.mdmp_c.proofs.Stopping.{listing_over}
 use Rattle.mdmp_c.proofs.ranging.list_ranges.Goals as goal
 
@@ -33,8 +36,9 @@ returns-in-Err-At-clause-ended g c = λ file good left known is.
     let rest = (run.left left known).1.1.0 in
     let counts = c.counts-counts.ensures in
     let all = ap (λ (r : Run). names_of_all r.items) rest.1 in
-    listing_over c.args.lister.now _ file (names_of_all left.items) c.counts-counts.result c.in-Err-At.fault of.same run.fetches.same_size counts.value (counts.of_file file (run.fetches.same_content ∙ good.known))
-    counts.held counts.spent (omega (arith, run.names.1, all, sum_by-append names_of run.items rest.0.items)) (of.refused c.in-Err-At.fault c.in-Err-At.field-0-is) is
+    listing_over c.args.lister.now _ file (names_of_all left.items) c.counts-counts.result c.in-Err-At.fault (lists_on c.args.lister.now _ of.same run.fetches.same_content run.fetches.same_size) counts.value (counts.of_file file (run.fetches.same_content ∙ good.known))
+    counts.held counts.spent (omega (arith, run.names.1, all, sum_by-append names_of run.items rest.0.items)) (of.refused c.in-Err-At.fault c.in-Err-At.field-0-is)
+    (run.next c.requires.going) (run_ends c.args.lister.now c.list_into.new.self run.items (Err (runs.At c.in-Err-At.fault)) of.same.choice of.same.entries (run.follows c.requires.going)) is
 
 pub returns-in-Err-Stopped-clause-lists : goal.returns-in-Err-Stopped-clause-lists
 returns-in-Err-Stopped-clause-lists g c = let run = rw c.in-Err-Stopped.field-0-is at c.in-Err-Stopped.ensures.runs in absurd (never_stopped run.items _ _ run.handed)

@@ -9,6 +9,7 @@ use Rattle.mdmp_c.specs.Limits.{AreLimits, EndsListing, KeepsMemory, most_read, 
 use Rattle.mdmp_c.specs.Table.{Collects, EndsListAt, IsEndedAt, IsTable}
 use Rattle.mdmp_lister.specs.declared.fault.ListFault.{ListFault}
 use Rattle.mdmp_lister.specs.Sink.{names_of_all}
+use Rattle.mdmp_c.proofs.Coming.{opened_in}
 use Rattle.mdmp_c.proofs.Ending.{Ends-collected, Ends-refused, all_rows, keeps_memory, no_rows}
 use Rattle.mdmp_c.proofs.Stopping.{ended_over, least_read, most_listed, opening_over, sized}
 use Rattle.mdmp_c.proofs.table.give_rows.Goals as goal
@@ -20,8 +21,8 @@ returns-in-Err g c =
     let valid : AreLimits c.args.limits.now = c.in-Some.ensures.valid in
     Ends-refused (IsTable g.T.PlainRow.row_of file c.args.choice c.args.limits.now.name) file c.args.choice (AreLimits c.args.limits.now) c.args.limits.now c.in-Some.limits c.in-Some.ensures
     (EndsListing c.args.limits.now file c.args.choice) (no_rows g.T.PlainRow.row_of file c.args.choice c.args.limits.now.name) (all_rows g.T.PlainRow.row_of file c.args.choice c.args.limits.now.name)
-    c.in-Err.refused.fault _ _ _ _ _ valid (opening_over c.args.limits.now c.in-Some.limits file c.args.choice _ _ c.in-Err.refused.fault _ c.in-Some.ensures good.known (sized file c.new-source.result good.known c.new-source.ensures.content) (search rules)
-    (least_read file c.args.choice c.args.limits.now.name _) c.in-Err.ensures.refused.fetches.kept c.in-Err.ensures.refused.over (c.in-Err.ensures.within file good.known))
+    c.in-Err.refused.fault _ _ _ _ _ valid (opening_over c.args.limits.now c.in-Some.limits file c.args.choice _ _ _ c.in-Err.refused.fault _ c.in-Some.ensures good.known (sized file c.new-source.result good.known c.new-source.ensures.content) (search rules) c.new-source.ensures.counts.0
+    (least_read file c.args.choice c.args.limits.now.name _) c.in-Err.ensures.refused.fetches.kept c.in-Err.ensures.refused.fetches.next c.in-Err.ensures.refused.over (c.in-Err.ensures.within file good.known))
     (c.in-Err.ensures.opens file good.known) (c.in-Err.ensures.within file good.known) (c.in-Err.ensures.refused.fetches.good file good)
     (c.refuse-in-Err.ensures.status ∙ ap status_of c.open_fault.ensures) c.refuse-in-Err.ensures.count
     (c.refuse-in-Err.ensures.fault ∙ c.open_fault.ensures) refl
@@ -44,7 +45,7 @@ returns g c =
     most_listed file choice c.in-Some.limits.name c.args.limits.now.name lister new.list.asked.choice_is new.list.asked.limit_is new.list.counts.names name in
     let MayEnd = EndsListAt lister (most_read file lister.choice lister.limit (lister.counts.names + names_of_all run.items)) in
     let can : (f : ListFault) → MayEnd f → EndsListing c.args.limits.now file choice (budget_fault f.offset f.size) =
-    λ f ended. ended_over c.args.limits.now c.in-Some.limits file choice _ lister f.offset f.size c.in-Some.ensures new.list.counts.budget_is new.list.asked.window_room new.list.asked.limit_is size
+    λ f ended. ended_over c.args.limits.now c.in-Some.limits file choice (Some choice) _ lister f.offset f.size c.in-Some.ensures (opened_in _ choice c.in-Some.limits file lister good.known size new.list)
     (subst (λ n. IsEndedAt lister (Some n) f.offset f.size) most ended) in
     let told = subst
     (λ (n : ℕ). Collects g.T.PlainRow.row_of MayEnd (listing file choice n) c.collect-collected.result.count c.collect-collected.result.fault c.args.out.now c.collect-collected.new.out)

@@ -7,7 +7,8 @@ use Rattle.mdmp_lister.specs.declared.choice.Choice.TheVariants.{All}
 use Rattle.mdmp_c.specs.Texts.{IsCheck}
 use Rattle.mdmp_c.specs.ToolFault.{check_answer}
 use Rattle.mdmp_source.specs.Store.{IsGood}
-use Rattle.mdmp_c.proofs.Stopping.{check_keeps, check_over, sized}
+use Rattle.mdmp_c.proofs.CheckEnded.{check_keeps, check_over}
+use Rattle.mdmp_c.proofs.Stopping.{sized}
 use Rattle.mdmp_c.proofs.Told.{Ends-given, IsCheck-told, IsTellable}
 use Rattle.mdmp_c.proofs.texts.check_in.Goals as goal
 
@@ -23,7 +24,7 @@ returns c =
     let read = run.tells.good file good in
     let runs = run.checks file good.known in
     let MayTell = EndsChecking c.args.limits.now file in
-    let can = check_over c.args.limits.now c.in-Some.limits file c.new-source.result _ answer c.in-Some.ensures good.known (sized file c.new-source.result good.known c.new-source.ensures.content) (search rules)
+    let can = check_over c.args.limits.now c.in-Some.limits file c.new-source.result _ answer c.in-Some.ensures good.known (sized file c.new-source.result good.known c.new-source.ensures.content) (search rules) c.new-source.ensures.counts.0
     (run.reads.fetches.fetches.same_content ∙ good.known) run.reads.fetches.fetches.same_size run.through in
     let kept = KeepsMemory c.args.limits.now file All in
     let keep = check_keeps c.args.limits.now c.in-Some.limits file c.new-source.result _ answer c.args.form _ _ c.in-Some.ensures good.known run.through runs in

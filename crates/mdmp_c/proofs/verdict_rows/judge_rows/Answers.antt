@@ -5,6 +5,8 @@ use Rattle.mdmp_engines.specs.CheckText.{bad_count}
 use Rattle.mdmp_c.specs.Giving.{put_front, told_count}
 use Rattle.mdmp_c.specs.declared.verdict_rows.Judged.{Judged}
 use Rattle.mdmp_c.specs.Verdicts.{judges_all, judges_some, verdict_row}
+use Rattle.mdmp_summary.proofs.InEntries.{check_ends}
+use Rattle.mdmp_c.proofs.Coming.{lists_on}
 use Rattle.mdmp_c.proofs.Stopping.{is_budget, listing_over}
 use Rattle.mdmp_c.proofs.Gathered.{put_front-nothing}
 use Rattle.mdmp_lister.specs.Format.Numbers.{maybe_name}
@@ -56,8 +58,10 @@ returns-in-Err-At-clause-judges g c = λ file good.
     let read = rw c.in-Err-At.field-0-is at (checks.read file good.known) in
     let most : names_judged checks.items vs ≤ names_checked file lister.choice lister.limit = names_judged_most file lister.choice lister.limit checks.items vs _ read first in
     let reached = rw c.in-Err-At.field-0-is at checks.counts.most_names in
-    let can = listing_over lister c.check_into.new.self file (names_checked file lister.choice lister.limit) c.counts-counts.result fault checks.same size counts.value (counts.of_file file (checks.fetches.same_content ∙ good.known))
-    counts.held counts.spent (omega (arith, reached, most, ap maybe_name kind)) (c.in-Err-At.ensures.refused fault c.in-Err-At.field-0-is) kind in
+    let ended = rw c.in-Err-At.field-0-is at checks in
+    let can = listing_over lister c.check_into.new.self file (names_checked file lister.choice lister.limit) c.counts-counts.result fault (lists_on lister c.check_into.new.self checks.same checks.fetches.same_content size) counts.value (counts.of_file file (checks.fetches.same_content ∙ good.known))
+    counts.held counts.spent (omega (arith, reached, most, ap maybe_name kind)) (c.in-Err-At.ensures.refused fault c.in-Err-At.field-0-is)
+    ended.next (λ stands. check_ends _ _ _ _ _ fault ended) kind in
     judges_some vs
     record { rest = first.0; first = first.1; told = fault; told_is = ap (λ (j : Judged). j.fault) judged; kind = kind; reached = can }
     record {

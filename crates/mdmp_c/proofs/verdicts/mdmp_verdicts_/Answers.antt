@@ -11,6 +11,7 @@ use Rattle.mdmp_lister.specs.declared.fault.ListFault.{ListFault}
 use Rattle.mdmp_c.specs.Limits.{AreLimits, EndsChecking, KeepsMemory, most_read, names_checked}
 use Rattle.mdmp_c.specs.Table.{EndsListAt, IsEndedAt}
 use Rattle.mdmp_c.specs.Verdicts.{AreVerdicts, Judges}
+use Rattle.mdmp_c.proofs.Coming.{opened_in}
 use Rattle.mdmp_c.proofs.Ending.{Ends-refused, keeps_memory}
 use Rattle.mdmp_c.proofs.Judging.{Ends-judged, all_verdicts, no_verdicts}
 use Rattle.mdmp_c.proofs.Stopping.{ended_over, least_read, most_checked, opening_over, sized}
@@ -22,8 +23,8 @@ returns-in-Err c =
     let good : IsGood c.new-source.result.store file = search rules in
     let valid : AreLimits c.args.limits.now = c.in-Some.ensures.valid in
     Ends-refused (AreVerdicts file c.args.limits.now.name) file All (AreLimits c.args.limits.now) c.args.limits.now c.in-Some.limits c.in-Some.ensures (EndsChecking c.args.limits.now file) (no_verdicts file c.args.limits.now.name)
-    (all_verdicts file c.args.limits.now.name) c.in-Err.refused.fault _ _ _ _ _ valid (opening_over c.args.limits.now c.in-Some.limits file All _ _ c.in-Err.refused.fault _ c.in-Some.ensures good.known (sized file c.new-source.result good.known c.new-source.ensures.content) (search rules)
-    (least_read file All c.args.limits.now.name _) c.in-Err.ensures.refused.fetches.kept c.in-Err.ensures.refused.over (c.in-Err.ensures.within file good.known))
+    (all_verdicts file c.args.limits.now.name) c.in-Err.refused.fault _ _ _ _ _ valid (opening_over c.args.limits.now c.in-Some.limits file All _ _ _ c.in-Err.refused.fault _ c.in-Some.ensures good.known (sized file c.new-source.result good.known c.new-source.ensures.content) (search rules) c.new-source.ensures.counts.0
+    (least_read file All c.args.limits.now.name _) c.in-Err.ensures.refused.fetches.kept c.in-Err.ensures.refused.fetches.next c.in-Err.ensures.refused.over (c.in-Err.ensures.within file good.known))
     (c.in-Err.ensures.opens file good.known) (c.in-Err.ensures.within file good.known) (c.in-Err.ensures.refused.fetches.good file good)
     (c.refuse-in-Err.ensures.status ∙ ap status_of c.open_fault.ensures) c.refuse-in-Err.ensures.count
     (c.refuse-in-Err.ensures.fault ∙ c.open_fault.ensures) refl
@@ -46,7 +47,7 @@ returns c =
     let size : lister.source.size ≡ length file = new.fetches.same_size ∙ sized file c.new-source.result good.known c.new-source.ensures.content in
     let most = most_checked file All c.args.limits.now.name lister new.list.asked.choice_is limit new.list.counts.names in
     let can : (f : ListFault) → MayEnd f → EndsChecking c.args.limits.now file (budget_fault f.offset f.size) =
-    λ f ended. ended_over c.args.limits.now c.in-Some.limits file All _ lister f.offset f.size c.in-Some.ensures new.list.counts.budget_is new.list.asked.window_room new.list.asked.limit_is size
+    λ f ended. ended_over c.args.limits.now c.in-Some.limits file All (Some All) _ lister f.offset f.size c.in-Some.ensures (opened_in _ All c.in-Some.limits file lister good.known size new.list)
     (subst (λ n. IsEndedAt lister (Some n) f.offset f.size) most ended) in
     Ends-judged file c.args.limits.now.name (AreLimits c.args.limits.now) (KeepsMemory c.args.limits.now file All) (EndsChecking c.args.limits.now file) MayEnd c.judge-judged.result c.tell.result c.tell.new.count c.ending_told.result
     c.tell.new.fault c.args.out.now c.judge-judged.new.out valid
