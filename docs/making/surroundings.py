@@ -14,6 +14,7 @@ TABLE = ROOT / "docs/reference/surroundings.toml"
 
 # What a test makes fail, by its name: the first of these that fits its module and its own words.
 SHOWN = [
+    ("the bytes of a heap", r"heaps::"),
     ("the memory limit", r"memory_limit::"),
     ("the read limit", r"budget"),
     ("no allocation", r"for_no_memory|takes_no_memory"),
@@ -125,6 +126,7 @@ What calls return when something fails is [proved](../promises.md). These tests 
 |---|---|
 | an allocation | Allocation number k fails, for k from 0 on, until the call succeeds. The call gives back what it took. |
 | no allocation | A heap that counts sees no allocation after opening. |
+| the bytes of a heap | For a large file, a heap that counts sees the bytes that [promises.md](../promises.md#limits) states, each once. With a limit that is one byte too small, it sees only those before the test of the limit. |
 | a read | The source gives one byte per call, and call number k fails. |
 | a write | The output takes one byte per call, and call number k fails. |
 | a call of the system | For files on disk, call number k fails. |

@@ -73,12 +73,14 @@ fn opened_without<R: Files>(rt: &R, alloc: Global, path: &str, growth: u64) -> (
 #[test]
 fn block_of_a_file_is_one_growth_which_may_be_refused(rt: HostRuntime) {
     fs::write(&rt, "block", "abcdef").expect(&rt, "a file");
-    let counts = HeapCounts {
-        growths: 1,
-        bytes: 16_384,
-        out: 0,
-    };
-    for (growth, is_opened) in &[(0, false), (1, true)] {
+    for (growth, is_opened, peak) in &[(0, false, 0), (1, true, 16_384)] {
+        let counts = HeapCounts {
+            growths: 1,
+            bytes: 16_384,
+            out: 0,
+            held: 0,
+            peak: *peak,
+        };
         let found = opened_without(&rt, rt.alloc(), "block", *growth);
         assert_same_at(&rt, growth, found, (*is_opened, counts));
     }

@@ -7,6 +7,8 @@ mod dump;
 #[cfg(test)]
 mod files;
 #[cfg(test)]
+mod heaps;
+#[cfg(test)]
 mod memory_limit;
 #[cfg(test)]
 mod refusals;

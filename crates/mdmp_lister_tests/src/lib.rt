@@ -37,6 +37,8 @@ mod growths;
 #[cfg(test)]
 mod heads;
 #[cfg(test)]
+mod heaps;
+#[cfg(test)]
 mod listings;
 #[cfg(test)]
 mod memory;

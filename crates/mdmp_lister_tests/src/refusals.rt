@@ -30,9 +30,9 @@ pub struct MeteredOpening {
     pub out: u64,
 }
 
-/// Counts all items of a walker, at most a hundred.
+/// Counts all items of a walker, at most 20,000.
 fn count_items<S: Store + Drop, A: Allocator + Copy>(walker: &mut Walker<S, A>) -> ListOutcome {
-    for count in 0..100 {
+    for count in 0..20_000 {
         match step_of(walker) {
             Ok(Some(_)) => {}
             Ok(None) => return all(count, 0),
@@ -45,7 +45,7 @@ fn count_items<S: Store + Drop, A: Allocator + Copy>(walker: &mut Walker<S, A>) 
             }
         }
     }
-    all(100, 0)
+    all(20_000, 0)
 }
 
 /// Counts all items of a walker, and then hands its source back.
@@ -67,7 +67,7 @@ fn walk_over<S: Store + Drop, A: Allocator + Copy>(
 }
 
 /// Counts all items of a file, and then hands its source back.
-fn run_by<S: Store + Drop, A: Allocator + Copy>(
+pub fn run_by<S: Store + Drop, A: Allocator + Copy>(
     alloc: A,
     source: Source<S>,
     limits: Limits,

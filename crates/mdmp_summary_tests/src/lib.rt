@@ -15,6 +15,8 @@ mod files;
 #[cfg(test)]
 mod given;
 #[cfg(test)]
+mod heaps;
+#[cfg(test)]
 mod ids;
 #[cfg(test)]
 mod lines;
@@ -22,6 +24,8 @@ mod lines;
 mod objects;
 #[cfg(test)]
 mod prefixes;
+#[cfg(test)]
+mod regions;
 #[cfg(test)]
 mod same;
 #[cfg(test)]

@@ -1,11 +1,12 @@
-//! Small files, what is printed of them, how much an output takes, and a heap that counts and refuses, for the
-//! tests of the other crates.
+//! Small files and large ones, what is printed of them, how much an output takes, and a heap that counts and refuses,
+//! for the tests of the other crates.
 //!
 //! No function here has a contract, but for those of a trait, so that a test knows nothing of what it
 //! called, but compares what it was given, and its own proof stays short.
 #![tactic(auto)]
 
 mod files;
+mod large_files;
 mod memory_files;
 mod metered_heap;
 mod module_files;
@@ -15,6 +16,10 @@ mod texts;
 
 pub use crate::files::{
     entry, faulty_file, file_of_numbers, file_of_parts, header_of, thousand_entries_file,
+};
+pub use crate::large_files::{
+    EMPTY_COMMENT, EMPTY_PART, LARGE, LARGE_PART, LONG_COMMENT, LONG_NAME, MANY_ENTRIES,
+    MANY_RANGES, MANY_THREADS, OneStream, one_stream_file,
 };
 pub use crate::memory_files::{
     ABCD_RANGE, FourByteRange, ListedRange, NO_RANGE, WXYZ_RANGE, endless_ranges_file, large_file,

@@ -21,6 +21,10 @@ pub struct HeapCounts {
     pub bytes: u64,
     /// How many blocks were handed on and not given back.
     pub out: u64,
+    /// How many bytes these have.
+    pub held: u64,
+    /// The most bytes that such blocks had at once.
+    pub peak: u64,
 }
 
 #[derive(Clone, Copy)]
@@ -45,6 +49,8 @@ impl<B: Allocator> MeteredHeap<B> {
             growths: 0,
             bytes: 0,
             out: 0,
+            held: 0,
+            peak: 0,
         };
         MeteredHeap {
             inner,
@@ -75,25 +81,29 @@ fn admits(metering: &Cell<Metering>, size: usize) -> bool {
         Refusal::Only(number) => counts.growths == number,
         Refusal::From(number) => counts.growths >= number,
     };
-    let out = if is_refused { 0 } else { 1 };
+    let (out, more) = if is_refused { (0, 0) } else { (1, size as u64) };
+    let held = counts.held.wrapping_add(more);
     metering.set(Metering {
         refusal,
         counts: HeapCounts {
             growths: counts.growths.wrapping_add(1),
             bytes: counts.bytes.wrapping_add(size as u64),
             out: counts.out.wrapping_add(out),
+            held,
+            peak: counts.peak.max(held),
         },
     });
     !is_refused
 }
 
-/// Counts a block that is given back.
-fn takes_back(metering: &Cell<Metering>) {
+/// Counts a block of so many bytes that is given back.
+fn takes_back(metering: &Cell<Metering>, size: usize) {
     let Metering { refusal, counts } = metering.get();
     metering.set(Metering {
         refusal,
         counts: HeapCounts {
             out: counts.out.wrapping_sub(1),
+            held: counts.held.wrapping_sub(size as u64),
             ..counts
         },
     });
@@ -110,7 +120,7 @@ unsafe impl<B: Allocator> Allocator for MeteredHeap<B> {
     }
 
     unsafe fn deallocate(&self, ptr: *mut u8, size: usize, align: usize) {
-        takes_back(&self.metering);
+        takes_back(&self.metering, size);
         self.inner.deallocate(ptr, size, align);
     }
 }

@@ -21,6 +21,8 @@ mod files;
 #[cfg(test)]
 mod growths;
 #[cfg(test)]
+mod heaps;
+#[cfg(test)]
 mod line_outs;
 #[cfg(test)]
 mod lists;

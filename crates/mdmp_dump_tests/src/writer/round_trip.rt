@@ -7,7 +7,7 @@ use crate::files::{
 use crate::same::{assert_same, assert_same_at, assert_that};
 use linked_list_allocator::LocalHeap;
 use mdmp_dump::{Dump, ReadFault, Stream};
-use mdmp_lister::{Choice, Limits};
+use mdmp_lister::{Choice, FaultKind, Limits, ListFault};
 use mdmp_test_support::large_file;
 use mdmp_writer::{LayoutFault, RoundTripFault, ToMemoryFault, to_memory, write_and_read};
 use std::alloc::Global;
@@ -23,20 +23,20 @@ struct BackRow {
     fault: Option<RoundTripFault>,
 }
 
-/// The least window, names of at most so many bytes, and a limit of memory.
+/// The least window, names of at most so many bytes, a read limit and a limit of memory.
 macro_rules! within {
-    ($name:expr, $memory:expr) => {
+    ($name:expr, $budget:expr, $memory:expr) => {
         Limits {
             window: 168,
             name: $name,
-            budget: None,
+            budget: $budget,
             memory: $memory,
             aside: None,
         }
     };
 }
 
-const BACK: [BackRow; 6] = [
+const BACK: [BackRow; 8] = [
     BackRow {
         name: "six streams",
         reading: SIX_READING,
@@ -47,14 +47,14 @@ const BACK: [BackRow; 6] = [
     BackRow {
         name: "a name of the limit",
         reading: SYSTEM_READING,
-        limits: within!(28, None),
+        limits: within!(28, None, None),
         parts: 0,
         fault: None,
     },
     BackRow {
         name: "a name past the limit",
         reading: SYSTEM_READING,
-        limits: within!(27, None),
+        limits: within!(27, None, None),
         parts: 0,
         fault: Some(RoundTripFault::Read(ReadFault::NameTooLong {
             entry: 0,
@@ -73,16 +73,37 @@ const BACK: [BackRow; 6] = [
     BackRow {
         name: "a limit of memory that suffices",
         reading: SYSTEM_READING,
-        limits: within!(28, Some(208)),
+        limits: within!(28, None, Some(208)),
         parts: 0,
         fault: None,
     },
     BackRow {
         name: "a limit of memory that does not",
         reading: SYSTEM_READING,
-        limits: within!(28, Some(207)),
+        limits: within!(28, None, Some(207)),
         parts: 0,
         fault: Some(RoundTripFault::Memory),
+    },
+    // The header, an entry, the record, and a name of 28 bytes with its length.
+    BackRow {
+        name: "a read limit that suffices",
+        reading: SYSTEM_READING,
+        limits: within!(28, Some(132), None),
+        parts: 0,
+        fault: None,
+    },
+    BackRow {
+        name: "a read limit that does not",
+        reading: SYSTEM_READING,
+        limits: within!(28, Some(99), None),
+        parts: 0,
+        fault: Some(RoundTripFault::Read(ReadFault::List(ListFault {
+            entry: 0,
+            index: None,
+            kind: FaultKind::Budget,
+            offset: 44,
+            size: 56,
+        }))),
     },
 ];
 
