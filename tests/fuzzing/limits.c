@@ -123,36 +123,26 @@ void test_memory_limit(const reading *given) {
     }
 }
 
-static bool is_aside_short(const reading *given, size_t number, uint64_t aside, uint64_t *count) {
-    mdmp_limits limits = LIMITS;
-    limits.aside = aside;
-    const filled within = fill_within(given, number, &limits);
-    *count = within.count;
-    return within.fault.kind == MDMP_FAULT_ASIDE_LIMIT;
-}
-
-/* The CodeView records that a list reads count for themselves. With more of them the list goes on to the next. */
+/* The CodeView records that a list reads count for themselves. With the bytes that are missing the list goes on to the next
+ * record, and with one less than the first has it reads none. */
 void test_aside(const reading *given) {
     const size_t number = below(2) == 0 ? FILL_LIST : FILL_LIST_JSON;
     mdmp_limits limits = LIMITS;
-    uint64_t less = 0, enough = 0, count = 0, longer;
-    while (is_aside_short(given, number, enough, &longer) && enough < 4096) {
-        ASSERT(longer >= count);
-        less = enough;
-        count = longer;
-        enough = 2 * enough + 24;
-    }
-    while (enough - less > 1) {
-        const uint64_t middle = less + (enough - less) / 2;
-        if (is_aside_short(given, number, middle, &longer)) {
-            less = middle;
-        } else {
-            enough = middle;
-        }
-        ASSERT(longer >= count);
-    }
     limits.aside = 0; /* without `pdb` no CodeView record is read */
     ASSERT(status_within(given, FILL_LIST_PART, &limits) != MDMP_LIMIT);
+    const filled first = fill_within(given, number, &limits);
+    filled last = {NULL, 0, first.fault};
+    for (int i = 0; i < 8 && last.fault.kind == MDMP_FAULT_ASIDE_LIMIT; i++) {
+        const uint64_t count = last.count;
+        last = fill_within(given, number, &limits);
+        ASSERT(last.count > count);
+        limits.aside += last.fault.size; /* of a record of another kind fewer bytes are read, and some are left */
+    }
+    if (first.fault.kind == MDMP_FAULT_ASIDE_LIMIT) {
+        limits.aside = first.fault.size - 1;
+        last = fill_within(given, number, &limits);
+        ASSERT(last.count == first.count && is_same_fault(&last.fault, &first.fault));
+    }
 }
 
 /* A copy that is refused says how much it needs, and is made with that. */

@@ -118,6 +118,24 @@ static void test_limits(blob file) {
     ASSERT(fault.kind == MDMP_FAULT_MEMORY_LIMIT && fault.size == limits.memory + 1);
 }
 
+/* Ranges that all have nearly the whole file: together they have more bytes than a number of 32 bits counts. */
+static void test_much_memory(void) {
+    enum { RANGES = 1 << 14, LIST = 44, SIZE = LIST + 4 + 16 * RANGES };
+    static uint8_t file[SIZE];
+    static const uint8_t HEAD[] = "MDMP\x93\xa7\0\0\x01\0\0\0\x20";
+    const uint32_t entry[] = {5, SIZE - LIST, LIST}, count = RANGES, place[] = {SIZE - 1, 1};
+    const uint64_t wanted = (uint64_t)RANGES * (SIZE - 1);
+    mdmp_summary_record summary;
+    memcpy(file, HEAD, sizeof HEAD - 1);
+    memcpy(file + 32, entry, sizeof entry);
+    memcpy(file + LIST, &count, sizeof count);
+    for (size_t i = 0; i < RANGES; i++) {
+        memcpy(file + LIST + 4 + 16 * i + 8, place, sizeof place);
+    }
+    ASSERT(mdmp_summary(file, sizeof file, &LIMITS, &summary, &fault) == MDMP_OK && wanted > UINT32_MAX);
+    ASSERT(summary.counts.ranges == RANGES && summary.counts.memory == wanted && summary.counts.memory_high == 0);
+}
+
 /* Records of each kind, each with its length. */
 static void test_ids(void) {
     static const uint8_t FILE[] =
@@ -176,6 +194,7 @@ int main(int argc, char **argv) {
     test_sample(file);
     test_parts(file);
     test_limits(file);
+    test_much_memory();
     test_ids();
     free(file.bytes);
     return 0;

@@ -8,6 +8,7 @@ import io
 import os
 import pathlib
 import pickle
+import resource
 import subprocess
 import sys
 import tempfile
@@ -146,6 +147,18 @@ class Reached(unittest.TestCase):
             other = pathlib.Path(folder) / "other.dmp"
             self.reached(lambda: dump.write_copy(other, 7, limits=mdmp.Limits(budget=43)))
             self.assertEqual(os.listdir(folder), ["copy.dmp"])
+
+    def test_copy_that_the_disk_has_no_room_for(self) -> None:
+        soft, hard = resource.getrlimit(resource.RLIMIT_FSIZE)
+        with tempfile.TemporaryDirectory() as folder:
+            path = pathlib.Path(folder) / "copy.dmp"
+            resource.setrlimit(resource.RLIMIT_FSIZE, (100, hard))  # a write takes what fits, and only the next one fails
+            try:
+                with self.assertRaises(OSError):
+                    mdmp.Dump(SYSTEM).write_copy(path, 7)
+            finally:
+                resource.setrlimit(resource.RLIMIT_FSIZE, (soft, hard))
+            self.assertEqual(path.read_bytes(), SYSTEM[:100])
 
 
 class Output(unittest.TestCase):

@@ -180,6 +180,17 @@ fn copies_are_limited() {
 }
 
 #[test]
+fn a_name_that_is_not_copied_has_its_entry() {
+    let file = system();
+    let copied = |name| Dump::new(&file).with_longest_name(name).copy(&[7]);
+    let error = copied(27).unwrap_err();
+    let fault = error.fault().unwrap();
+    assert_eq!((fault.kind(), fault.size()), (FaultKind::NameTooLong, 28));
+    assert_eq!((fault.entry(), fault.index()), (Some(0), Some(0)));
+    assert_eq!(copied(28).unwrap(), file);
+}
+
+#[test]
 fn rows_are_limited() {
     let file = ranges(100);
     let rows = Dump::new(&file).ranges().unwrap();
