@@ -18,7 +18,7 @@ use Rattle.mdmp_lister.specs.Format.Listing.{Numbered, Run, nothing}
 use Rattle.mdmp_lister.specs.Format.Summary.{summary_of}
 use Rattle.mdmp_lister.specs.Format.Refusal.{directory_refusal}
 use Rattle.mdmp_lister.specs.Fault.{IsUnobtained}
-use Rattle.mdmp_lister.specs.Opening.{IsOpenRefusal}
+use Rattle.mdmp_lister.specs.Opening.{IsOpenRefusal, KeepsOpening}
 use Rattle.mdmp_lister.specs.Following.{FitsFile}
 use Rattle.mdmp_lister.specs.Lister.{ListerState, tail}
 use Rattle.mdmp_lister.specs.Memory.{is_within, opening_fault_within}
@@ -97,9 +97,9 @@ IsWithoutBudget (faults.Opening (opening.Budget offset size)) = ⊥
 IsWithoutBudget (faults.List fault) = IsUnbudgeted fault.kind
 IsWithoutBudget fault = Unit {0}
 
--- a known file can be opened within the limits
+-- a known file can be opened within the limits: of memory, and of bytes that are read
 abbrev pub OpensWithin : Limits → Choice → Option (List ℕ) → Type 0
-OpensWithin limits choice content = (file : List ℕ) → content ≡ Some file → opening_fault_within limits file choice ≡ None
+OpensWithin limits choice content = (file : List ℕ) → content ≡ Some file → (opening_fault_within limits file choice ≡ None) × KeepsOpening limits.budget file choice
 
 -- a reading that ends by the limit of memory would hold more, and for a known file that is the first fault within the limits. One
 -- that ends behind the opening is within them.

@@ -49,6 +49,7 @@ module _ {S A : Type 0} where
         header_is = λ file known. old.header_is file (sym content ∙ known);
         unfailed = λ file good. old.unfailed file (record { known = sym content ∙ good.known; reliable = rw (← books.fetches.same_reliable) good.reliable });
         refused = rw room (over_at_kept _ w.stage w.meter new.meter books.spends.same_budget books.spends.same_fetched books.spends.same_asked size old.refused);
+        opened = rw books.spends.same_fetched old.opened;
       }
 
   pub aside_mapped : {calls : ℕ} (n : ℕ) (w new : Walk S A) (map : MapState) → IsMapped w map → BooksAside calls n w.meter new.meter → new.name.limit ≡ w.name.limit → IsMapped (record w { meter = new.meter; name = new.name }) map
@@ -64,6 +65,7 @@ module _ {S A : Type 0} where
           calls = rw (size, books.spends.same_calls, books.spends.same_names) old.bounded.calls;
           names = rw books.spends.same_names old.bounded.names;
         };
+        opened = rw (size, books.spends.same_fetched) old.opened;
         counted = λ file known. old.counted file (sym content ∙ known);
       }
 

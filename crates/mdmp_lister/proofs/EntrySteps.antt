@@ -72,7 +72,8 @@ module _ {S A : Type 0} (old new : Walk S A) (kind : StreamKind) (at : old.stage
             (λ file content. rw next (shape file content, base file content))
             (λ end. absurd (cc))
             (λ file good. rw next tt)
-            (rw next tt);
+            (rw next tt)
+            books.more;
         same = same;
         left = λ file content.
             let size = rw content at sound.sized in
@@ -199,7 +200,7 @@ module _ {S A : Type 0} (old new : Walk S A) (kind : StreamKind) (shape : Shape)
             range-next file old.name.limit (old.next - 1) k e.location.rva place z offset next new.name.items kind step list tells.held.1
             (item file known here) (here list) (rw (places.0, places.1) at stands) behind,
       ))
-      (λ end. absurd (cc)) (λ file good. rw on tt) (rw on tt))
+      (λ end. absurd (cc)) (λ file good. rw on tt) (rw on tt) reads.spends.more)
       (rw at refl) (rw on refl) (rw (on, at) (omega (arith, left))) (rw (on, at) (omega (arith, left)))
       same (tells.passed old.next) (tells.stays e)
       (rw reading.known tells.held) tells.begins

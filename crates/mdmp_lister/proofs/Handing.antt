@@ -22,6 +22,7 @@ use Rattle.mdmp_lister.proofs.Classes.{classed-plain}
 use Rattle.mdmp_lister.specs.Lister.{AnswersNext, IsSameLister, ListerState, current_after, cursor_in, passed_after, tail}
 use Rattle.mdmp_lister.specs.Format.Listing.{Run, with_item}
 use Rattle.mdmp_lister.specs.Format.Ranges.{ranges_of}
+use Rattle.mdmp_lister.specs.Requested.{AreRequested}
 
 pub give_all-more : (old : Run) (xs : List Item) (x : Item) (rest new : Run) → old ≡ give_all xs rest → rest ≡ with_item x new → old ≡ give_all (xs ++ x ∷ []) new
 give_all-more old xs x rest new given next = given ∙ rw (next, append_assoc) refl
@@ -138,4 +139,5 @@ pub record HasGiven {K : Type 0} (step : K → Item → Result (Unit {0}) Stoppe
   pub left : (left : Run) → old.left ≡ Some left → (rest : Run) × ((new.left ≡ Some rest) × (left ≡ give_all items rest))
   pub names : new.counts.names ≡ old.counts.names + names_of_all items
   pub cost : HasCost old.unread old.source items new.unread new.source
+  pub requested : AreRequested old items new
   pub come : old.stop ≡ None → ComeNext old.choice old.entries old.source.size old.limit (cursor_in old) items (cursor_in new)

@@ -2,6 +2,7 @@
 use Rattle.std.proofs.Common.{◌≡◌, ◌≤◌, ◌<◌, ◌+◌, ◌*◌, ℕ, List, [], ◌∷◌, Bool, Option, Some, None, Err, true, false, ap, ◌∙◌, if◌then◌else◌, inl, inr, refl, subst, sym, length, get_or, take, arith}
 use Rattle.std.specs.Prelude.{is_some}
 use Rattle.std.proofs.lemmas.Grind.{common_steps}
+use Rattle.std.proofs.lemmas.List.{take_all}
 use Rattle.std.proofs.lemmas.List.Sums.{sum_by-cons, sum_by_more, sum_by-take-le}
 use Rattle.std.proofs.lemmas.Option.{slice_get-get_or}
 use Rattle.mdmp_source.specs.Count.{raised}
@@ -136,6 +137,10 @@ module _ (choice : Choice) (z at : ℕ) (es : List Entry) (d : Entry) (h : at < 
 
 pub heads-most : (choice : Choice) (z at : ℕ) (es : List Entry) → heads_ahead choice z (take at es) ≤ heads_ahead choice z es
 heads-most choice z at es = sum_by-take-le (chosen_ahead choice z) es at
+
+-- behind the last entry all of them
+pub heads-all : (choice : Choice) (z at : ℕ) (es : List Entry) → length es ≤ at → heads_ahead choice z (take at es) ≡ heads_ahead choice z es
+heads-all choice z at es past = ap (heads_ahead choice z) (take_all at es past)
 
 -- ---- heads are short
 

@@ -143,7 +143,7 @@ module _ {S A : Type 0} where
   head_items a b m old at head room =
       let books = head.books in
       record {
-        mapped = kept a b m old head.sound (same_file _ a b books.fetches head.same.room) room (bounded_then a b old.bounded head.paid head.same.room books.fetches.same_size);
+        mapped = kept a b m old head.sound (same_file _ a b books.fetches head.same.room books.more) room (bounded_then a b old.bounded head.paid head.same.room books.fetches.same_size);
         same = head.same;
         ranges = ranges_none m;
         left = λ file known. sym (head.left file known);
@@ -179,7 +179,7 @@ module _ {S A : Type 0} where
       record {
         item = plain x;
         read = record {
-          mapped = rw pushed (mapped a b m (ranges_of (x ∷ [])) _ old e.sound (same_file _ a b e.fetches e.same) (taken.room (free_of m) old.room)
+          mapped = rw pushed (mapped a b m (ranges_of (x ∷ [])) _ old e.sound (same_file _ a b e.fetches e.same e.counts.more) (taken.room (free_of m) old.room)
               (bounded_then a b old.bounded e.paid e.same size)
               (ranges_of-within _ x (rw size at item.placed))
               (ranges-given b.meter.source.size b.name.items step x item.item));
@@ -231,7 +231,7 @@ module _ {S A : Type 0} where
   pub fault_read : (a b : Walk S A) (m : MapState) (f : ListFault) → IsMapped a m → Answered a (Err f) b → HasRoom (free_of m) 0 b → FaultRead a m f b m
   fault_read a b m f old e room = record {
     answered = e;
-    mapped = kept a b m old e.sound (same_file _ a b e.fetches e.same) room (bounded_then a b old.bounded e.paid e.same e.fetches.same_size);
+    mapped = kept a b m old e.sound (same_file _ a b e.fetches e.same e.counts.more) room (bounded_then a b old.bounded e.paid e.same e.fetches.same_size);
     same = refl;
   }
 

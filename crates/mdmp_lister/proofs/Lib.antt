@@ -42,6 +42,7 @@ pub mod RangeRows
 pub mod RecordItems
 pub mod RecordReads
 pub mod Refusals
+pub mod Requested
 pub mod Requests
 pub mod Room
 pub mod RowWords

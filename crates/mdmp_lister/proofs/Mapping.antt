@@ -1,5 +1,5 @@
 -- The map of the ranges that a walk gave, one step longer.
-use Rattle.std.proofs.Common.{◌≡◌, ◌≤◌, ◌-◌, ◌^◌, ◌∙◌, ◌++◌, ◌∷◌, [], arith, refl, sym, ap, ℕ, List, Option, Some, None, length}
+use Rattle.std.proofs.Common.{◌≡◌, ◌≤◌, ◌+◌, ◌-◌, ◌*◌, ◌^◌, ◌∙◌, ◌++◌, ◌∷◌, [], arith, refl, sym, ap, ℕ, List, Option, Some, None, length, vec_len}
 use Rattle.std.specs.Prelude.{All, IfSome, filter_map}
 use Rattle.std.proofs.lemmas.List.{append_assoc, length-append}
 use Rattle.std.proofs.lemmas.List.Elements.{All-append, All-nil, All-cons, filter_map-append}
@@ -22,6 +22,7 @@ use Rattle.mdmp_lister.specs.Step.{name_read, step_item}
 use Rattle.mdmp_lister.specs.Format.Summary.{Summary, summary_of}
 use Rattle.mdmp_lister.specs.Format.Numbers.{range_count}
 use Rattle.mdmp_source.specs.Source.{FetchesAtMost}
+use Rattle.mdmp_lister.specs.StreamHead.{heads_ahead}
 use Rattle.mdmp_lister.specs.Walk.{IsSound, SameRoom}
 use Rattle.mdmp_lister.proofs.Summary.{given, ranges_of-told, summary_of-item_of, summary_of-plain}
 
@@ -69,9 +70,15 @@ module _ {S A : Type 0} where
     pub size : new.meter.source.size ≡ old.meter.source.size
     pub content : new.meter.source.store.content ≡ old.meter.source.store.content
     pub choice : new.choice ≡ old.choice
+    pub entries : new.entries ≡ old.entries
+    pub more : old.meter.fetched ≤ new.meter.fetched
 
-  pub same_file : (n : ℕ) (old new : Walk S A) → FetchesAtMost n old.meter.source new.meter.source → SameRoom old new → IsSameFile old new
-  same_file n old new fetches same = record { size = fetches.same_size; content = fetches.same_content; choice = same.choice }
+  pub same_file : (n : ℕ) (old new : Walk S A) → FetchesAtMost n old.meter.source new.meter.source → SameRoom old new → old.meter.fetched ≤ new.meter.fetched → IsSameFile old new
+  same_file n old new fetches same more = record { size = fetches.same_size; content = fetches.same_content; choice = same.choice; entries = same.entries; more = more }
+
+  opened_then : (w new : Walk S A) → IsSameFile w new → 32 + 12 * vec_len w.entries + heads_ahead w.choice w.meter.source.size w.entries.items ≤ w.meter.fetched
+      → 32 + 12 * vec_len new.entries + heads_ahead new.choice new.meter.source.size new.entries.items ≤ new.meter.fetched
+  opened_then w new same opened = rw (same.size, same.choice, same.entries) (omega (arith, opened, same.more))
 
   counted_then : (w new : Walk S A) (room : ℕ) → IsSameFile w new → ((file : List ℕ) → w.meter.source.store.content ≡ Some file → room ≡ range_count file w.choice)
       → (file : List ℕ) → new.meter.source.store.content ≡ Some file → room ≡ range_count file new.choice
@@ -87,9 +94,10 @@ module _ {S A : Type 0} where
         room = record { ahead = omega (arith, has.ahead, few, free); owed = λ file known. omega (arith, has.owed file known, few, free) };
         inside = rw same.size (All-append (IsWithin w.meter.source.size) map.ranges rs old.inside within);
         bounded = bounded;
+        opened = opened_then w new same old.opened;
         counted = counted_then w new map.room same old.counted;
       }
 
   -- where nothing was given
   pub kept : (w new : Walk S A) (map : MapState) → IsMapped w map → IsSound new → IsSameFile w new → HasRoom (free_of map) 0 new → IsBounded new → IsMapped new map
-  kept w new map old sound same room bounded = record { sound = sound; room = room; inside = rw same.size old.inside; bounded = bounded; counted = counted_then w new map.room same old.counted }
+  kept w new map old sound same room bounded = record { sound = sound; room = room; inside = rw same.size old.inside; bounded = bounded; opened = opened_then w new same old.opened; counted = counted_then w new map.room same old.counted }

@@ -16,6 +16,7 @@ use Rattle.mdmp_lister.specs.Format.Directory.{IsDirectory}
 use Rattle.mdmp_lister.specs.Format.Listing.{Numbered, entries_from, entry_of, is_chosen, only_chosen}
 use Rattle.mdmp_lister.specs.Walk.Paying.{IsBounded, stream_calls}
 use Rattle.mdmp_lister.specs.Listed.{cost_by, cost_of, sizes_in}
+use Rattle.mdmp_lister.specs.StreamHead.{heads_ahead}
 use Rattle.mdmp_lister.specs.Walk.{IsSound}
 use Rattle.mdmp_lister.proofs.Heads.{heads_few}
 use Rattle.mdmp_lister.proofs.Leaving.{listed_by}
@@ -85,16 +86,19 @@ module _ {S A : Type 0} (w : Walk S A) (ranges : ℕ) where
       let dir = sound.directory file known in
       record { entries = dir.count; listed = costs_listed file w.choice w.meter.source.size w.entries.items (rw known at sound.sized) dir }
 
-  pub counts_held : (rs : List Range) → length rs ≤ ranges → IsBooked w.meter.source (counts_of w.meter)
+  pub counts_held : (rs : List Range) → IsSound w → length rs ≤ ranges → IsBooked w.meter.source (counts_of w.meter)
       → IsMetered w.meter.budget w.meter.fetched w.meter.asked → AreHeld (listed_by rs ranges w) (numbers_of_walk ranges w)
-  counts_held rs few booked kept = record { held = omega (arith, few); entries = omega (arith, w.entries.ok); ranges = few; booked = booked; kept = kept }
+  counts_held rs sound few booked kept =
+      let ok = w.entries.ok.0 in
+      record { held = omega (arith, few); entries = omega (arith, w.entries.ok); ranges = few; booked = booked; kept = kept; opened = omega (arith, ok, sound.opened) }
 
-  pub counts_spent : (rs : List Range) → IsSound w → IsBounded w → cost_of w.choice w.meter.source.size w.entries.items ≤ 2 ^ 32 * length w.entries.items
+  pub counts_spent : (rs : List Range) → IsSound w → IsBounded w → 32 + 12 * vec_len w.entries + heads_ahead w.choice w.meter.source.size w.entries.items ≤ w.meter.fetched → cost_of w.choice w.meter.source.size w.entries.items ≤ 2 ^ 32 * length w.entries.items
       → w.meter.fetched ≤ w.meter.asked → AreSpent (listed_by rs ranges w) (numbers_of_walk ranges w)
-  counts_spent rs sound bounded small kept = record {
+  counts_spent rs sound bounded opened small kept = record {
     fetched = omega (arith, asked_most w sound bounded, kept);
     asked = asked_most w sound bounded;
     calls = called_most w sound bounded;
     below = asked_below w sound bounded small;
+    opened = let ok = w.entries.ok.0 in omega (arith, ok, opened);
     sizes = λ file known. sizes_listed file w.choice w.meter.source.size w.entries.items (rw known at sound.sized) (sound.directory file known);
   }

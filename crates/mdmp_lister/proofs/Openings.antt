@@ -1,5 +1,5 @@
 -- Which fetch an opening comes to where the budget does not allow it.
-use Rattle.std.proofs.Common.{◌≡◌, ◌<◌, ◌+◌, ◌*◌, ◌^◌, ◌∙◌, ap, ℕ, List, Option, Some, None, Ok, Err, arith, refl, subst, sym, take}
+use Rattle.std.proofs.Common.{◌≡◌, ◌≤◌, ◌<◌, ◌+◌, ◌*◌, ◌^◌, ◌∙◌, ap, ℕ, List, Option, Some, None, Ok, Err, arith, refl, subst, sym, take, vec_len}
 use Rattle.mdmp_source.specs.Source.{SourceState}
 use Rattle.mdmp_wire.specs.declared.header.Header.{Header}
 use Rattle.mdmp_lister.specs.declared.choice.Choice.{Choice}
@@ -96,3 +96,16 @@ module _ {S A : Type 0} (source : SourceState) (choice : Choice) (limits : Limit
       } in
       comes_to limits source (Some choice) _ 16 offset size n.meter is booked kept counts.refused
       (IsOpeningFetch.of_head w.header read w.entries.items (λ file known. new.sound.directory file (new.spends.fetches.same_content ∙ known)) choice refl sized)
+
+  -- just so many bytes were fetched where all was obtained
+  pub opened_just : (count : ℕ) → IsNewWalk source choice limits w → CountsRanges w (Ok count) n
+      → n.meter.fetched ≡ 32 + 12 * vec_len n.entries + heads_ahead n.choice n.meter.source.size n.entries.items
+  opened_just count new counts =
+      let ok = w.entries.ok.0 in
+      let room = counts.same.room in
+      let few = heads_few w.choice w.meter.source.size w.entries.items in
+      rw (room.entries, room.choice, counts.books.fetches.same_size) (omega (arith, ok, counts.tries, new.spends.fetched, new.reads.entries, new.sound.few, few))
+
+  pub opened_new : (count : ℕ) → IsNewWalk source choice limits w → CountsRanges w (Ok count) n
+      → 32 + 12 * vec_len n.entries + heads_ahead n.choice n.meter.source.size n.entries.items ≤ n.meter.fetched
+  opened_new count new counts = omega (arith, opened_just count new counts)

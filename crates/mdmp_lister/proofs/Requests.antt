@@ -155,7 +155,8 @@ module _ {S A : Type 0} (n calls spent : ℕ) (old new : Walk S A) (f : ListFaul
             (λ file known. rw at (fault_stage-headed file old.current f))
             (λ end. absurd (fault_stage-going f (sym at ∙ end)))
             (λ file well. rw at (fault_stage-unfailed f (good file well)))
-            (rw at (fault_stage-over _ f new.meter met.over));
+            (rw at (fault_stage-over _ f new.meter met.over))
+            spends.more;
         same = same.room;
         listing = λ file known not. (ap (λ (run : Run). joined run (rest_of old file)) (left file known not), left_of-fault new file f at);
         given = tt;

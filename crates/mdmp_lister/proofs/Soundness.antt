@@ -1,5 +1,5 @@
 -- A walk stays sound where its lists stay and its new stage is.
-use Rattle.std.proofs.Common.{◌≡◌, ◌<◌, ◌∙◌, ℕ, List, Option, Some, IsTrue, sym, subst, refl, vec_len, max}
+use Rattle.std.proofs.Common.{◌≡◌, ◌≤◌, ◌<◌, ◌∙◌, ℕ, arith, List, Option, Some, IsTrue, sym, subst, refl, vec_len, max}
 use Rattle.mdmp_source.specs.Source.{SourceState, FetchesAtMost}
 use Rattle.mdmp_source.specs.Store.{IsGood}
 use Rattle.mdmp_source.specs.Window.{WindowState}
@@ -34,8 +34,9 @@ module _ {S A : Type 0} (n : ℕ) (old new : Walk S A) where
       → (new.stage ≡ Ended → old.next ≡ vec_len old.entries)
       → ((file : List ℕ) → IsGood old.meter.source.store file → IsNoStoreFault new.stage)
       → IsOverAt (max old.window.room old.name.limit) new.stage new.meter
+      → old.meter.fetched ≤ new.meter.fetched
       → IsSound new
-  IsSound-after sound fetches same staged windowed headed ended unfailed refused = record {
+  IsSound-after sound fetches same staged windowed headed ended unfailed refused more = record {
     sized = rw (fetches.same_content, fetches.same_size) sound.sized;
     window = rw same.room.window sound.window;
     small = rw same.room.name sound.small;
@@ -51,6 +52,7 @@ module _ {S A : Type 0} (n : ℕ) (old new : Walk S A) where
     header_is = λ file known. same.room.header_is ∙ sound.header_is file (sym fetches.same_content ∙ known);
     unfailed = λ file good. unfailed file (IsGood-before n old.meter.source new.meter.source file fetches good);
     refused = rw (same.room.window, same.room.name) refused;
+    opened = rw same.room.entries (omega (arith, sound.opened, more));
   }
 
 -- ---- the stage behind a fault

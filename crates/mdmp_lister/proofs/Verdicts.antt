@@ -146,13 +146,13 @@ module _ {S A : Type 0} where
   pub begun_mapped : (w ns : Walk S A) (m : MapState) (step : Step) → IsMapped w m → StepTaken w (Ok (Some step)) ns → IsMapped ns m
   begun_mapped w ns m step old taken =
       let e = taken.answered in
-      kept w ns m old e.sound (same_file _ w ns e.fetches e.same) (less_room _ (count_told step) ns (taken.room _ old.room)) (bounded_then w ns old.bounded e.paid e.same e.fetches.same_size)
+      kept w ns m old e.sound (same_file _ w ns e.fetches e.same e.counts.more) (less_room _ (count_told step) ns (taken.room _ old.room)) (bounded_then w ns old.bounded e.paid e.same e.fetches.same_size)
 
   -- what is left of an entry was dropped
   skipped_mapped : (w sk : Walk S A) (m : MapState) → IsMapped w m → EntrySkipped w sk → sk ≡ record w { stage = Between } → IsMapped sk m
   skipped_mapped w sk m old skipped moved =
       let size = ap (λ (v : Walk S A). v.meter.source.size) moved in
-      kept w sk m old skipped.sound (record { size = size; content = ap (λ (v : Walk S A). v.meter.source.store.content) moved; choice = ap (λ (v : Walk S A). v.choice) moved })
+      kept w sk m old skipped.sound (record { size = size; content = ap (λ (v : Walk S A). v.meter.source.store.content) moved; choice = ap (λ (v : Walk S A). v.choice) moved; entries = ap (λ (v : Walk S A). v.entries) moved; more = rw moved (omega arith) })
       (skipped.room _ old.room)
       (bounded_then w sk old.bounded skipped.paid (rw moved (record { header_is = refl; entries = refl; choice = refl; listed = refl; window = refl; name = refl })) size)
 
@@ -392,7 +392,7 @@ module _ {S A : Type 0} (verdicts : List Verdict) (items : List Item) (old w : W
               items_are = first.items_are ∙ sym (append-nil _);
               ends = (refl, refl);
             };
-        mapped = kept w e p so_far.mapped a.sound (same_file _ w e a.fetches a.same) (taken.room _ so_far.mapped.room) (bounded_then w e so_far.mapped.bounded a.paid a.same a.fetches.same_size);
+        mapped = kept w e p so_far.mapped a.sound (same_file _ w e a.fetches a.same a.counts.more) (taken.room _ so_far.mapped.room) (bounded_then w e so_far.mapped.bounded a.paid a.same a.fetches.same_size);
         same = same_room_then old w e so_far.same a.same;
         ranges = so_far.ranges;
         stage = end.stage;

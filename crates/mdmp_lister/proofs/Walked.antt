@@ -648,6 +648,7 @@ module _ {S A : Type 0} (w : Walk S A) where
           header_is = old.header_is;
           unfailed = old.unfailed;
           refused = unfailed-over _ w.stage unbudgeted_meter unfailed;
+          opened = old.opened;
         };
         placed = positioned-aside w unbudgeted_meter p refl walked.placed;
         unchanged = walked.unchanged;

@@ -21,6 +21,7 @@ pub mod NextFetch
 pub mod Opening
 pub mod Painting
 pub mod Refused
+pub mod Requested
 pub mod Sink
 pub mod Stage
 pub mod Step

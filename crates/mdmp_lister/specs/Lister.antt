@@ -25,13 +25,14 @@ use Rattle.mdmp_lister.specs.declared.step.Step.{Step}
 use Rattle.mdmp_lister.specs.Following.{Cursor, Follows, Standing, records_by, through}
 use Rattle.mdmp_lister.specs.Format.Numbers.{most_names_in, names_in, range_count}
 use Rattle.mdmp_lister.specs.Format.Directory.{IsDirectory}
-use Rattle.mdmp_lister.specs.StreamHead.{heads_ahead}
+use Rattle.mdmp_lister.specs.StreamHead.{heads_ahead, opening_bytes}
 use Rattle.mdmp_lister.specs.Format.Item.{plain}
 use Rattle.mdmp_lister.specs.Format.Kind.{kind_of}
 use Rattle.mdmp_lister.specs.Format.Listing.{Run, nothing, only_fault, items_from, joined, listing, listing_from}
 use Rattle.mdmp_lister.specs.Format.Shape.{shape_of}
 use Rattle.mdmp_lister.specs.Memory.{is_within}
-use Rattle.mdmp_lister.specs.Meter.{IsBegunOver, IsUnmade, Moves, SpendsAside}
+use Rattle.mdmp_lister.specs.Opening.{KeepsOpening}
+use Rattle.mdmp_lister.specs.Meter.{IsBegunOver, IsUnmade, KeepsTo, Moves, SpendsAside}
 use Rattle.mdmp_lister.specs.NextFetch.{IsGivenPaid, Standpoint, TellsNextFetch}
 use Rattle.mdmp_lister.specs.declared.meter.MeterCounts.{MeterCounts}
 use Rattle.mdmp_lister.specs.Format.Ranges.{ranges_of}
@@ -215,6 +216,8 @@ pub record IsNewList (source : SourceState) (choice : Choice) (limits : Limits) 
   pub same_content : new.source.store.content ≡ source.store.content
   pub steady : IsSteady source new.source
   pub counts : IsBegunOver source limits.budget new.counts
+  -- what was fetched is within the budget
+  pub kept : KeepsTo limits.budget new.counts.fetched
   pub read : HasReadDirectory source new
   pub asked : IsAskedFor choice limits new
   pub given : HasGivenNothing source.store.content choice limits new
@@ -226,6 +229,8 @@ pub record IsNewLister (source : SourceState) (choice : Choice) (limits : Limits
   pub list : IsNewList source choice limits new
   -- the header was fetched, the directory, and the heads of the chosen memory lists
   pub fetches : FetchesAtMost (32 + 12 * new.header.number_of_streams + heads_ahead choice source.size new.entries) source new.source
+  pub fetched : new.counts.fetched ≡ opening_bytes choice source.size new.entries
+  pub opening : (file : List ℕ) → source.store.content ≡ Some file → KeepsOpening limits.budget file choice
   pub calls : new.source.calls ≤ raised source.calls (1 + 2 * new.header.number_of_streams)
   pub range_room : (file : List ℕ) → source.store.content ≡ Some file → new.rooms.ranges ≡ range_count file choice
   pub few : new.rooms.ranges ≤ most_ranges
@@ -315,6 +320,8 @@ pub record ListerLeaves (old : ListerState) (result : Result (Option Item) ListF
   pub follows : old.stop ≡ None → AnswersNext old result new
   pub ranges : new.ranges ≡ old.ranges ++ ranges_answered result
   pub few_names : new.counts.names + 1 < 2 ^ 128
+  -- what was fetched is within the budget
+  pub kept : KeepsTo new.counts.budget new.counts.fetched
 
 -- what a call leaves that fetches at most n bytes aside from the listing, in at most so many calls of the source's `fetch`,
 -- with this answer: a fault is told in this call, and over a good store there is none

@@ -96,10 +96,11 @@ TriesDirectory window header (Ok done) old new = new.fetched ≡ raised old.fetc
 TriesDirectory window header (Err (fetch.Budget offset size)) old new = (taken : ℕ) × ((new.fetched ≡ raised old.fetched taken) × IsDirectoryFetch window header (32 + taken) offset size)
 TriesDirectory window header (Err (fetch.Source fault)) old new = Unit {0}
 
--- and it is told of the next head
+-- and it is told of the next head, or just the heads were fetched
 abbrev pub TriesHeads : {T : Type 0} → Choice → ℕ → List Entry → Result T FetchFault → MeterState → MeterState → Type 0
+TriesHeads choice z entries (Ok x) old new = new.fetched ≡ raised old.fetched (heads_ahead choice z entries)
 TriesHeads choice z entries (Err (fetch.Budget offset size)) old new = (taken : ℕ) × ((new.fetched ≡ raised old.fetched taken) × IsHeadFetch choice z entries 0 taken offset size)
-TriesHeads choice z entries answer old new = Unit {0}
+TriesHeads choice z entries (Err (fetch.Source fault)) old new = Unit {0}
 
 -- ---- as it is listed
 

@@ -17,12 +17,24 @@ use Rattle.mdmp_lister.specs.declared.fault.FetchFault.TheVariants as fetch
 use Rattle.mdmp_lister.specs.declared.limits.Limits.{Limits}
 use Rattle.mdmp_lister.specs.Format.Directory.{AreFirst, IsDirectory, IsFirstChosen}
 use Rattle.mdmp_lister.specs.Following.{IsChosenBehind, NoneChosenBehind}
-use Rattle.mdmp_lister.specs.StreamHead.{heads_ahead}
+use Rattle.mdmp_lister.specs.StreamHead.{heads_ahead, opening_bytes}
 use Rattle.mdmp_lister.specs.Format.Listing.{entry_count}
 use Rattle.mdmp_lister.specs.Fault.{IsCaused, IsSteady}
 use Rattle.mdmp_lister.specs.Meter.{Books, IsRefusedFetch, KeepsTo, MeterState, counts_of, is_passed}
 use Rattle.mdmp_lister.specs.Listed.{CostsFrom}
 use Rattle.mdmp_lister.specs.Format.Refusal.{most_ranges, directory_refusal, opening_fault}
+
+-- ---- what an opening reads
+
+-- F was opened by a lister within a budget or none: the header, the directory and the heads of the chosen memory lists are within it
+pub record KeepsOpening (budget : Option ℕ) (F : List ℕ) (choice : Choice) : Type 0 where
+  pub entries : List Entry
+  pub directory : IsDirectory F entries
+  pub kept : KeepsTo budget (opening_bytes choice (length F) entries)
+
+-- or as a walk, which counts no ranges
+abbrev pub KeepsDirectory : Option ℕ → List ℕ → Type 0
+KeepsDirectory budget F = KeepsTo budget (32 + 12 * entry_count F)
 
 -- ---- what an opening answers
 

@@ -18,6 +18,7 @@ use Rattle.mdmp_lister.specs.Format.Ranges.{ranges_of}
 use Rattle.mdmp_lister.specs.Fault.{IsUnobtained}
 use Rattle.mdmp_lister.specs.Following.{Cursor, Follows}
 use Rattle.mdmp_lister.specs.NextFetch.{TellsSomeFetch}
+use Rattle.mdmp_lister.specs.Requested.{RunRequests}
 use Rattle.mdmp_lister.specs.Step.{TellsItem}
 
 -- these items, and then a run
@@ -128,6 +129,8 @@ pub record RunLeaves {K : Type 0} (step : K → Item → Result (Unit {0}) Stopp
   pub unread : new.unread ≤ old.unread + items_cost old.source.size items
   pub follows : old.stop ≡ None → RunFollows old.choice old.entries old.source.size old.limit (cursor_in old) items result (cursor_in new)
   pub next : old.stop ≡ None → TellsRunFetch result new
+  -- each item was given by a request, within the budget
+  pub requests : RunRequests old items result new
 
 -- a run leaves no more to do than was, and less where it gave an item and the sink then stopped
 pub record WorkFalls (result : Result (Unit {0}) RunFault) (old new : ListerState) : Type 0 where
@@ -147,3 +150,4 @@ pub record RangesFollow (old : ListerState) (result : Result (Unit {0}) ListFaul
   pub ranges : new.ranges ≡ old.ranges ++ ranges_of items
   pub follows : RunFollows old.choice old.entries old.source.size old.limit (cursor_in old) items (run_answer result) (cursor_in new)
   pub next : TellsRunFetch (run_answer result) new
+  pub requests : RunRequests old items (run_answer result) new

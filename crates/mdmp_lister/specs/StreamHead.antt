@@ -1,5 +1,5 @@
 -- What is fetched of the heads of streams.
-use Rattle.std.specs.Prelude.{◌≡◌, ◌<◌, ℕ, List, Option, Some, None, nat_lt, sum_by, if◌then◌else◌}
+use Rattle.std.specs.Prelude.{◌≡◌, ◌<◌, ◌+◌, ◌*◌, ℕ, List, Option, Some, None, length, nat_lt, sum_by, if◌then◌else◌}
 use Rattle.mdmp_source.specs.Range.{is_inside}
 use Rattle.mdmp_source.specs.declared.location.Location.{Location}
 use Rattle.mdmp_wire.specs.declared.entry.Entry.{Entry}
@@ -41,3 +41,11 @@ chosen_ahead choice z e = if is_chosen choice e.stream_type then ahead_of z e el
 -- of some entries together
 abbrev pub heads_ahead : Choice → ℕ → List Entry → ℕ
 heads_ahead choice z entries = sum_by (chosen_ahead choice z) entries
+
+-- the bytes that are fetched of a file as it is opened, whose directory has these entries: the header, and they
+abbrev pub directory_bytes : List Entry → ℕ
+directory_bytes entries = 32 + 12 * length entries
+
+-- and by a lister, which counts the ranges of the chosen memory lists: their heads too
+abbrev pub opening_bytes : Choice → ℕ → List Entry → ℕ
+opening_bytes choice z entries = directory_bytes entries + heads_ahead choice z entries

@@ -120,6 +120,8 @@ module _ {S A : Type 0} where
     pub unfailed : (file : List ℕ) → IsGood w.meter.source.store file → IsNoStoreFault w.stage
     -- a fault of the budget that stays for good is of a fetch that was not made, of no more than the window or a name may have
     pub refused : IsOverAt (max w.window.room w.name.limit) w.stage w.meter
+    -- no less was fetched than the header and the directory
+    pub opened : 32 + 12 * vec_len w.entries ≤ w.meter.fetched
 
   -- no list is longer or shorter, and what was read of the file's head stays
   pub record SameRoom (old new : Walk S A) : Type 0 where

@@ -22,7 +22,9 @@ use Rattle.mdmp_lister.specs.Format.Listing.{Run, listing_sought, only_fault, re
 use Rattle.mdmp_lister.specs.Lister.{AnswersNext, Gives, cursor_in, IsNewList, IsSameLister, NextLeaves, ListerState, IsRefusedIn, standpoint_in}
 use Rattle.mdmp_lister.specs.Meter.{Moves}
 use Rattle.mdmp_lister.specs.NextFetch.{TellsNextFetch}
+use Rattle.mdmp_lister.specs.Opening.{KeepsDirectory}
 use Rattle.mdmp_lister.specs.Step.{TellsAnswer}
+use Rattle.mdmp_lister.specs.StreamHead.{directory_bytes}
 use Rattle.mdmp_lister.specs.Listed.{entry_cost}
 use Rattle.mdmp_lister.specs.Walk.Positions.{mark_by, position_by}
 
@@ -60,6 +62,8 @@ pub record IsNewWalker (source : SourceState) (choice : Choice) (limits : Limits
   pub list : IsNewList source choice limits new.list
   -- the header was fetched, and the directory
   pub fetches : FetchesAtMost (32 + 12 * new.list.header.number_of_streams) source new.list.source
+  pub fetched : new.list.counts.fetched ≡ directory_bytes new.list.entries
+  pub opening : (file : List ℕ) → source.store.content ≡ Some file → KeepsDirectory limits.budget file
   pub calls : new.list.source.calls ≤ raised source.calls (1 + new.list.header.number_of_streams)
   pub asked : new.list.counts.asked ≤ 32 + 12 * new.list.header.number_of_streams
   pub range_room : new.list.rooms.ranges ≡ 0

@@ -107,7 +107,6 @@ impl<S: Store + Drop, A: Allocator + Copy> Lister<S, A> {
     ///
     /// If the limits have a limit of memory, it is tested before the first memory is taken, without the
     /// map, and again before the map's is: `MemoryLimit` tells how much would be held.
-    #[tactic(auto, using(crate::proofs::Paying::bounded_new))]
     pub fn open(
         alloc: A,
         source: Source<S>,
@@ -137,6 +136,8 @@ impl<S: Store + Drop, A: Allocator + Copy> Lister<S, A> {
         if !limits.holds(held) {
             return Err(refused(OpenFault::MemoryLimit { held }, walk.meter));
         }
+        // The proof learns here that what was fetched is within the budget.
+        let _counts = walk.meter.counts();
         match AddressMap::with_room(alloc, count as usize) {
             Ok(map) => Ok(Lister { walk, map }),
             Err(AllocError) => Err(refused(OpenFault::Memory, walk.meter)),
@@ -206,12 +207,19 @@ impl<S: Store + Drop, A: Allocator + Copy> Lister<S, A> {
         ensures good { (file : List ℕ) → IsGood self.old.source.store file → IfErr result (λ fault. IsOfStore fault.kind → ⊥) }
     {
         match advance(&mut self.walk, self.map.free()) {
-            Ok(None) => Ok(None),
+            Ok(None) => {
+                self.walk.meter.keeps_budget();
+                Ok(None)
+            }
             Ok(Some(held)) => {
+                self.walk.meter.keeps_budget();
                 push_range(&mut self.map, self.walk.range(&held));
                 Ok(Some(self.walk.item(&held)))
             }
-            Err(fault) => Err(fault),
+            Err(fault) => {
+                self.walk.meter.keeps_budget();
+                Err(fault)
+            }
         }
     }
 

@@ -6,7 +6,7 @@ ghost use Rattle.mdmp_source.specs.Store.{IsOfBytes, IsSizeOf};
 ghost use Rattle.mdmp_source.specs.Window.{IsFilled, next_len_of};
 ghost use Rattle.mdmp_lister.specs.Fault.{IsCaused};
 ghost use Rattle.mdmp_lister.specs.Fetching.{Reads, ReadsBeside};
-ghost use Rattle.mdmp_lister.specs.Meter.{Books, CountsFetch, IsBooked, IsMetered, IsSourceOf, MeterState, RefusesFetch, TriesFetch, counts_of, is_passed, store_fault_of};
+ghost use Rattle.mdmp_lister.specs.Meter.{Books, CountsFetch, IsBooked, IsMetered, IsSourceOf, KeepsTo, MeterState, RefusesFetch, TriesFetch, counts_of, is_passed, store_fault_of};
 ghost use Rattle.mdmp_lister.specs.declared.fault.FetchFault.{FetchFault};
 
 use crate::fault::FetchFault;
@@ -186,6 +186,14 @@ impl<S: Store> Meter<S> {
         ensures { self.new ≡ record self.old { names = raised self.old.names 1 } }
     {
         self.names = self.names.saturating_add(1);
+    }
+
+    /// What was fetched is within the budget: it does nothing, and the proof learns that here.
+    #[inline(always)]
+    pub(crate) fn keeps_budget(&self)
+        ensures { KeepsTo self.now.budget self.now.fetched }
+    {
+        let _ = &self.budget;
     }
 
     /// What was counted so far.

@@ -1,9 +1,10 @@
 -- A walk and the map of the ranges that it gave.
-use Rattle.std.specs.Prelude.{◌≡◌, ℕ, List, All, Some}
+use Rattle.std.specs.Prelude.{◌≡◌, ◌≤◌, ◌+◌, ◌*◌, ℕ, List, All, Some, vec_len}
 use Rattle.mdmp_map.specs.Map.{MapState, free_of}
 use Rattle.mdmp_map.specs.Ranges.{IsWithin}
 use Rattle.mdmp_lister.specs.declared.walk.Walk.{Walk}
 use Rattle.mdmp_lister.specs.Format.Numbers.{range_count}
+use Rattle.mdmp_lister.specs.StreamHead.{heads_ahead}
 use Rattle.mdmp_lister.specs.Walk.Owing.{HasRoom}
 use Rattle.mdmp_lister.specs.Walk.Paying.{IsBounded}
 use Rattle.mdmp_lister.specs.Walk.{IsSound}
@@ -14,5 +15,7 @@ pub record IsMapped {S A : Type 0} (w : Walk S A) (map : MapState) : Type 0 wher
   pub room : HasRoom (free_of map) 0 w
   pub inside : All (IsWithin w.meter.source.size) map.ranges
   pub bounded : IsBounded w
+  -- no less was fetched than the header, the directory and the heads of the chosen memory lists
+  pub opened : 32 + 12 * vec_len w.entries + heads_ahead w.choice w.meter.source.size w.entries.items ≤ w.meter.fetched
   -- where the file is known, it was made for the ranges of its chosen lists
   pub counted : (file : List ℕ) → w.meter.source.store.content ≡ Some file → map.room ≡ range_count file w.choice

@@ -86,10 +86,10 @@ returns-in-Err-clause-limited g c =
 
 pub returns-in-Err-read_streams-clause-limited : goal.returns-in-Err-read_streams-clause-limited
 returns-in-Err-read_streams-clause-limited g c =
-    rw c.told_within.ensures (limited-within c.args.limits c.args.choice c.args.source.store.content c.args.limits.budget c.in-Err-read_streams.fault c.in-Ok.ensures.within)
+    rw c.told_within.ensures (limited-within c.args.limits c.args.choice c.args.source.store.content c.args.limits.budget c.in-Err-read_streams.fault (λ file known. (c.in-Ok.ensures.within file known, c.in-Ok.ensures.new.opening file known)))
 
 pub returns-in-Ok-read_streams-clause-limited : goal.returns-in-Ok-read_streams-clause-limited
-returns-in-Ok-read_streams-clause-limited g c = c.in-Ok.ensures.within
+returns-in-Ok-read_streams-clause-limited g c = λ file known. (c.in-Ok.ensures.within file known, c.in-Ok.ensures.new.opening file known)
 
 pub returns-in-Err-clause-unbudgeted : goal.returns-in-Err-clause-unbudgeted
 returns-in-Err-clause-unbudgeted g c = λ none.

@@ -6,7 +6,7 @@ use Rattle.mdmp_lister.specs.Format.Listing.{entry_count, is_chosen}
 use Rattle.mdmp_lister.specs.Meter.{Books, TriesFetch, store_fault_of}
 use Rattle.mdmp_lister.proofs.Entries.{ranges-chosen, ranges-other, ranges-end}
 use Rattle.mdmp_lister.proofs.Fetches.{IsCaused_none, IsCaused_later}
-use Rattle.mdmp_lister.proofs.Heads.{heads-chosen, heads-chosen_most, heads-exact, heads-more, heads-most, heads-passed, heads-refused}
+use Rattle.mdmp_lister.proofs.Heads.{heads-all, heads-chosen, heads-chosen_most, heads-exact, heads-more, heads-most, heads-passed, heads-refused}
 use Rattle.mdmp_lister.proofs.Metering.{Books_none, Books-then, Books-within, counted_then}
 use Rattle.mdmp_lister.proofs.counting.count_ranges.Goals as goal
 
@@ -113,3 +113,9 @@ returns-in_err-ranges_of_entry-clause-tries g c =
     let tried = subst (λ (n : ℕ). TriesFetch {T = ℕ} e.location.rva (ahead_of n e) (Err fault) c.loop-entry.meter c.ranges_of_entry.new.meter) i.books.fetches.same_size c.in_err-ranges_of_entry.ensures.tries in
     let is : c.from_residual.result ≡ Err fault = search rules in
     rw is (heads-refused c.args.choice.now z at es no_entry c.loop-entry-test.true e fault c.args.meter.now c.loop-entry.meter c.ranges_of_entry.new.meter refl has i.spent tried)
+
+pub returns-clause-tries : goal.returns-clause-tries
+returns-clause-tries g c =
+    let i = c.loop-entry.invariant in
+    let all = heads-all c.args.choice.now c.args.meter.now.source.size c.loop-entry.entry-index c.args.entries.now (omega (arith, c.loop-entry-test.false)) in
+    rw (← all) i.spent

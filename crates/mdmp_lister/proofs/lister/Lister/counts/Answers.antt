@@ -23,7 +23,7 @@ returns-clause-held g c =
     let w = c.self.inside.walk in
     let m = c.self.inside.map in
     let room : c.len.result + c.free.result ≡ m.room = omega (arith, c.len.ensures, c.free.ensures.value, c.free.ensures.room) in
-    rw (← c.self.view_is, c.counts.ensures.value, room) (counts_held w m.room m.ranges (omega (arith, c.free.ensures.room)) c.counts.ensures.booked c.counts.ensures.kept)
+    rw (← c.self.view_is, c.counts.ensures.value, room) (counts_held w m.room m.ranges c.self.invariant.sound (omega (arith, c.free.ensures.room)) c.counts.ensures.booked c.counts.ensures.kept)
 
 pub returns-clause-spent : goal.returns-clause-spent
 returns-clause-spent g c =
@@ -31,4 +31,4 @@ returns-clause-spent g c =
     let m = c.self.inside.map in
     let room : c.len.result + c.free.result ≡ m.room = omega (arith, c.len.ensures, c.free.ensures.value, c.free.ensures.room) in
     let small : cost_of w.choice w.meter.source.size w.entries.items ≤ 2 ^ 32 * length w.entries.items = rw c.counts.ensures.value at c.counts.ensures.listed in
-    rw (← c.self.view_is, c.counts.ensures.value, room) (counts_spent w m.room m.ranges c.self.invariant.sound c.self.invariant.bounded small c.counts.ensures.kept.within)
+    rw (← c.self.view_is, c.counts.ensures.value, room) (counts_spent w m.room m.ranges c.self.invariant.sound c.self.invariant.bounded c.self.invariant.opened small c.counts.ensures.kept.within)

@@ -15,6 +15,7 @@ use Rattle.mdmp_lister.proofs.Cursors.{ComeNext-more}
 use Rattle.mdmp_lister.proofs.Spending.{HasCost-end, HasCost-more, HasCost-most, HasCost-none}
 use Rattle.mdmp_lister.proofs.Handing.{AllClassed-more, current_behind-more, end_comes, fault_comes, give_all-next, item_comes, names_of_all-more, passed_behind-more, rose_exactly, same_lister-then, Taken-more, TakenToStop-end}
 use Rattle.mdmp_lister.proofs.Mapping.{ranges_of-more}
+use Rattle.mdmp_lister.proofs.Requested.{aside_none, item_requested, requested_more}
 use Rattle.mdmp_lister.proofs.lister.Lister.list_into.Goals as goal
 
 pub loop-item-init : goal.loop-item-init
@@ -33,6 +34,7 @@ loop-item-init g c = record {
     left = λ left known. (left, (known, refl));
     names = omega arith;
     cost = HasCost-none c.args.self.now.unread c.args.self.now.source;
+    requested = aside_none c.args.self.now;
     come = λ _. refl;
   };
 }
@@ -79,6 +81,7 @@ returns-in-Err-take-clause-runs g c =
             ends = refl;
           };
       next = λ going. tt;
+      requests = record { behind = _; requested = requested_more _ _ _ _ run.items (plain x) run.requested (item_requested _ x _ (rw (c.in-Ok-Some.is, c.in-Ok-Some.field-0-is) at leaves) (λ left known. rw c.in-Ok-Some.field-0-is at (c.in-Ok-Some.ensures.gives left known))) (aside_none _); ended = refl };
     }
 
 pub loop-item-preserved : goal.loop-item-preserved
@@ -112,6 +115,7 @@ loop-item-preserved g c =
         names = names_of_all-more run.items x _ _ _ run.names (rose_exactly _ _ _ leaves.few_names (rw (c.in-Ok-Some.is, c.in-Ok-Some.field-0-is) at holds.spends.names));
         cost = HasCost-more _ _ _ _ run.items _ _ run.cost x (rw (c.in-Ok-Some.is, c.in-Ok-Some.field-0-is) at holds.spends.fetches)
             (rw (c.in-Ok-Some.is, c.in-Ok-Some.field-0-is) at holds.spends.unread);
+        requested = requested_more _ _ _ _ run.items (plain x) run.requested (item_requested _ x _ (rw (c.in-Ok-Some.is, c.in-Ok-Some.field-0-is) at leaves) (λ left known. rw c.in-Ok-Some.field-0-is at (c.in-Ok-Some.ensures.gives left known))) (aside_none _);
         come = λ going.
             let next = rw (c.in-Ok-Some.is, c.in-Ok-Some.field-0-is) at (leaves.follows (so_far.going going)) in
             ComeNext-more _ _ _ _ _ _ _ run.items (plain x) (run.come going) (item_comes c.args.self.now c.loop-item.self _ so_far.same run.cost.fetches.same_size x next);
@@ -146,6 +150,7 @@ returns-in-Err-clause-runs g c =
       next = λ going.
           run_fetch c.loop-item.self _ f holds.same holds.spends.fetches.same_content holds.spends.fetches.same_size (rw c.in-Err.is at holds.places.current)
           (rw c.in-Err.is at (holds.next (so_far.going going)));
+      requests = record { behind = _; requested = run.requested; ended = record { leaves = rw c.in-Err.is at leaves; gives = c.in-Err.ensures.gives } };
     }
 
 pub returns-in-Ok-None-clause-runs : goal.returns-in-Ok-None-clause-runs
@@ -173,6 +178,7 @@ returns-in-Ok-None-clause-runs g c =
           let next = rw (c.in-Ok-None.is, c.in-Ok-None.field-0-is) at (leaves.follows (c.loop-item.invariant.going going)) in
           record { behind = _; come = run.come going; ends = end_comes c.args.self.now c.loop-item.self _ c.loop-item.invariant.same run.cost.fetches.same_size next };
       next = λ going. tt;
+      requests = record { behind = _; requested = run.requested; ended = record { leaves = rw (c.in-Ok-None.is, c.in-Ok-None.field-0-is) at leaves; gives = λ left known. rw c.in-Ok-None.field-0-is at (c.in-Ok-None.ensures.gives left known) } };
     }
 
 pub returns-in-Err-clause-good : goal.returns-in-Err-clause-good

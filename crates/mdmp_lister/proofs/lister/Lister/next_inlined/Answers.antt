@@ -1,4 +1,4 @@
-use Rattle.std.proofs.Common.{arith, ap, ◌≡◌, ◌∷◌, ◌++◌, ◌∙◌, [], Some, None, refl, subst, sym}
+use Rattle.std.proofs.Common.{arith, rules, ap, ◌≡◌, ◌∷◌, ◌++◌, ◌∙◌, [], Some, None, refl, subst, sym}
 use Rattle.std.proofs.lemmas.List.{append-nil}
 use Rattle.mdmp_lister.specs.Format.Ranges.{IsPlacedIn, ranges_of}
 use Rattle.mdmp_lister.specs.HeldStep.{step_told}
@@ -24,6 +24,7 @@ returns-in-Ok-None g c =
           follows = follows_none w n m.room m.ranges m.ranges e;
           ranges = sym (append-nil m.ranges);
           few_names = few_names n (bounded_then w n c.self.invariant.bounded e.paid e.same e.fetches.same_size);
+          kept = search rules;
         },
       ),
       record {
@@ -53,6 +54,7 @@ returns-in-Ok-Some g c =
           follows = rw pushed (follows_item w n m.room m.ranges _ s x e of);
           ranges = rw pushed refl;
           few_names = few_names n (bounded_then w n c.self.invariant.bounded e.paid e.same e.fetches.same_size);
+          kept = search rules;
         },
       ),
       record {
@@ -79,6 +81,7 @@ returns-in-Err g c =
           follows = follows_fault w n m.room m.ranges m.ranges f e;
           ranges = sym (append-nil m.ranges);
           few_names = few_names n (bounded_then w n c.self.invariant.bounded e.paid e.same e.fetches.same_size);
+          kept = search rules;
         },
       ),
       record {
@@ -110,19 +113,19 @@ invariant_of-self-in-Ok-Some g c =
     let pushed = c.push_range.ensures ∙ ap (λ rs. record m { ranges = m.ranges ++ rs }) (ranges_told-of z s c.range.result c.range.ensures n.name.items x item.item) in
     let e = c.advance.ensures.answered in
     let room = rw (c.free.ensures.value, c.in-Ok-Some.field-0-is) at c.in-Ok-Some.ensures.room in
-    rw pushed (mapped w n m (ranges_of (x ∷ [])) _ c.self.invariant e.sound (same_file _ _ _ e.fetches e.same) room
+    rw pushed (mapped w n m (ranges_of (x ∷ [])) _ c.self.invariant e.sound (same_file _ _ _ e.fetches e.same e.counts.more) room
     (bounded_then w n c.self.invariant.bounded e.paid e.same e.fetches.same_size)
     (ranges_of-within _ x (subst (λ y. IsPlacedIn y x) e.fetches.same_size item.placed))
     (ranges-given z n.name.items s x item.item))
 
-pub invariant_of-self-in-Err-1 : goal.invariant_of-self-in-Err-1
-invariant_of-self-in-Err-1 g c =
+pub invariant_of-self-in-Err : goal.invariant_of-self-in-Err
+invariant_of-self-in-Err g c =
     let e = c.advance.ensures.answered in
-    kept c.self.inside.walk c.advance.new.walk c.self.inside.map c.self.invariant e.sound (same_file _ _ _ e.fetches e.same) (rw c.free.ensures.value at c.in-Err.ensures.room)
+    kept c.self.inside.walk c.advance.new.walk c.self.inside.map c.self.invariant e.sound (same_file _ _ _ e.fetches e.same e.counts.more) (rw c.free.ensures.value at c.in-Err.ensures.room)
     (bounded_then c.self.inside.walk c.advance.new.walk c.self.invariant.bounded e.paid e.same e.fetches.same_size)
 
 pub invariant_of-self : goal.invariant_of-self
 invariant_of-self g c =
     let e = c.advance.ensures.answered in
-    kept c.self.inside.walk c.advance.new.walk c.self.inside.map c.self.invariant e.sound (same_file _ _ _ e.fetches e.same) (rw (c.free.ensures.value, c.in-Ok-None.field-0-is) at c.in-Ok-None.ensures.room)
+    kept c.self.inside.walk c.advance.new.walk c.self.inside.map c.self.invariant e.sound (same_file _ _ _ e.fetches e.same e.counts.more) (rw (c.free.ensures.value, c.in-Ok-None.field-0-is) at c.in-Ok-None.ensures.room)
     (bounded_then c.self.inside.walk c.advance.new.walk c.self.invariant.bounded e.paid e.same e.fetches.same_size)

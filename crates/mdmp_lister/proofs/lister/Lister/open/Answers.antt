@@ -1,4 +1,4 @@
-use Rattle.std.proofs.Common.{◌≡◌, ◌∙◌, ◌≤◌, ℕ, List, None, Some, Result, Ok, Err, ap, arith, inl, inr, refl, rules, subst, true, vec_capacity}
+use Rattle.std.proofs.Common.{◌≡◌, ◌∙◌, ◌≤◌, ◌+◌, ◌*◌, ℕ, List, None, Some, Result, Ok, Err, ap, arith, inl, inr, length, refl, rules, subst, sym, true, vec_capacity}
 use Rattle.mdmp_wire.specs.Header.{header_at}
 use Rattle.std.proofs.lemmas.Bool.{le-ltb, lt-ltb}
 use Rattle.mdmp_source.specs.Source.{SourceState, FetchesAtMost}
@@ -8,6 +8,7 @@ use Rattle.mdmp_lister.specs.declared.fault.FetchFault.{FetchFault}
 use Rattle.mdmp_lister.specs.declared.fault.OpenFault.{OpenFault}
 use Rattle.mdmp_lister.specs.declared.fault.OpenFault.TheVariants.{Memory, MemoryLimit, TooManyRanges}
 use Rattle.mdmp_lister.specs.declared.limits.Limits.{Limits}
+use Rattle.mdmp_lister.specs.declared.stage.Stage.TheVariants.{Between}
 use Rattle.mdmp_lister.specs.declared.walk.Walk.{Walk}
 use Rattle.mdmp_lister.specs.Fault.{IsCaused}
 use Rattle.mdmp_lister.specs.Format.Bounds.{held_bound}
@@ -18,13 +19,15 @@ use Rattle.mdmp_lister.specs.Meter.{IsBooked, KeepsTo, counts_of}
 use Rattle.mdmp_lister.specs.NextFetch.{TellsNextOpening}
 use Rattle.mdmp_lister.specs.Opening.{IsOfHead, IsOpenRefusal, IsOpeningOver, refusal_of_fetch, unread_of}
 use Rattle.mdmp_lister.specs.Refused.{IsRefusedLister}
-use Rattle.mdmp_lister.specs.StreamHead.{heads_ahead}
+use Rattle.mdmp_lister.specs.StreamHead.{heads_ahead, opening_bytes}
 use Rattle.mdmp_lister.specs.Walk.{CountsRanges, IsNewWalk}
+use Rattle.mdmp_lister.specs.Walk.Mapping.{IsMapped}
 use Rattle.mdmp_lister.proofs.Budgets.{over_fetched}
 use Rattle.mdmp_lister.proofs.Advancing.{IsCaused-counted, IsHandedBack-counted, KeepsToBudget-counted}
 use Rattle.mdmp_lister.proofs.Fetches.{not_unread, unread_caused}
 use Rattle.mdmp_lister.proofs.Memory.{lister_within, tells_memory-fetch, tells_memory-walk}
-use Rattle.mdmp_lister.proofs.Openings.{heads-next, next-counted}
+use Rattle.mdmp_lister.proofs.Openings.{heads-next, next-counted, opened_just, opened_new}
+use Rattle.mdmp_lister.proofs.Paying.{bounded_new}
 use Rattle.mdmp_lister.proofs.Refusals.{IsHandedBack_bare, not_of_head, not_of_memory, open_refusal, refusal_of-directory, refusal_of_fetch-any, refusal_of_fetch-caused, refusal_of_fetch-long}
 use Rattle.mdmp_lister.proofs.lister.Lister.open.Goals as goal
 
@@ -54,11 +57,18 @@ returns-in-Ok-with_room-clause-new g c =
     let heads : heads_ahead w.choice w.meter.source.size w.entries.items ≡ heads_ahead c.args.choice c.args.source.size w.entries.items =
     ap (λ (c : Choice). heads_ahead c w.meter.source.size w.entries.items) new.choice_is ∙ ap (λ z. heads_ahead c.args.choice z w.entries.items) new.spends.fetches.same_size in
     let free : c.in-Ok-with_room.map.room ≡ c.in-Ok-count_ranges.count = search rules in
+    let n = c.count_ranges.new.self in
+    let ok = n.entries.ok.0 in
+    let all : n.meter.fetched ≡ 32 + 12 * length n.entries.items + heads_ahead n.choice n.meter.source.size n.entries.items =
+    omega (arith, ok, opened_just c.args.source c.args.choice c.args.limits w n c.in-Ok-count_ranges.count new counts) in
+    let just : n.meter.fetched ≡ opening_bytes c.args.choice c.args.source.size n.entries.items = rw (room.choice ∙ new.choice_is, books.fetches.same_size ∙ new.spends.fetches.same_size) at all in
+    let kept : KeepsTo c.args.limits.budget n.meter.fetched = rw (c.counts-counts.ensures.value, books.same_budget ∙ new.budget) at c.counts-counts.ensures.kept.kept in
     record {
       list = record {
         same_content = books.fetches.same_content ∙ new.spends.fetches.same_content;
         steady = (counts.caused.once.0 ∙ new.spends.steady.0, counts.caused.once.1 ∙ new.spends.steady.1);
         counts = record { budget_is = books.same_budget ∙ new.budget; names = books.same_names ∙ new.spends.names; aside = books.same_aside ∙ new.spends.aside; start = books.same_start ∙ new.spends.start };
+        kept = kept;
         read = record {
           header_is = λ file known. counts.sound.header_is file (books.fetches.same_content ∙ new.spends.fetches.same_content ∙ known);
           directory = λ file known. counts.sound.directory file (books.fetches.same_content ∙ new.spends.fetches.same_content ∙ known);
@@ -83,6 +93,16 @@ returns-in-Ok-with_room-clause-new g c =
         };
       };
       fetches = rw (room.header_is, room.entries) (fetches_then _ _ _ _ _ new.spends.fetches (subst (λ k. FetchesAtMost k w.meter.source c.count_ranges.new.self.meter.source) heads books.fetches));
+      fetched = just;
+      opening = λ file known.
+          let content = books.fetches.same_content ∙ new.spends.fetches.same_content ∙ known in
+          let whole : n.meter.source.size ≡ length file = rw content at counts.sound.sized in
+          let size : c.args.source.size ≡ length file = sym (books.fetches.same_size ∙ new.spends.fetches.same_size) ∙ whole in
+          record {
+            entries = n.entries.items;
+            directory = counts.sound.directory file content;
+            kept = subst (KeepsTo c.args.limits.budget) (just ∙ ap (λ z. opening_bytes c.args.choice z n.entries.items) size) kept;
+          };
       calls = rw room.header_is (omega (arith, books.source_calls, new.spends.calls, new.reads.entries));
       range_room = λ file known. free ∙ counts.count file (new.spends.fetches.same_content ∙ known) ∙ ap (range_count file) new.choice_is;
       few = omega (arith, free);
@@ -183,3 +203,29 @@ returns-in-Err-with_room-clause-refused g c =
     let holds : is_within c.args.limits.memory (held_bound c.args.limits.window c.args.limits.name n.header.number_of_streams count) ≡ true = search rules in
     lister_within c.args.limits file c.args.choice n.header count (c.in-Ok.ensures.within file known) header counted (omega arith) holds)
     tt (IsCaused-counted c.args.source c.args.choice c.args.limits c.in-Ok.walk n (Ok count) new counts) tt tt)
+
+-- ---- the map of the lister
+
+pub invariant_of-result : goal.invariant_of-result
+invariant_of-result g c =
+    let new = c.in-Ok.ensures.new in
+    let counts = c.in-Ok-count_ranges.ensures in
+    let count = c.in-Ok-count_ranges.count in
+    let n = c.count_ranges.new.self in
+    let map = c.in-Ok-with_room.map in
+    let free : map.room ≡ count = search rules in
+    let stage : n.stage ≡ Between = counts.stage ∙ new.stage in
+    let known_count : (file : List ℕ) → n.meter.source.store.content ≡ Some file → map.room ≡ range_count file n.choice =
+    λ file known. rw counts.same.room.choice (free ∙ counts.count file (sym counts.books.fetches.same_content ∙ known)) in
+    let mapped : IsMapped n map = record {
+      sound = counts.sound;
+      room = record {
+        ahead = rw stage (omega arith);
+        owed = λ file known. rw (stage, counts.same.next ∙ new.next) (search (rules, known_count file known));
+      };
+      inside = search rules;
+      bounded = bounded_new c.in-Ok.walk n c.args.source c.args.choice c.args.limits (Ok count) new counts;
+      opened = opened_new c.args.source c.args.choice c.args.limits c.in-Ok.walk n count new counts;
+      counted = known_count;
+    } in
+    mapped

@@ -166,5 +166,8 @@ returns-clause-new g c =
         header_is = λ file known. (of.finds file (sym all.fetches.same_content ∙ known)).1;
         unfailed = λ file good. tt;
         refused = tt;
+        opened =
+            let first : c.read_header.new.meter.fetched ≡ 32 = rw began at of.tries in
+            omega (arith, first, read.tries, read.count);
       };
     }

@@ -7,5 +7,5 @@ returns-clause-of_file g c = rw (← c.self.view_is, c.counts.ensures.value) (λ
 
 pub returns-clause-held : goal.returns-clause-held
 returns-clause-held g c =
-    let held = counts_held c.self.inside.walk 0 [] (omega arith) c.counts.ensures.booked c.counts.ensures.kept in
-    rw (← c.self.view_is, c.counts.ensures.value) (record { held = held.held; entries = held.entries; ranges = held.ranges; booked = held.booked; kept = held.kept })
+    let held = counts_held c.self.inside.walk 0 [] c.self.invariant.sound (omega arith) c.counts.ensures.booked c.counts.ensures.kept in
+    rw (← c.self.view_is, c.counts.ensures.value) (record { held = held.held; entries = held.entries; ranges = held.ranges; booked = held.booked; kept = held.kept; opened = held.opened })

@@ -1,15 +1,21 @@
-use Rattle.std.proofs.Common.{◌∙◌, refl, rules}
+use Rattle.std.proofs.Common.{◌≡◌, ◌+◌, ◌*◌, ◌∙◌, arith, refl, rules, subst}
+use Rattle.mdmp_lister.specs.Format.Listing.{entry_count}
+use Rattle.mdmp_lister.specs.Meter.{KeepsTo}
 use Rattle.mdmp_lister.proofs.Walked.{entry_cost-unused}
 use Rattle.mdmp_lister.proofs.walker.Walker.open.Goals as goal
 
 pub returns-in-Ok-clause-new : goal.returns-in-Ok-clause-new
 returns-in-Ok-clause-new g c =
     let new = c.in-Ok.ensures.new in
+    let w = c.in-Ok.walk in
+    let ok = w.entries.ok.0 in
+    let kept : KeepsTo c.args.limits.budget w.meter.fetched = rw (c.counts-mark.ensures.value, new.budget) at c.counts-mark.ensures.kept.kept in
     record {
       list = record {
         same_content = new.spends.fetches.same_content;
         steady = new.spends.steady;
         counts = record { budget_is = new.budget; names = new.spends.names; aside = new.spends.aside; start = new.spends.start };
+        kept = kept;
         read = record {
           header_is = λ file known. new.sound.header_is file (new.spends.fetches.same_content ∙ known);
           directory = λ file known. new.sound.directory file (new.spends.fetches.same_content ∙ known);
@@ -22,6 +28,11 @@ returns-in-Ok-clause-new g c =
         given = record { left = search rules; stop = search rules; passed = new.next; standing = rw new.stage refl; unread = search rules; ranges = refl };
       };
       fetches = new.spends.fetches;
+      fetched = omega (arith, ok, new.spends.fetched, new.reads.entries);
+      opening = λ file known.
+          let directory = new.sound.directory file (new.spends.fetches.same_content ∙ known) in
+          let all : w.meter.fetched ≡ 32 + 12 * entry_count file = omega (arith, ok, new.spends.fetched, new.reads.entries, directory.count) in
+          subst (KeepsTo c.args.limits.budget) all kept;
       calls = new.spends.calls;
       asked = new.spends.asked;
       range_room = refl;
