@@ -1,15 +1,22 @@
 -- What a pass over all entries fetches, a look at a time.
-use Rattle.std.proofs.Common.{◌≡◌, ◌≤◌, ◌+◌, ◌*◌, ◌∙◌, ℕ, List, [], ◌∷◌, Option, Result, Ok, Err, ap, arith, drop, refl, subst, sym, true, false}
+use Rattle.std.proofs.Common.{◌≡◌, ◌≤◌, ◌+◌, ◌*◌, ◌∙◌, ℕ, List, [], ◌∷◌, Option, None, Some, Result, Ok, Err, ap, arith, drop, refl, subst, sym, true, false}
 use Rattle.std.proofs.lemmas.List.Sums.{sum_by-cons}
 use Rattle.std.specs.Prelude.{sum_by}
+use Rattle.mdmp_source.specs.Extent.{extent_of}
+use Rattle.mdmp_source.specs.declared.location.Extent.{Extent}
+use Rattle.mdmp_source.specs.declared.location.Extent.TheVariants.{Empty, Absent, Inside, Outside}
+use Rattle.mdmp_source.specs.declared.location.Location.{Location}
+use Rattle.mdmp_wire.specs.declared.system.SystemRecord.{SystemRecord}
+use Rattle.mdmp_lister.proofs.Fetches.{FetchesAtMost-within}
 use Rattle.mdmp_lister.specs.declared.item.Item.{Item}
+use Rattle.mdmp_lister.specs.declared.meter.Amount.{Amount}
 use Rattle.mdmp_lister.specs.declared.meter.MeterCounts.{MeterCounts}
 use Rattle.mdmp_lister.specs.declared.position.Position.{Position}
 use Rattle.mdmp_lister.specs.declared.position.Position.TheVariants.{Begun, Sought, Within}
 use Rattle.mdmp_lister.specs.Listed.{cost_of, entry_cost}
 use Rattle.mdmp_lister.specs.Lister.{IsSameLister, ListerState}
 use Rattle.mdmp_lister.specs.Walker.{WalkerState, is_sought, seeks}
-use Rattle.mdmp_summary.specs.Spending.{CountsNames, IsBegunAfter, KeepsSettled, LookPaid, PassPaid, PaysLook, PaysPasses, ReadsContext, ReadsNoneSince, RisesByNames, SpendsPasses, ahead, ahead_after, all_listed, room_for_name, next_number, settled}
+use Rattle.mdmp_summary.specs.Spending.{CountsNames, IsBegunAfter, KeepsSettled, LookPaid, PassPaid, PaysLook, PaysPasses, ReadsContext, ReadsNoneSince, ReadsOutside, RisesByNames, SpendsPasses, ahead, ahead_after, all_listed, context_amount, context_cost, room_for_name, next_number, settled}
 use Rattle.mdmp_summary.specs.Summing.{SpendsCrash, SpendsSummary, SpendsToFault, contexts_for, passes_for}
 use Rattle.mdmp_summary.specs.Visiting.{IsAtMost, RisesOutside, nothing_read}
 use Rattle.mdmp_summary.specs.Walking.{IsSameListing}
@@ -165,7 +172,39 @@ none_since items old new outside begun = record {
   calls = let more = outside.calls in let least = begun.calls in omega (arith, more, least, none_of_all items);
 }
 
-module _ (old new : WalkerState) (reads : ReadsContext old new) where
+-- what keeps to fewer bytes outside the listing keeps to more
+outside_within : (less more : Amount) (old new : WalkerState) → IsAtMost less more → ReadsOutside less old new → ReadsOutside more old new
+outside_within less more old new few reads = record {
+  same = reads.same;
+  aside = record {
+    aside = let bytes = reads.aside.aside in let fits = few.bytes in omega (arith, bytes, fits);
+    more = reads.aside.more;
+    aside_calls = let calls = reads.aside.aside_calls in let fits = few.calls in omega (arith, calls, fits);
+    more_aside_calls = reads.aside.more_aside_calls;
+    same_fetched = reads.aside.same_fetched;
+    same_calls = reads.aside.same_calls;
+    same_names = reads.aside.same_names;
+    same_start = reads.aside.same_start;
+    same_budget = reads.aside.same_budget;
+    same_asked = reads.aside.same_asked;
+  };
+  fetches = FetchesAtMost-within less.bytes more.bytes old.list.source new.list.source few.bytes reads.fetches;
+}
+
+context_few : (system : Option SystemRecord) (at : Location) (class : Extent) → IsAtMost (context_amount system at class) context_cost
+context_few None at class = record { bytes = omega arith; calls = omega arith }
+context_few (Some system) at Inside = record { bytes = omega arith; calls = omega arith }
+context_few (Some system) at Empty = record { bytes = omega arith; calls = omega arith }
+context_few (Some system) at Absent = record { bytes = omega arith; calls = omega arith }
+context_few (Some system) at Outside = record { bytes = omega arith; calls = omega arith }
+
+-- so a context costs no more than 272 bytes and a call
+pub context_within : (system : Option SystemRecord) (at : Location) (old new : WalkerState) → ReadsContext system at old new → ReadsOutside context_cost old new
+context_within system at old new reads =
+    let class = extent_of at old.list.source.size in
+    outside_within (context_amount system at class) context_cost old new (context_few system at class) reads
+
+module _ (old new : WalkerState) (reads : ReadsOutside context_cost old new) where
   read_by : (count : MeterCounts → ℕ) → count new.list.counts ≡ count old.list.counts → PassPaid count 0 old new
   read_by count same =
       let size = reads.fetches.same_size in

@@ -128,12 +128,12 @@ look_later a b c f before look = record {
 }
 
 pub pass_later : (a b c : ListerState) (f : ListFault) → FetchesSome a.source b.source → IsPassFault b c f → IsPassFault a c f
-pass_later a b c f before pass = record { unobtained = pass.unobtained; look = look_later a b c f before pass.look; entry = pass.entry }
+pass_later a b c f before pass = record { unobtained = pass.unobtained; look = look_later a b c f before pass.look; entry = pass.entry; number = pass.number; stop = pass.stop }
 
 pub call_later : (a b c : ListerState) (f : SummaryFault) → FetchesSome a.source b.source → IsCallFault b c f → IsCallFault a c f
 call_later a b c (faults.Opening fault) before is = is
 call_later a b c (faults.List fault) before is = pass_later a b c fault before is
-call_later a b c (faults.Source fault) before is = told_later fault before.count a.source b.source c.source before.fetches is
+call_later a b c (faults.Source fault) before is = record { told = told_later fault before.count a.source b.source c.source before.fetches is.told; going = is.going }
 
 -- an error of what a visitor read is one of all that was read before it too
 pub end_later : (end : VisitEnd) (n : ℕ) (a b c : SourceState) → FetchesAtMost n a b → IsEndTold b c end → IsEndTold a c end

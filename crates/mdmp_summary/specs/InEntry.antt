@@ -1,5 +1,5 @@
 -- The entry of its directory in which a listing stands.
-use Rattle.std.specs.Prelude.{◌≡◌, ℕ, List, Some, Result, Err, IsTrue, false, slice_get}
+use Rattle.std.specs.Prelude.{◌≡◌, ◌+◌, ℕ, List, Some, Result, Err, IsTrue, false, slice_get}
 use Rattle.mdmp_wire.specs.declared.entry.Entry.{Entry}
 use Rattle.mdmp_lister.specs.declared.choice.Choice.{Choice}
 use Rattle.mdmp_lister.specs.declared.sink.RunFault.{RunFault}
@@ -39,7 +39,14 @@ abbrev pub VisitsInChosen : VisitFault → ListerState → Type 0
 VisitsInChosen (faults.List fault) v = IsInChosen v
 VisitsInChosen (faults.Ended end) v = Unit {0}
 
--- a run that ends by the read limit tells a read that came next in the current entry, which is a chosen one if the run began in one
+-- an error names the entry in which the listing stands: the one before the next
+abbrev pub NamesEntry : Result (Unit {0}) RunFault → ListerState → Type 0
+NamesEntry (Err (run.At fault)) v = fault.entry + 1 ≡ v.passed
+NamesEntry result v = Unit {0}
+
+-- a run that ends by the read limit tells a read that came next in the current entry, which is a chosen one if the run began in one. Its
+-- error names that entry
 pub record EndsInEntry (old : ListerState) (result : Result (Unit {0}) RunFault) (new : ListerState) : Type 0 where
   pub next : TellsRunFetch result new
   pub chosen : StandsInChosen old → EndsInChosen result new
+  pub names : NamesEntry result new

@@ -1,6 +1,11 @@
 -- What a summary fetches: at most the listed streams twice, and for each name that is reached its length and the limit on names.
-use Rattle.std.specs.Prelude.{◌≡◌, ◌≤◌, ◌<◌, ◌+◌, ◌*◌, ◌^◌, ℕ, drop, false, IfErr, Result, Ok, Err}
+use Rattle.std.specs.Prelude.{◌≡◌, ◌≤◌, ◌<◌, ◌+◌, ◌*◌, ◌^◌, ℕ, drop, min, false, IfErr, Option, None, Some, Result, Ok, Err}
+use Rattle.mdmp_source.specs.Extent.{extent_of}
 use Rattle.mdmp_source.specs.Source.{FetchesAtMost}
+use Rattle.mdmp_source.specs.declared.location.Extent.{Extent}
+use Rattle.mdmp_source.specs.declared.location.Extent.TheVariants.{Empty, Absent, Inside, Outside}
+use Rattle.mdmp_source.specs.declared.location.Location.{Location}
+use Rattle.mdmp_wire.specs.declared.system.SystemRecord.{SystemRecord}
 use Rattle.mdmp_lister.specs.declared.meter.Amount.{Amount}
 use Rattle.mdmp_lister.specs.declared.meter.MeterCounts.{MeterCounts}
 use Rattle.mdmp_lister.specs.declared.position.Position.{Position}
@@ -9,7 +14,7 @@ use Rattle.mdmp_lister.specs.Listed.{cost_of, entry_cost}
 use Rattle.mdmp_lister.specs.Meter.{SpendsAside}
 use Rattle.mdmp_lister.specs.Walker.{WalkerState, is_sought}
 use Rattle.mdmp_summary.specs.Summary.{context_room}
-use Rattle.mdmp_summary.specs.Visiting.{IsAtMost}
+use Rattle.mdmp_summary.specs.Visiting.{IsAtMost, nothing_read}
 
 -- a number rose by no more than so many bytes for each name that was reached
 abbrev pub RisesByNames : (room old before new after : ℕ) → Type 0
@@ -102,10 +107,19 @@ pub record ReadsOutside (most : Amount) (old new : WalkerState) : Type 0 where
   pub aside : SpendsAside most.calls most.bytes old.list.counts new.list.counts
   pub fetches : FetchesAtMost most.bytes old.list.source new.list.source
 
--- what is read of a context
+-- what is read of a context at most
 abbrev pub context_cost : Amount
 context_cost = record { bytes = context_room; calls = 1 }
 
+-- and of the one at a location of this extent: if it lies inside the file and the system is known, as many bytes as it has, or the
+-- first 272, by one call. Else nothing is read
+abbrev pub context_amount : Option SystemRecord → Location → Extent → Amount
+context_amount None at class = nothing_read
+context_amount (Some system) at Inside = record { bytes = min at.size context_room; calls = 1 }
+context_amount (Some system) at Empty = nothing_read
+context_amount (Some system) at Absent = nothing_read
+context_amount (Some system) at Outside = nothing_read
+
 -- the registers were read
-abbrev pub ReadsContext : WalkerState → WalkerState → Type 0
-ReadsContext = ReadsOutside context_cost
+abbrev pub ReadsContext : Option SystemRecord → Location → WalkerState → WalkerState → Type 0
+ReadsContext system at old new = ReadsOutside (context_amount system at (extent_of at old.list.source.size)) old new

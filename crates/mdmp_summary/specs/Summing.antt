@@ -1,16 +1,18 @@
 -- Why there may be no summary.
-use Rattle.std.specs.Prelude.{◌≡◌, ℕ, List, Option, None, Some, Result, Ok, Err, IfErr}
+use Rattle.std.specs.Prelude.{◌≡◌, ℕ, List, Option, None, Some, Result, Ok, Err, IfErr, false}
 use Rattle.mdmp_source.specs.Source.{IsTold, SourceState}
+use Rattle.mdmp_source.specs.declared.fault.SourceFault.{SourceFault}
 use Rattle.mdmp_lister.specs.declared.choice.Choice.TheVariants.{All}
 use Rattle.mdmp_lister.specs.declared.fault.OpenFault.{OpenFault}
 use Rattle.mdmp_lister.specs.declared.fault.OpenFault.TheVariants as opening
 use Rattle.mdmp_lister.specs.declared.limits.Limits.{Limits}
+use Rattle.mdmp_lister.specs.Counts.{AreHeld, numbers_of}
 use Rattle.mdmp_lister.specs.Fault.{IsOfStore, IsUnobtained}
 use Rattle.mdmp_lister.specs.Lister.{ListerState}
 use Rattle.mdmp_lister.specs.Memory.{IsWalkRefusal}
 use Rattle.mdmp_lister.specs.Opening.{IsUnread}
 use Rattle.mdmp_lister.specs.Refused.{IsRefusedWalker}
-use Rattle.mdmp_lister.specs.Walker.{IsNewWalker, WalkerState}
+use Rattle.mdmp_lister.specs.Walker.{IsNewWalker, WalkerState, is_failed}
 use Rattle.mdmp_summary.specs.Spending.{ReadsNoneSince, SpendsPasses}
 use Rattle.mdmp_summary.specs.Walking.{IsPassFault, IsSameListing}
 use Rattle.mdmp_summary.specs.declared.summary.Crash.{Crash}
@@ -33,11 +35,17 @@ IsFileFault limits F (faults.Opening fault) = IsWalkRefusal limits F fault
 IsFileFault limits F (faults.List fault) = ⊥
 IsFileFault limits F (faults.Source fault) = ⊥
 
--- the error of a summary of a file that is open: bytes were not read. It has its cause in this call, and its place
+-- the error of a context that was not read: the store failed in this call, and the listing has not failed
+pub record IsContextFault (old new : ListerState) (fault : SourceFault) : Type 0 where
+  pub told : IsTold fault old.source new.source
+  pub going : is_failed new.stop ≡ false
+
+-- the error of a summary of a file that is open: bytes were not read. It has its cause in this call, and its place: that of an entry is
+-- the one with which the listing has failed
 abbrev pub IsCallFault : ListerState → ListerState → SummaryFault → Type 0
 IsCallFault old new (faults.Opening fault) = ⊥
 IsCallFault old new (faults.List fault) = IsPassFault old new fault
-IsCallFault old new (faults.Source fault) = IsTold fault old.source new.source
+IsCallFault old new (faults.Source fault) = IsContextFault old new fault
 
 -- it is the store that failed
 abbrev pub IsUnreadIn : SummaryFault → Type 0
@@ -74,9 +82,10 @@ SpendsSummary (Ok summary) old new = SpendsPasses (passes_for summary.crash) (co
 SpendsSummary (Err fault) old new = SpendsToFault fault old new
 
 -- how a source was read before it was dropped: its opening was refused, and says why; or a walker that was just opened made the
--- passes, and read no more than these, with an error that has its cause and its place in them
+-- passes, and read no more than these, with an error that has its cause and its place in them. What it counted is what it read, which
+-- is within the read limit
 pub data IsSummarizedThrough (may_go : SourceState → Type 0) (limits : Limits) (source : SourceState) (result : Result FileSummary SummaryFault) : Type 0 where
   refused : (fault : OpenFault) (new : SourceState) → result ≡ Err (faults.Opening fault) → IsRefusedWalker limits source fault new → may_go new
       → IsSummarizedThrough may_go limits source result
   passed : (old new : WalkerState) → IsNewWalker source All limits old → SpendsSummary result old new → IsSameListing old.list new.list
-      → IfErr result (IsCallFault old.list new.list) → may_go new.list.source → IsSummarizedThrough may_go limits source result
+      → IfErr result (IsCallFault old.list new.list) → AreHeld new.list (numbers_of new.list) → may_go new.list.source → IsSummarizedThrough may_go limits source result

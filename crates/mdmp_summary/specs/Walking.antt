@@ -1,5 +1,5 @@
 -- The error of a look at the items that are left, and what a pass over all entries leaves.
-use Rattle.std.specs.Prelude.{◌≡◌}
+use Rattle.std.specs.Prelude.{◌≡◌, ◌+◌, Some}
 use Rattle.mdmp_source.specs.Source.{FetchesSome}
 use Rattle.mdmp_lister.specs.declared.fault.ListFault.{ListFault}
 use Rattle.mdmp_lister.specs.Fault.{IsToldIn, IsUnobtained, TellsNoChange}
@@ -17,11 +17,13 @@ pub record IsLookFault (old new : ListerState) (f : ListFault) : Type 0 where
   pub refused : IsRefusedIn f new
   pub next : TellsSomeFetch (standpoint_in new) f.kind f.offset f.size new.counts.fetched
 
--- the error of a pass: bytes were not read, in a chosen entry
+-- the error of a pass: bytes were not read, in a chosen entry, which it names. The listing has failed with it
 pub record IsPassFault (old new : ListerState) (f : ListFault) : Type 0 where
   pub unobtained : IsUnobtained f.kind
   pub look : IsLookFault old new f
   pub entry : IsInChosen new
+  pub number : f.entry + 1 ≡ new.passed
+  pub stop : new.stop ≡ Some (Some f)
 
 -- ---- what a pass leaves
 

@@ -14,8 +14,9 @@ use std::alloc::Allocator;
 /// How many bytes of a context are read at most. The three registers of each known layout are among them.
 const CONTEXT_ROOM: usize = 272;
 
-/// Reads the registers in the context at a location, by the system of the dump: at most 272 bytes, outside the listing.
-/// There are none if the context lies outside the file, or if its layout is not known.
+/// Reads the registers in the context at a location, by the system of the dump: at most 272 bytes by one call, outside
+/// the listing. There are none if the context lies outside the file, or if its layout is not known. If it lies outside
+/// the file, or the system is not known, nothing is read.
 pub fn read_registers<S: Store + Drop, A: Allocator + Copy>(
     walker: &mut Walker<S, A>,
     system: Option<SystemRecord>,
@@ -25,7 +26,7 @@ pub fn read_registers<S: Store + Drop, A: Allocator + Copy>(
         → IfOk result (λ registers. registers ≡ registers_of file system at) }
     ensures told { IfErr result (λ fault. IsTold fault walker.old.list.source walker.new.list.source) }
     ensures good { (file : List ℕ) → IsGood walker.old.list.source.store file → IsOk result }
-    ensures reads { ReadsContext walker.old walker.new }
+    ensures reads { ReadsContext system at walker.old walker.new }
 {
     let Some(system) = system else {
         return Ok(None);

@@ -158,6 +158,8 @@ where
     match Walker::open(alloc, source, limits, Choice::All) {
         Ok(mut walker) => {
             let answer = summarize_listing(&mut walker);
+            // The proof learns here that the walker kept to its read limit.
+            let _counts = walker.counts();
             walker.into_source().let_go();
             answer
         }

@@ -77,6 +77,7 @@ returns-then-is_unobtained-clause-leaves g c =
       ends = record {
         next = ran.next c.requires.going;
         chosen = run_ends c.args.lister.now c.list_into.new.self ran.items (Err (run.At c.in-Err-At.fault)) of.same.choice of.same.entries (ran.follows c.requires.going);
+        names = (of.told c.requires.going c.in-Err-At.fault c.in-Err-At.field-0-is).1;
       };
       stands = λ is. absurd (cc);
       going = λ is. absurd (cc);

@@ -117,7 +117,7 @@ returns-in-Err-clause-same g c = same_lister-then c.args.lister.now c.entries.li
 pub returns-in-Err-clause-ends : goal.returns-in-Err-clause-ends
 returns-in-Err-clause-ends g c =
     let of = c.in-Err.ensures.leaves.ends in
-    record { next = of.next; chosen = λ in_chosen. of.chosen (c.entries.invariant.stands in_chosen) }
+    record { next = of.next; chosen = λ in_chosen. of.chosen (c.entries.invariant.stands in_chosen); names = of.names }
 
 pub returns-in-Err-clause-told : goal.returns-in-Err-clause-told
 returns-in-Err-clause-told g c =

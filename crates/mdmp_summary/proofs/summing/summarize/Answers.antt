@@ -1,4 +1,6 @@
 use Rattle.std.proofs.Common.{◌≡◌, None, ap, ◌∙◌, refl, subst}
+use Rattle.mdmp_lister.specs.Counts.{AreHeld}
+use Rattle.mdmp_lister.specs.declared.counts.Counts.{Counts}
 use Rattle.mdmp_lister.specs.Memory.{walk_fault}
 use Rattle.mdmp_summary.specs.Summary.{file_summary}
 use Rattle.mdmp_summary.specs.Summing.{IsSummarizedThrough}
@@ -28,6 +30,7 @@ pub returns-in-Ok-clause-through : goal.returns-in-Ok-clause-through
 returns-in-Ok-clause-through g c =
     let sums = c.summarize_listing-answer.ensures in
     IsSummarizedThrough.passed c.in-Ok.walker c.summarize_listing-answer.new.walker c.in-Ok.ensures.new sums.spends sums.same sums.fault
+    (subst (λ (n : Counts). AreHeld c.summarize_listing-answer.new.walker.list n) c.counts-counts.ensures.value c.counts-counts.ensures.held)
     (subst g.bound-4.may_go c.into_source.ensures.value c.let_go.ensures)
 
 pub returns-in-Err-clause-through : goal.returns-in-Err-clause-through

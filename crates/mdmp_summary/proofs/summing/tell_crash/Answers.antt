@@ -1,35 +1,43 @@
-use Rattle.mdmp_summary.proofs.Passing.{crash_spends, spends_read}
+use Rattle.std.proofs.Common.{◌∙◌}
+use Rattle.mdmp_lister.specs.Walker.{is_failed}
+use Rattle.mdmp_summary.proofs.Passing.{context_within, crash_spends, spends_read}
 use Rattle.mdmp_summary.specs.Spending.{context_cost}
 use Rattle.mdmp_summary.proofs.Told.{good_still, outside_listing, pass_later, same_listing_then}
 use Rattle.mdmp_summary.proofs.summing.tell_crash.Goals as goal
+
+pub returns-in-Err-clause-fault : goal.returns-in-Err-clause-fault
+returns-in-Err-clause-fault g c = record {
+  told = c.in-Err.ensures.told;
+  going = (λ i. is_failed (c.in-Err.ensures.reads.same i).list.stop) ∙ c.requires.going;
+}
 
 pub returns-in-Err-clause-spends : goal.returns-in-Err-clause-spends
 returns-in-Err-clause-spends g c =
     let old = c.args.walker.now in
     let mid = c.read_registers.new.walker in
-    spends_read old mid c.in-Err.ensures.reads
+    spends_read old mid (context_within c.args.system c.args.exception.fields.thread_context old mid c.in-Err.ensures.reads)
 
 pub returns-in-Err-clause-same : goal.returns-in-Err-clause-same
-returns-in-Err-clause-same g c = outside_listing context_cost c.args.walker.now c.read_registers.new.walker c.in-Err.ensures.reads
+returns-in-Err-clause-same g c = outside_listing _ c.args.walker.now c.read_registers.new.walker c.in-Err.ensures.reads
 
 pub returns-in-Ok-search_all-clause-spends : goal.returns-in-Ok-search_all-clause-spends
 returns-in-Ok-search_all-clause-spends g c =
     let old = c.args.walker.now in
     let mid = c.read_registers.new.walker in
-    let reads = c.in-Ok.ensures.reads in
+    let reads = context_within c.args.system c.args.exception.fields.thread_context old mid c.in-Ok.ensures.reads in
     crash_spends old mid c.search_all.new.walker (outside_listing context_cost old mid reads) (spends_read old mid reads) c.in-Ok-search_all.ensures.spends
 
 pub returns-in-Ok-search_all-clause-same : goal.returns-in-Ok-search_all-clause-same
 returns-in-Ok-search_all-clause-same g c =
     let old = c.args.walker.now in
     let mid = c.read_registers.new.walker in
-    same_listing_then old.list mid.list c.search_all.new.walker.list (outside_listing context_cost old mid c.in-Ok.ensures.reads) c.in-Ok-search_all.ensures.same
+    same_listing_then old.list mid.list c.search_all.new.walker.list (outside_listing _ old mid c.in-Ok.ensures.reads) c.in-Ok-search_all.ensures.same
 
 pub returns-in-Err-search_all-clause-fault : goal.returns-in-Err-search_all-clause-fault
 returns-in-Err-search_all-clause-fault g c =
     let old = c.args.walker.now in
     let mid = c.read_registers.new.walker in
-    pass_later old.list mid.list c.search_all.new.walker.list c.in-Err-search_all.fault (outside_listing context_cost old mid c.in-Ok.ensures.reads).same_file c.in-Err-search_all.ensures.fault
+    pass_later old.list mid.list c.search_all.new.walker.list c.in-Err-search_all.fault (outside_listing _ old mid c.in-Ok.ensures.reads).same_file c.in-Err-search_all.ensures.fault
 
 pub returns-in-Err-search_all-clause-good : goal.returns-in-Err-search_all-clause-good
 returns-in-Err-search_all-clause-good g c = λ file good.
@@ -40,7 +48,7 @@ pub returns-in-Err-search_all-clause-spends : goal.returns-in-Err-search_all-cla
 returns-in-Err-search_all-clause-spends g c =
     let old = c.args.walker.now in
     let mid = c.read_registers.new.walker in
-    let reads = c.in-Ok.ensures.reads in
+    let reads = context_within c.args.system c.args.exception.fields.thread_context old mid c.in-Ok.ensures.reads in
     let search = c.in-Err-search_all.ensures in
     (crash_spends old mid c.search_all.new.walker (outside_listing context_cost old mid reads) (spends_read old mid reads) search.spends, search.none)
 
@@ -48,4 +56,4 @@ pub returns-in-Err-search_all-clause-same : goal.returns-in-Err-search_all-claus
 returns-in-Err-search_all-clause-same g c =
     let old = c.args.walker.now in
     let mid = c.read_registers.new.walker in
-    same_listing_then old.list mid.list c.search_all.new.walker.list (outside_listing context_cost old mid c.in-Ok.ensures.reads) c.in-Err-search_all.ensures.same
+    same_listing_then old.list mid.list c.search_all.new.walker.list (outside_listing _ old mid c.in-Ok.ensures.reads) c.in-Err-search_all.ensures.same

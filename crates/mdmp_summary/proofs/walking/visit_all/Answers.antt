@@ -218,6 +218,8 @@ returns-then-is_unobtained-clause-fault g c =
       unobtained = unobtained f.kind (sym c.is_unobtained.ensures ∙ c.if-is_unobtained.true);
       look = look_later c.args.walker.now.list c.entries.walker.list c.visit_rest.new.walker.list f c.entries.invariant.same.same_file look.fault;
       entry = look.entry c.entries.invariant.walks;
+      number = look.ends.stops.1;
+      stop = look.ends.stops.0;
     }
 
 pub returns-then-is_unobtained-clause-good : goal.returns-then-is_unobtained-clause-good
