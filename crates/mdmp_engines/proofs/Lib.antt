@@ -1,3 +1,4 @@
+pub mod Asking
 pub mod Besides
 pub mod BlockLemmas
 pub mod Checking

@@ -29,7 +29,8 @@ use Rattle.mdmp_summary.specs.InEntry.{IsInChosen, StandsInChosen}
 use Rattle.mdmp_engines.specs.Causes.{EndsByBudget, HasAsideCause, HasBudgetCause, HasMemoryCause, HasOpeningBudget, IsOverInChosen, IsWithinBudget, IsWithinMemory, KeepsAside, MayReachAside, MayReachBudget, MayReachMemory, symbols_cost}
 use Rattle.mdmp_engines.specs.declared.fault.ToolFault.{ToolFault}
 use Rattle.mdmp_engines.specs.declared.fault.ToolFault.TheVariants.{AsideLimit, Budget, MemoryLimit, Out}
-use Rattle.mdmp_engines.specs.Engines.{Access, EndsFlushed, HasListed, IsEarly, IsSameRun, IsReadThrough}
+use Rattle.mdmp_engines.proofs.Asking.{out_requested}
+use Rattle.mdmp_engines.specs.Engines.{Access, EndsFlushed, HasAskedLister, HasListed, IsEarly, IsSameRun, IsReadThrough}
 use Rattle.mdmp_engines.specs.Telling.{listing_told, opening_beside, told_by}
 
 -- ---- a lister that a command was given
@@ -145,8 +146,8 @@ budget_entry r u v stands over = tt
 
 -- behind another answer, which may tell a limit too
 listed_with : {T : Type 0} (access : Access) (old new : SourceState) (answer other : Result T ToolFault) (is : HasListed access old answer new)
-    → HasBudgetCause other is.lister → IsOverInChosen other is.lister → HasAsideCause access.aside other is.lister → IsWithinMemory other → HasListed access old other new
-listed_with access old new answer other is over entry cause within = record {
+    → HasBudgetCause other is.lister → IsOverInChosen other is.lister → HasAsideCause access.aside other is.lister → IsWithinMemory other → HasAskedLister access old other is.lister → HasListed access old other new
+listed_with access old new answer other is over entry cause within asked = record {
   lister = is.lister;
   opened = is.opened;
   of_file = is.of_file;
@@ -155,8 +156,10 @@ listed_with access old new answer other is over entry cause within = record {
   entry = entry;
   aside_kept = record { kept = is.aside_kept.kept; over = cause };
   reads = is.reads;
+  asked = asked;
   memory = is.memory;
   opens = is.opens;
+  opening = is.opening;
   within = within;
   source = is.source;
   start = is.start;
@@ -173,7 +176,8 @@ module _ {T : Type 0} (access : Access) (old new : SourceState) (answer flushed 
   pub through_flushed : EndsFlushed answer flushed before after → IsReadThrough access old answer new → IsReadThrough access old flushed new
   through_flushed (EndsFlushed.stands is same) through = subst (λ (r : Result T ToolFault). IsReadThrough access old r new) (sym is) through
   through_flushed (EndsFlushed.refused other is same) (IsReadThrough.listed was) =
-      subst (λ (r : Result T ToolFault). IsReadThrough access old r new) (sym is) (IsReadThrough.listed (listed_with access old new answer (Err Out) was tt tt tt tt))
+      subst (λ (r : Result T ToolFault). IsReadThrough access old r new) (sym is) (IsReadThrough.listed (listed_with access old new answer (Err Out) was tt tt tt tt
+      (record { first = was.asked.first; is_new = was.asked.is_new; requests = out_requested access.pace was.asked.first was.lister answer was.asked.requests })))
   through_flushed (EndsFlushed.refused other is same) (IsReadThrough.refused fault early over memory back told) =
       subst (λ (r : Result T ToolFault). IsReadThrough access old r new) (sym is) (IsReadThrough.refused fault tt (kept_answer answer over) tt back (inr refl))
 

@@ -107,7 +107,7 @@ pub cause-unread : (first : SourceState) (old new : ListerState) (fault : Summar
     → HasSourceCause {T = ℕ} first (Err (summary_told fault)) new.source
 cause-unread first old new (faults.Opening fault) fetches told = absurd told
 cause-unread first old new (faults.List f) fetches told = cause-kind ℕ first old new f.kind f fetches told.look.told.by told.look.unchanged
-cause-unread first old new (faults.Source fault) fetches told = last_told fault first new.source (told_later fault fetches.count first old.source new.source fetches.fetches told)
+cause-unread first old new (faults.Source fault) fetches told = last_told fault first new.source (told_later fault fetches.count first old.source new.source fetches.fetches told.told)
 
 -- ---- a file whose names were read, or not
 

@@ -6,17 +6,19 @@ use Rattle.mdmp_source.specs.Store.{StoreState, IsGood}
 use Rattle.mdmp_lister.specs.declared.choice.Choice.{Choice}
 use Rattle.mdmp_lister.specs.declared.fault.OpenFault.{OpenFault}
 use Rattle.mdmp_lister.specs.declared.fault.OpenFault.TheVariants.{TooShort}
+use Rattle.mdmp_lister.specs.declared.item.Item.{Item}
 use Rattle.mdmp_lister.specs.declared.limits.Limits.{Limits}
 use Rattle.mdmp_lister.specs.Counts.{AreHeld, AreOfFile, AreSpent, numbers_of}
 use Rattle.mdmp_lister.specs.declared.choice.Choice.TheVariants.{All}
 use Rattle.mdmp_lister.specs.Check.{items_of, names_judged}
 use Rattle.mdmp_lister.specs.Following as following
-use Rattle.mdmp_lister.specs.Format.Listing.{chosen, listing, memory_lists, verdicts}
+use Rattle.mdmp_lister.specs.Format.Listing.{Run, chosen, listing, memory_lists, verdicts}
 use Rattle.mdmp_lister.specs.Sink.{names_of_all}
-use Rattle.mdmp_lister.specs.Opening.{IsHandedBack}
+use Rattle.mdmp_lister.specs.Opening.{IsHandedBack, KeepsOpening}
 use Rattle.mdmp_lister.specs.Memory.{is_within, leaving, opening_fault_within}
 use Rattle.mdmp_lister.specs.Format.Numbers.{range_count}
-use Rattle.mdmp_lister.specs.Lister.{HasReadDirectory, IsAskedFor, ListerState, room_held}
+use Rattle.mdmp_lister.specs.Lister.{HasReadDirectory, IsAskedFor, IsNewLister, ListerState, room_held}
+use Rattle.mdmp_lister.specs.Requested.{GivesByRequests}
 use Rattle.mdmp_wire.specs.Header.{header_at}
 use Rattle.mdmp_lister.specs.Format.Refusal.{directory_refusal, most_ranges, opening_fault}
 use Rattle.mdmp_engines.specs.declared.fault.ToolFault.{ToolFault}
@@ -220,10 +222,37 @@ KeepsNames past_faults v = (file : List ℕ) → v.source.store.content ≡ Some
     → v.counts.names ≤ names_judged (items_of file v.limit (chosen file v.choice)) (verdicts file v.choice v.limit) + 1
 KeepsNames at_the_end v = Unit {0}
 
+-- it holds of a run that came to the end of its listing, or to a fault of the file there
+abbrev pub WhereToldToFault : ToolFault → Type 0 → Type 0
+WhereToldToFault (BadList fault) holds = holds
+WhereToldToFault fault holds = Unit {0}
+
+abbrev pub WhereToldToEnd : {T : Type 0} → Result T ToolFault → Type 0 → Type 0
+WhereToldToEnd (Ok x) holds = holds
+WhereToldToEnd (Err fault) holds = WhereToldToFault fault holds
+
+-- a lister gave some items by requests for the next one, each of them within its budget: all that were left, where the run came to
+-- their end
+pub record HasRequested {T : Type 0} (old : ListerState) (answer : Result T ToolFault) (new : ListerState) : Type 0 where
+  pub items : List Item
+  pub given : GivesByRequests old items new
+  pub whole : (left : Run) → old.left ≡ Some left → WhereToldToEnd answer (items ≡ left.items)
+
+-- so it did for a command that does not go on behind a fault
+abbrev pub KeepsRequests : {T : Type 0} → Pace → ListerState → Result T ToolFault → ListerState → Type 0
+KeepsRequests up_to_a_fault old answer new = HasRequested old answer new
+KeepsRequests past_faults old answer new = Unit {0}
+KeepsRequests at_the_end old answer new = HasRequested old answer new
+
 -- both
 pub record KeepsReads (aside : Beside) (pace : Pace) (v : ListerState) : Type 0 where
   pub beside : KeepsBeside aside v
   pub names : KeepsNames pace v
+
+-- what a command reads, and by which requests
+pub record ReadsByRequests {T : Type 0} (aside : Beside) (pace : Pace) (old : ListerState) (answer : Result T ToolFault) (new : ListerState) : Type 0 where
+  pub keeps : KeepsReads aside pace new
+  pub requests : KeepsRequests pace old answer new
 
 -- a list reads these records if they are told
 abbrev pub list_beside : Bool → Beside
@@ -258,6 +287,13 @@ pub record IsListerOf (access : Access) (old : SourceState) (lister : ListerStat
   pub range_room : (file : List ℕ) → old.store.content ≡ Some file → lister.rooms.ranges ≡ range_count file access.choice
   pub few_ranges : lister.rooms.ranges ≤ most_ranges
 
+-- a lister was opened for these limits, less what the command holds, and from then on what it gave it gave by requests, each of them
+-- within the budget
+pub record HasAskedLister {T : Type 0} (access : Access) (old : SourceState) (answer : Result T ToolFault) (lister : ListerState) : Type 0 where
+  pub first : ListerState
+  pub is_new : IsNewLister old access.choice (leaving access.held access.limits) first
+  pub requests : KeepsRequests access.pace first answer lister
+
 -- a file was listed by such a lister, within the other limits: what the lister holds, and all that its source counted since it was
 -- opened, is within the bounds that its numbers tell, beside what it read aside, which is no more than the command needs
 pub record HasListed {T : Type 0} (access : Access) (old : SourceState) (answer : Result T ToolFault) (new : SourceState) : Type 0 where
@@ -269,9 +305,12 @@ pub record HasListed {T : Type 0} (access : Access) (old : SourceState) (answer 
   pub entry : IsOverInChosen answer lister
   pub aside_kept : KeepsAside access.aside answer lister
   pub reads : KeepsReads access.beside access.pace lister
+  pub asked : HasAskedLister access old answer lister
   -- what it has room for, and what the command holds beside it, is within the limit of memory, which it does not end by
   pub memory : is_within access.limits.memory (room_held lister + access.held) ≡ true
   pub opens : (file : List ℕ) → old.store.content ≡ Some file → opening_fault_within (leaving access.held access.limits) file access.choice ≡ None
+  -- and what is read of a known file as it is opened is within the budget
+  pub opening : (file : List ℕ) → old.store.content ≡ Some file → KeepsOpening access.limits.budget file access.choice
   pub within : IsWithinMemory answer
   pub source : lister.source ≡ new
   pub start : lister.counts.start ≡ record { bytes = old.fetched; calls = old.calls }

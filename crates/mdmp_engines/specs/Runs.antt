@@ -10,7 +10,9 @@ use Rattle.mdmp_summary.specs.InEntry.{StandsInChosen}
 use Rattle.mdmp_engines.specs.declared.fault.ToolFault.{ToolFault}
 use Rattle.mdmp_engines.specs.declared.fault.ToolFault.TheVariants.{List as BadList, Source, Budget, AsideLimit, Out}
 use Rattle.mdmp_wire.specs.declared.header.Header.{Header}
-use Rattle.mdmp_engines.specs.Engines.{Runs, RunsThrough, StopsShort, WritesText, up_to_a_fault}
+use Rattle.mdmp_lister.specs.declared.item.Item.{Item}
+use Rattle.mdmp_lister.specs.Requested.{IsRequested, OnlyReadsAside}
+use Rattle.mdmp_engines.specs.Engines.{HasRequested, Runs, RunsThrough, StopsShort, WritesText, up_to_a_fault}
 use Rattle.mdmp_print.specs.Forms.{dump_line_in}
 use Rattle.mdmp_print.specs.declared.form.LineForm.{LineForm}
 use Rattle.mdmp_engines.specs.Symbols.{IsRecordAmong, IsRecordAt, symbols_bytes}
@@ -71,6 +73,17 @@ pub record ReadsNext (pdb : Bool) (old new : ListerState) : Type 0 where
   pub most : new.counts.aside.bytes ≤ old.counts.aside.bytes + (24 + old.limit)
   pub none : pdb ≡ false → new.counts.aside.bytes ≤ old.counts.aside.bytes
   pub known : (left : Run) → old.left ≡ Some left → new.counts.aside.bytes ≤ old.counts.aside.bytes + symbols_bytes pdb old.limit (take 1 left.items)
+
+-- that item was given by a request within the budget, with what was read aside behind it; or there was none to give
+abbrev pub RequestsNext : ListerState → Result Bool ToolFault → ListerState → Type 0
+RequestsNext old (Ok true) new = (x : Item) × ((m : ListerState) × (IsRequested old x m × OnlyReadsAside m new))
+RequestsNext old (Ok false) new = HasRequested {T = Bool} old (Ok false) new
+RequestsNext old (Err fault) new = HasRequested {T = Bool} old (Err fault) new
+
+-- both
+pub record ReadsRequested (pdb : Bool) (old : ListerState) (answer : Result Bool ToolFault) (new : ListerState) : Type 0 where
+  pub beside : ReadsNext pdb old new
+  pub requests : RequestsNext old answer new
 
 -- how many names were reached then: those of the item, and where there is a fault maybe one
 abbrev pub NamesNext : Run → Result Bool ToolFault → ℕ → ℕ → Type 0

@@ -21,7 +21,7 @@ pub trait Engine: Copy {
     ghost use Rattle.mdmp_lister.specs.declared.choice.Choice.{Choice};
     ghost use Rattle.mdmp_engines.specs.declared.fault.ToolFault.{ToolFault};
     ghost use Rattle.mdmp_engines.specs.Causes.{EndsByBudget, IsWithinMemory, KeepsAside};
-    ghost use Rattle.mdmp_engines.specs.Engines.{Beside, IsOpened, IsSameRun, KeepsReads, Leaves, Pace, WritesText};
+    ghost use Rattle.mdmp_engines.specs.Engines.{Beside, IsOpened, IsSameRun, Leaves, Pace, ReadsByRequests, WritesText};
 
     /// What it answers where all was printed.
     type Answer: Copy;
@@ -76,7 +76,7 @@ pub trait Engine: Copy {
         ensures same { IsSameRun lister.old lister.new }
         ensures over { EndsByBudget lister.old result lister.new }
         ensures aside { KeepsAside (aside self.now) result lister.new }
-        ensures read { KeepsReads (reads self.now) pace lister.new }
+        ensures read { ReadsByRequests (reads self.now) pace lister.old result lister.new }
         ensures within { IsWithinMemory result };
 
     /// Reports its answer to `err`, and returns the exit status. If `err` refuses, the status is the same.

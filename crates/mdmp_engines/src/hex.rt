@@ -2,9 +2,10 @@
 ghost use Rattle.std.specs.Prelude.{◌≡◌, ◌≤◌, ◌<◌, ◌+◌, ℕ, List, [], Some, None, length};
 ghost use Rattle.mdmp_map.specs.Ranges.{address_end};
 ghost use Rattle.mdmp_lister.specs.Format.Listing.{Run};
+ghost use Rattle.mdmp_lister.specs.Requested.{OnlyReadsAside};
 ghost use Rattle.mdmp_engines.specs.Causes.{EndsByBudget, IsWithinBudget, KeepsAside, MayReachAside, MayReachBudget, MayReachMemory};
 ghost use Rattle.mdmp_engines.specs.Dropping.{DropsStore};
-ghost use Rattle.mdmp_engines.specs.Engines.{IsSameRun, IsReadThrough, Leaves, ReadsSource, Tells, at_the_end, directly, hex_access};
+ghost use Rattle.mdmp_engines.specs.Engines.{HasRequested, IsSameRun, IsReadThrough, Leaves, ReadsSource, Tells, at_the_end, directly, hex_access};
 ghost use Rattle.mdmp_engines.specs.HexRuns.{Hexes, HexesMemory, HexesRun};
 ghost use Rattle.mdmp_print.specs.HexText.{length_limit};
 
@@ -154,6 +155,7 @@ fn hex_listed<S: Store + Drop, A: Allocator + Copy, B: Allocator + Copy, O: Prin
     ensures over { EndsByBudget lister.old result lister.new }
     ensures aside { KeepsAside None result lister.new }
     ensures beside { lister.new.counts.aside.bytes ≤ lister.old.counts.aside.bytes + length }
+    ensures requests { HasRequested lister.old result lister.new }
 {
     match lister.list_ranges() {
         Ok(()) => {}
@@ -185,6 +187,7 @@ fn print_memory<S: Store + Drop, A: Allocator + Copy, O: Printer>(
     ensures over { IsWithinBudget result }
     ensures aside { KeepsAside None result lister.new }
     ensures beside { lister.new.counts.aside.bytes ≤ lister.old.counts.aside.bytes + length bytes.new }
+    ensures stays { OnlyReadsAside lister.old lister.new }
 {
     match lister.read_address(address, bytes, known) {
         Ok(()) => {}

@@ -1,13 +1,14 @@
 //! The command `list`.
-ghost use Rattle.std.specs.Prelude.{◌≡◌, ◌≤◌, ◌+◌, ℕ, List, MatchOption, None, Some, Ok, false, true, IfSome};
+ghost use Rattle.std.specs.Prelude.{◌≡◌, ◌≤◌, ◌+◌, ℕ, List, MatchOption, None, Some, Ok, false, true, IfErr, IfSome};
 ghost use Rattle.mdmp_source.specs.Range.{IsInside};
 ghost use Rattle.mdmp_lister.specs.Format.Listing.{Run};
 ghost use Rattle.mdmp_lister.specs.Memory.{is_within};
+ghost use Rattle.mdmp_lister.specs.Requested.{OnlyReadsAside};
 ghost use Rattle.mdmp_lister.specs.Sink.{names_of_all};
 ghost use Rattle.mdmp_engines.specs.Causes.{EndsByBudget, IsWithinBudget, KeepsAside, MayReachAside, MayReachBudget, MayReachMemory, symbols_cost};
 ghost use Rattle.mdmp_engines.specs.Dropping.{DropsStore};
-ghost use Rattle.mdmp_engines.specs.Engines.{IsSameRun, IsReadThrough, Leaves, ReadsSource, Tells, directly, up_to_a_fault, list_access};
-ghost use Rattle.mdmp_engines.specs.Runs.{IsBehindNext, Lists, ListsFile, ListsNext, ListsRun, NamesNext, PutsSymbols, ReadsLeft, ReadsNext};
+ghost use Rattle.mdmp_engines.specs.Engines.{HasRequested, IsSameRun, IsReadThrough, Leaves, ReadsSource, Tells, WhereToldToFault, directly, up_to_a_fault, list_access};
+ghost use Rattle.mdmp_engines.specs.Runs.{IsBehindNext, Lists, ListsFile, ListsNext, ListsRun, NamesNext, PutsSymbols, ReadsLeft, ReadsRequested};
 ghost use Rattle.mdmp_engines.specs.Symbols.{symbols_of, symbols_read};
 ghost use Rattle.mdmp_engines.specs.Text.{symbols_text};
 
@@ -149,6 +150,7 @@ fn print_listing<S: Store + Drop, A: Allocator + Copy, O: Printer>(
     ensures over { EndsByBudget lister.old result lister.new }
     ensures aside { KeepsAside aside result lister.new }
     ensures read { ReadsLeft pdb lister.old lister.new }
+    ensures requests { HasRequested lister.old result lister.new }
     ensures names { (left : Run) → lister.old.left ≡ Some left → lister.new.counts.names ≤ lister.old.counts.names + names_of_all left.items + 1 }
 {
     if let Err(OutFailed) = print_dump(form, &lister.header(), out) {
@@ -174,6 +176,7 @@ fn list_items<S: Store + Drop, A: Allocator + Copy, O: Printer>(
     ensures over { EndsByBudget lister.old result lister.new }
     ensures aside { KeepsAside aside result lister.new }
     ensures read { ReadsLeft pdb lister.old lister.new }
+    ensures requests { HasRequested lister.old result lister.new }
     ensures names { (left : Run) → lister.old.left ≡ Some left → lister.new.counts.names ≤ lister.old.counts.names + names_of_all left.items + 1 }
 {
     while list_next(lister, form, pdb, aside, out)? {}
@@ -201,7 +204,7 @@ pub fn list_next<S: Store + Drop, A: Allocator + Copy, O: Printer>(
     ensures same { IsSameRun lister.old lister.new }
     ensures over { EndsByBudget lister.old result lister.new }
     ensures aside { is_within aside lister.old.counts.aside.bytes ≡ true → KeepsAside aside result lister.new }
-    ensures read { ReadsNext pdb lister.old lister.new }
+    ensures read { ReadsRequested pdb lister.old result lister.new }
     ensures names { (left : Run) → lister.old.left ≡ Some left → NamesNext left result lister.old.counts.names lister.new.counts.names }
 {
     let symbols = match lister.next_inlined() {
@@ -263,13 +266,14 @@ fn list_symbols<S: Store + Drop, A: Allocator + Copy, O: Printer>(
     requires { IfSome symbols (λ of. IsInside of.location.rva of.location.size lister.old.source.size) }
     ensures puts { (file : List ℕ) → lister.old.source.store.content ≡ Some file
         → PutsSymbols lister.old.limit symbols (symbols_text form file lister.old.limit symbols) (O.state out.old) result (O.state out.new) }
-    ensures stays { lister.new ≡ record lister.old { source = lister.new.source; counts = lister.new.counts } }
+    ensures stays { OnlyReadsAside lister.old lister.new }
     ensures leaves { Leaves up_to_a_fault ⊥ lister.old.source (O.state out.old) result lister.new.source (O.state out.new) }
     ensures same { IsSameRun lister.old lister.new }
     ensures over { IsWithinBudget result }
     ensures aside { is_within aside lister.old.counts.aside.bytes ≡ true → KeepsAside aside result lister.new }
     ensures read { lister.new.counts.aside.bytes ≤ lister.old.counts.aside.bytes + symbols_read lister.old.limit symbols }
     ensures names { lister.new.counts.names ≡ lister.old.counts.names }
+    ensures only { IfErr result (λ fault. WhereToldToFault fault ⊥) }
 {
     let Some(ModuleSymbols { place, location }) = symbols else {
         return Ok(());

@@ -6,6 +6,9 @@ use Rattle.mdmp_lister.specs.Counts.{AreHeld, AreOfFile, AreSpent}
 use Rattle.mdmp_lister.specs.declared.choice.Choice.{Choice}
 use Rattle.mdmp_lister.specs.declared.counts.Counts.{Counts}
 use Rattle.mdmp_lister.specs.declared.limits.Limits.{Limits}
+use Rattle.mdmp_lister.specs.Lister.{IsNewLister}
+use Rattle.mdmp_lister.specs.Memory.{leaving}
+use Rattle.mdmp_lister.specs.Opening.{KeepsOpening}
 use Rattle.mdmp_engines.specs.Causes.{HasMemoryCause, MayChange}
 use Rattle.mdmp_engines.specs.Telling.{opening_beside}
 use Rattle.mdmp_engines.specs.Engines.{Access, IsBehind, IsReadThrough, Runs, Tells, directly, unless_refused}
@@ -97,9 +100,20 @@ returns-clause-through g c =
       over = budget_cause c.print-answer.result c.in-Ok.lister c.print-answer.new.lister c.print-answer.ensures.over;
       entry = budget_entry c.print-answer.result c.in-Ok.lister c.print-answer.new.lister (λ more. absurd (more new.given.standing)) c.print-answer.ensures.over;
       aside_kept = c.print-answer.ensures.aside;
-      reads = c.print-answer.ensures.read;
+      reads = c.print-answer.ensures.read.keeps;
+      asked = record {
+        first = c.in-Ok.lister;
+        is_new =
+            let opened : IsNewLister c.args.source g.E.Engine.choice c.leave_memory.result c.in-Ok.lister = rw c.chosen.ensures at c.in-Ok.ensures.new in
+            subst (λ (n : ℕ). IsNewLister c.args.source g.E.Engine.choice (leaving n c.args.limits) c.in-Ok.lister) c.beside-beside.ensures
+            (subst (λ (l : Limits). IsNewLister c.args.source g.E.Engine.choice l c.in-Ok.lister) under opened);
+        requests = c.print-answer.ensures.read.requests;
+      };
       memory = rw (← c.beside-beside.ensures) (run_within c.args.limits c.leave_memory.result c.beside-beside.result _ c.print-answer.new.lister under same new.asked.window_room new.memory);
       opens = λ file known. rw (← c.beside-beside.ensures) (rw (c.leave_memory.ensures, c.chosen.ensures) at (c.in-Ok.ensures.within file known));
+      opening = λ file known.
+          let of : KeepsOpening c.leave_memory.result.budget file g.E.Engine.choice = rw c.chosen.ensures at (c.in-Ok.ensures.new.opening file known) in
+          subst (λ (l : Limits). KeepsOpening l.budget file g.E.Engine.choice) under of;
       within = c.print-answer.ensures.within;
       source = refl;
       start = same.start ∙ new.counts.start;

@@ -5,6 +5,10 @@ use Rattle.mdmp_engines.specs.Engines.{IsBehind, at_the_end}
 use Rattle.mdmp_lister.specs.declared.meter.Amount.{Amount}
 use Rattle.mdmp_lister.specs.declared.sink.RunFault.TheVariants as run
 use Rattle.mdmp_summary.proofs.InEntries.{run_ends}
+use Rattle.mdmp_lister.proofs.Requested.{aside_none}
+use Rattle.mdmp_engines.specs.declared.fault.ToolFault.TheVariants.{Memory}
+use Rattle.mdmp_engines.specs.Telling.{listing_told}
+use Rattle.mdmp_engines.proofs.Asking.{requested_behind, requested_fault, requested_listed}
 use Rattle.mdmp_engines.proofs.Hexing.{HexesRun-printed, HexesRun-wanting}
 use Rattle.mdmp_engines.proofs.SameRuns.{budget_listing, budget_none, run_list, run_none, run_then, aside_listing}
 use Rattle.mdmp_engines.proofs.Symbols.{Leaves-listed}
@@ -84,3 +88,20 @@ returns-in_default-vec-clause-beside g c = let same = ap (λ (a : Amount). a.byt
 
 pub returns-in_default-clause-beside : goal.returns-in_default-clause-beside
 returns-in_default-clause-beside g c = let same = ap (λ (a : Amount). a.bytes) c.list_ranges.ensures.same.aside in omega (arith, same)
+
+pub returns-clause-requests : goal.returns-clause-requests
+returns-clause-requests g c =
+    let ran = c.in-Ok.ensures.follows in
+    requested_listed _ _ _ ran.items c.print_memory.result ran.requests c.print_memory.ensures.stays
+
+pub returns-in-Err-clause-requests : goal.returns-in-Err-clause-requests
+returns-in-Err-clause-requests g c =
+    let ran = c.in-Err.ensures.follows in
+    let behind = ran.requests.behind in
+    rw c.told_list.ensures (requested_behind ran.items c.args.lister.now behind c.list_ranges.new.self (Err (listing_told c.in-Err.fault)) ran.requests.requested (requested_fault behind c.list_ranges.new.self c.in-Err.fault ran.requests.ended))
+
+pub returns-in_default-vec-clause-requests : goal.returns-in_default-vec-clause-requests
+returns-in_default-vec-clause-requests g c = let ran = c.in-Ok.ensures.follows in requested_listed _ _ _ ran.items (Err Memory) ran.requests (aside_none _)
+
+pub returns-in_default-clause-requests : goal.returns-in_default-clause-requests
+returns-in_default-clause-requests g c = let ran = c.in-Ok.ensures.follows in requested_listed _ _ _ ran.items (Err Memory) ran.requests (aside_none _)

@@ -1,5 +1,6 @@
 use Rattle.mdmp_engines.proofs.SameRuns.{run_aside}
 use Rattle.mdmp_engines.proofs.Symbols.{Leaves-cut, Leaves-done}
+use Rattle.mdmp_lister.proofs.Requested.{aside_read}
 use Rattle.mdmp_engines.proofs.hex.print_memory.Goals as goal
 
 pub returns-in-Err-clause-same : goal.returns-in-Err-clause-same
@@ -25,3 +26,12 @@ returns-in-Ok-print_hex_lines-clause-beside g c = c.in-Ok.ensures.reads.aside.as
 
 pub returns-in-Err-print_hex_lines-clause-beside : goal.returns-in-Err-print_hex_lines-clause-beside
 returns-in-Err-print_hex_lines-clause-beside g c = c.in-Ok.ensures.reads.aside.aside
+
+pub returns-in-Err-clause-stays : goal.returns-in-Err-clause-stays
+returns-in-Err-clause-stays g c = aside_read _ _ _ _ _ c.in-Err.ensures.reads
+
+pub returns-in-Ok-print_hex_lines-clause-stays : goal.returns-in-Ok-print_hex_lines-clause-stays
+returns-in-Ok-print_hex_lines-clause-stays g c = aside_read _ _ _ _ _ c.in-Ok.ensures.reads
+
+pub returns-in-Err-print_hex_lines-clause-stays : goal.returns-in-Err-print_hex_lines-clause-stays
+returns-in-Err-print_hex_lines-clause-stays g c = aside_read _ _ _ _ _ c.in-Ok.ensures.reads

@@ -1,11 +1,13 @@
-use Rattle.std.proofs.Common.{◌∙◌, ◌+◌, Ok, Err, true, false, ap, Bool}
+use Rattle.std.proofs.Common.{rules, ◌∙◌, ◌+◌, [], Ok, Err, true, false, ap, refl, Bool}
 use Rattle.mdmp_source.specs.SourceLaws.{fetches_then}
 use Rattle.mdmp_lister.specs.Lister.{tail}
-use Rattle.mdmp_engines.proofs.Besides.{HasRead-end, HasRead-next}
-use Rattle.mdmp_engines.proofs.Printing.{HasPrinted-next, ListsRun-end, ListsRun-fault, next_told, next_within}
-use Rattle.mdmp_engines.proofs.Reached.{HasNamed-end, HasNamed-fault, HasNamed-next}
+use Rattle.mdmp_lister.proofs.Requested.{aside_none}
+use Rattle.mdmp_engines.proofs.Asking.{end_requested, next_requested, requested_behind, requested_same}
+use Rattle.mdmp_engines.proofs.Besides.{HasRead-end, HasRead-next, HasRead-none}
+use Rattle.mdmp_engines.proofs.Printing.{HasPrinted-next, HasPrinted-none, ListsRun-end, ListsRun-fault, next_told, next_within}
+use Rattle.mdmp_engines.proofs.Reached.{HasNamed-end, HasNamed-fault, HasNamed-next, HasNamed-none}
 use Rattle.mdmp_engines.proofs.Symbols.{Leaves-fault, Leaves-later, refused_by}
-use Rattle.mdmp_engines.proofs.SameRuns.{budget_later, run_then, aside_fault}
+use Rattle.mdmp_engines.proofs.SameRuns.{budget_later, run_none, run_then, aside_fault}
 use Rattle.mdmp_engines.proofs.list.list_items.Goals as goal
 
 pub returns-in_err-list_next-clause-lists : goal.returns-in_err-list_next-clause-lists
@@ -24,6 +26,20 @@ returns-in_err-list_next-clause-leaves g c =
     let is = refused_by c.from_residual.result f c.from_residual.ensures.1 in
     rw is (Leaves-fault f _ _ _ _ (Leaves-later _ _ _ _ _ _ _ (Err f) so_far.source.fetches so_far.steady c.in_err-list_next.ensures.leaves))
 
+pub loop-init : goal.loop-init
+loop-init g c = record {
+  going = c.requires.going;
+  stands = λ in_chosen. in_chosen;
+  source = search rules;
+  run = run_none _;
+  steady = refl;
+  aside = c.requires.kept;
+  read = HasRead-none c.args.pdb _;
+  named = HasNamed-none _;
+  requested = ([], aside_none _);
+  printed = λ file content run known. (run, (known, HasPrinted-none c.args.form c.args.pdb file c.args.lister.now.limit run _));
+}
+
 pub loop-preserved : goal.loop-preserved
 loop-preserved g c =
     let so_far = c.loop.invariant in
@@ -36,7 +52,8 @@ loop-preserved g c =
       run = run_then _ _ _ so_far.run of.same;
       steady = of.leaves.out_cause ∙ so_far.steady;
       aside = (of.aside so_far.aside).kept;
-      read = HasRead-next c.args.pdb _ _ _ so_far.run.limit so_far.read of.read rest.left;
+      read = HasRead-next c.args.pdb _ _ _ so_far.run.limit so_far.read of.read.beside rest.left;
+      requested = next_requested _ _ _ so_far.requested.0 _ c.if-branch.true so_far.requested.1 of.read.requests;
       named = HasNamed-next _ _ _ so_far.named of.names rest.left;
       printed = λ file content run known.
           let printed = so_far.printed file content run known in
@@ -80,13 +97,25 @@ pub returns-clause-aside : goal.returns-clause-aside
 returns-clause-aside g c = record { kept = (c.in_ok-list_next.ensures.aside c.loop.invariant.aside).kept; over = tt }
 
 pub returns-in_err-list_next-clause-read : goal.returns-in_err-list_next-clause-read
-returns-in_err-list_next-clause-read g c = HasRead-end c.args.pdb _ _ _ c.loop.invariant.run.limit c.loop.invariant.read c.in_err-list_next.ensures.read
+returns-in_err-list_next-clause-read g c = HasRead-end c.args.pdb _ _ _ c.loop.invariant.run.limit c.loop.invariant.read c.in_err-list_next.ensures.read.beside
 
 pub returns-clause-read : goal.returns-clause-read
-returns-clause-read g c = HasRead-end c.args.pdb _ _ _ c.loop.invariant.run.limit c.loop.invariant.read c.in_ok-list_next.ensures.read
+returns-clause-read g c = HasRead-end c.args.pdb _ _ _ c.loop.invariant.run.limit c.loop.invariant.read c.in_ok-list_next.ensures.read.beside
 
 pub returns-in_err-list_next-clause-names : goal.returns-in_err-list_next-clause-names
 returns-in_err-list_next-clause-names g c = HasNamed-fault _ _ _ c.loop.invariant.named c.in_err-list_next.ensures.names
 
 pub returns-clause-names : goal.returns-clause-names
 returns-clause-names g c = HasNamed-end _ _ _ c.loop.invariant.named c.in_ok-list_next.ensures.names
+
+pub returns-clause-requests : goal.returns-clause-requests
+returns-clause-requests g c =
+    let so_far = c.loop.invariant.requested in
+    end_requested tt _ _ _ so_far.0 _ c.if-branch.false so_far.1 c.in_ok-list_next.ensures.read.requests
+
+pub returns-in_err-list_next-clause-requests : goal.returns-in_err-list_next-clause-requests
+returns-in_err-list_next-clause-requests g c =
+    let so_far = c.loop.invariant.requested in
+    let f = c.in_err-list_next.field-0.0 in
+    let is = refused_by c.from_residual.result f c.from_residual.ensures.1 in
+    rw is (requested_behind so_far.0 c.args.lister.now c.loop.lister c.list_next.new.lister (Err f) so_far.1 (requested_same {T = Bool} _ _ f c.in_err-list_next.ensures.read.requests))

@@ -1,7 +1,9 @@
 use Rattle.std.proofs.Common.{◌≡◌, ℕ, List, Some, None, true}
 use Rattle.mdmp_lister.specs.Memory.{is_within}
 use Rattle.mdmp_source.specs.Source.{FetchesSome}
+use Rattle.mdmp_lister.specs.declared.item.Item.{Item}
 use Rattle.mdmp_lister.specs.Format.Listing.{Run}
+use Rattle.mdmp_lister.specs.Requested.{AreRequested}
 use Rattle.mdmp_summary.specs.InEntry.{StandsInChosen}
 use Rattle.mdmp_engines.specs.Engines.{IsSameRun}
 use Rattle.mdmp_engines.proofs.Besides.{HasRead}
@@ -20,6 +22,7 @@ invariant-loop g l = record {
   aside : is_within l.aside l.lister.counts.aside.bytes ≡ true;
   read : HasRead l.pdb l.initial.lister l.lister;
   named : HasNamed l.initial.lister l.lister;
+  requested : (xs : List Item) × AreRequested l.initial.lister xs l.lister;
   printed : (file : List ℕ) → l.initial.lister.source.store.content ≡ Some file → (run : Run) → l.initial.lister.left ≡ Some run
       → (left : Run) × ((l.lister.left ≡ Some left)
       × HasPrinted l.form l.pdb file l.initial.lister.limit run (g.O.Printer.state l.initial.out) left (g.O.Printer.state l.out));

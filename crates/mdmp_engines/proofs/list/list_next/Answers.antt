@@ -4,7 +4,10 @@ use Rattle.mdmp_source.specs.SourceLaws.{fetches_then}
 use Rattle.mdmp_lister.proofs.Standpoints.{run_fetch}
 use Rattle.mdmp_lister.specs.FaultLaws.{next_fits}
 use Rattle.mdmp_lister.specs.Format.Item.{plain}
+use Rattle.mdmp_lister.proofs.Requested.{aside_none, item_requested}
 use Rattle.mdmp_summary.proofs.InEntries.{answers_fault, answers_item}
+use Rattle.mdmp_engines.specs.declared.fault.ToolFault.TheVariants.{Out}
+use Rattle.mdmp_engines.proofs.Asking.{requested_end, requested_fault, requested_one}
 use Rattle.mdmp_engines.specs.Engines.{up_to_a_fault}
 use Rattle.mdmp_engines.specs.Runs.{PutsSymbols}
 use Rattle.mdmp_engines.specs.Text.{symbols_text}
@@ -130,7 +133,7 @@ returns-in_err-list_symbols-clause-over g c =
 pub returns-clause-rest : goal.returns-clause-rest
 returns-clause-rest g c = λ more.
     let holds = rw (c.in-Ok-Some.is, c.in-Ok-Some.field-0-is) at c.next_inlined.follows.holds-at-none in
-    IsBehindNext-aside _ _ _ c.in-Ok-Some.item holds.list.stands c.in_ok-list_symbols.ensures.stays
+    IsBehindNext-aside _ _ _ c.in-Ok-Some.item holds.list.stands c.in_ok-list_symbols.ensures.stays.same
     (λ stands. answers_item c.args.lister.now c.next_inlined.follows.lender-at-none holds.list.same.choice holds.list.same.entries stands c.in-Ok-Some.item (holds.follows c.requires))
 
 pub returns-clause-same : goal.returns-clause-same
@@ -163,23 +166,48 @@ returns-in-Err-clause-aside g c = λ kept.
     rw c.told_list.ensures (aside_listing Bool c.args.aside c.in-Err.fault _ (aside_same c.args.aside _ _ c.next_inlined.follows.holds-at-none.list.same kept))
 
 pub returns-in-Ok-None-clause-read : goal.returns-in-Ok-None-clause-read
-returns-in-Ok-None-clause-read g c = ReadsNext-none c.args.pdb _ _ c.next_inlined.follows.holds-at-none.list.same.aside
+returns-in-Ok-None-clause-read g c = record {
+  beside = ReadsNext-none c.args.pdb _ _ c.next_inlined.follows.holds-at-none.list.same.aside;
+  requests = requested_end false c.args.lister.now c.next_inlined.follows.lender-at-none record {
+    leaves = rw (c.in-Ok-None.is, c.in-Ok-None.field-0-is) at c.next_inlined.follows.holds-at-none;
+    gives = λ left known. rw c.in-Ok-None.field-0-is at (c.in-Ok-None.ensures.gives left known);
+  };
+}
 
 pub returns-in-Err-print_item-clause-read : goal.returns-in-Err-print_item-clause-read
-returns-in-Err-print_item-clause-read g c = ReadsNext-none c.args.pdb _ _ c.next_inlined.follows.holds-at-none.list.same.aside
+returns-in-Err-print_item-clause-read g c = record {
+  beside = ReadsNext-none c.args.pdb _ _ c.next_inlined.follows.holds-at-none.list.same.aside;
+  requests = requested_one c.args.lister.now c.next_inlined.follows.lender-at-none c.next_inlined.follows.lender-at-none (plain c.in-Ok-Some.item) Out
+      (item_requested c.args.lister.now c.in-Ok-Some.item c.next_inlined.follows.lender-at-none (rw (c.in-Ok-Some.is, c.in-Ok-Some.field-0-is) at c.next_inlined.follows.holds-at-none) (λ left known. rw c.in-Ok-Some.field-0-is at (c.in-Ok-Some.ensures.gives left known))) (aside_none _) tt;
+}
 
 pub returns-in-Err-clause-read : goal.returns-in-Err-clause-read
-returns-in-Err-clause-read g c = ReadsNext-none c.args.pdb _ _ c.next_inlined.follows.holds-at-none.list.same.aside
+returns-in-Err-clause-read g c = rw c.told_list.ensures (record {
+  beside = ReadsNext-none c.args.pdb _ _ c.next_inlined.follows.holds-at-none.list.same.aside;
+  requests = requested_fault c.args.lister.now c.next_inlined.follows.lender-at-none c.in-Err.fault record { leaves = rw c.in-Err.is at c.next_inlined.follows.holds-at-none; gives = c.in-Err.ensures.gives };
+})
 
 pub returns-in_err-list_symbols-clause-read : goal.returns-in_err-list_symbols-clause-read
 returns-in_err-list_symbols-clause-read g c =
-    ReadsNext-record c.args.pdb _ _ _ c.in-Ok-Some.item _ c.next_inlined.follows.holds-at-none.list.same c.symbols_of-symbols.ensures
-    (λ left known. rw c.in-Ok-Some.field-0-is at (c.in-Ok-Some.ensures.gives left known)) c.in_err-list_symbols.ensures.read
+    let f = c.in_err-list_symbols.field-0.0 in
+    let is = refused_by c.from_residual.result f c.from_residual.ensures.1 in
+    rw is (record {
+      beside = ReadsNext-record c.args.pdb _ _ _ c.in-Ok-Some.item _ c.next_inlined.follows.holds-at-none.list.same c.symbols_of-symbols.ensures
+          (λ left known. rw c.in-Ok-Some.field-0-is at (c.in-Ok-Some.ensures.gives left known)) c.in_err-list_symbols.ensures.read;
+      requests = requested_one c.args.lister.now c.next_inlined.follows.lender-at-none c.list_symbols.new.lister (plain c.in-Ok-Some.item) f
+          (item_requested c.args.lister.now c.in-Ok-Some.item c.next_inlined.follows.lender-at-none (rw (c.in-Ok-Some.is, c.in-Ok-Some.field-0-is) at c.next_inlined.follows.holds-at-none) (λ left known. rw c.in-Ok-Some.field-0-is at (c.in-Ok-Some.ensures.gives left known))) c.in_err-list_symbols.ensures.stays c.in_err-list_symbols.ensures.only;
+    })
 
 pub returns-clause-read : goal.returns-clause-read
 returns-clause-read g c =
-    ReadsNext-record c.args.pdb _ _ _ c.in-Ok-Some.item _ c.next_inlined.follows.holds-at-none.list.same c.symbols_of-symbols.ensures
-    (λ left known. rw c.in-Ok-Some.field-0-is at (c.in-Ok-Some.ensures.gives left known)) c.in_ok-list_symbols.ensures.read
+    record {
+      beside = ReadsNext-record c.args.pdb _ _ _ c.in-Ok-Some.item _ c.next_inlined.follows.holds-at-none.list.same c.symbols_of-symbols.ensures
+          (λ left known. rw c.in-Ok-Some.field-0-is at (c.in-Ok-Some.ensures.gives left known)) c.in_ok-list_symbols.ensures.read;
+      requests = (
+        plain c.in-Ok-Some.item,
+        (c.next_inlined.follows.lender-at-none, ((item_requested c.args.lister.now c.in-Ok-Some.item c.next_inlined.follows.lender-at-none (rw (c.in-Ok-Some.is, c.in-Ok-Some.field-0-is) at c.next_inlined.follows.holds-at-none) (λ left known. rw c.in-Ok-Some.field-0-is at (c.in-Ok-Some.ensures.gives left known))), c.in_ok-list_symbols.ensures.stays)),
+      );
+    }
 
 pub returns-in-Ok-None-clause-names : goal.returns-in-Ok-None-clause-names
 returns-in-Ok-None-clause-names g c = λ left known.

@@ -1,10 +1,11 @@
 use Rattle.mdmp_engines.proofs.Symbols.{Leaves-cut, Leaves-done}
 use Rattle.mdmp_engines.proofs.Besides.{read_more}
 use Rattle.mdmp_engines.proofs.SameRuns.{aside_read, record_read, run_aside}
+use Rattle.mdmp_lister.proofs.Requested as requested
 use Rattle.mdmp_engines.proofs.list.list_symbols.Goals as goal
 
 pub returns-in-Ok-print_symbols-clause-stays : goal.returns-in-Ok-print_symbols-clause-stays
-returns-in-Ok-print_symbols-clause-stays g c = c.codeview.follows.holds-at-none.same
+returns-in-Ok-print_symbols-clause-stays g c = requested.aside_read _ _ _ _ _ c.codeview.follows.holds-at-none
 
 pub returns-in-Ok-print_symbols-clause-leaves : goal.returns-in-Ok-print_symbols-clause-leaves
 returns-in-Ok-print_symbols-clause-leaves g c = Leaves-done _ _ _ _ _ tt c.codeview.follows.holds-at-none.fetches c.in-Ok-print_symbols.ensures.steady
@@ -13,7 +14,7 @@ pub returns-in-Ok-print_symbols-clause-same : goal.returns-in-Ok-print_symbols-c
 returns-in-Ok-print_symbols-clause-same g c = run_aside _ _ _ _ c.codeview.follows.holds-at-none
 
 pub returns-in-Err-print_symbols-clause-stays : goal.returns-in-Err-print_symbols-clause-stays
-returns-in-Err-print_symbols-clause-stays g c = c.codeview.follows.holds-at-none.same
+returns-in-Err-print_symbols-clause-stays g c = requested.aside_read _ _ _ _ _ c.codeview.follows.holds-at-none
 
 pub returns-in-Err-print_symbols-clause-leaves : goal.returns-in-Err-print_symbols-clause-leaves
 returns-in-Err-print_symbols-clause-leaves g c = Leaves-cut _ _ _ _ _ c.codeview.follows.holds-at-none.fetches c.in-Err-print_symbols.ensures.refused
@@ -22,7 +23,7 @@ pub returns-in-Err-print_symbols-clause-same : goal.returns-in-Err-print_symbols
 returns-in-Err-print_symbols-clause-same g c = run_aside _ _ _ _ c.codeview.follows.holds-at-none
 
 pub returns-in-Err-clause-stays : goal.returns-in-Err-clause-stays
-returns-in-Err-clause-stays g c = c.codeview.follows.holds-at-none.same
+returns-in-Err-clause-stays g c = requested.aside_read _ _ _ _ _ c.codeview.follows.holds-at-none
 
 pub returns-in-Err-clause-same : goal.returns-in-Err-clause-same
 returns-in-Err-clause-same g c = run_aside _ _ _ _ c.codeview.follows.holds-at-none

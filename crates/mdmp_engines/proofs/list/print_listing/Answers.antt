@@ -4,6 +4,8 @@ use Rattle.mdmp_source.specs.OutputLaws.{PutsPrefix-front}
 use Rattle.mdmp_wire.specs.declared.header.Header.{Header}
 use Rattle.mdmp_print.specs.Forms.{dump_line_in}
 use Rattle.mdmp_engines.specs.Text.{run_text}
+use Rattle.mdmp_engines.specs.declared.fault.ToolFault.TheVariants.{Out}
+use Rattle.mdmp_engines.proofs.Asking.{requested_none}
 use Rattle.mdmp_engines.proofs.Besides.{ReadsLeft-none}
 use Rattle.mdmp_engines.proofs.Listings.{Leaves-behind, ListsFile-behind}
 use Rattle.mdmp_engines.proofs.list.print_listing.Goals as goal
@@ -42,3 +44,9 @@ returns-in-Err-clause-names g c = λ left known. omega arith
 
 pub returns-in-Err-clause-read : goal.returns-in-Err-clause-read
 returns-in-Err-clause-read g c = ReadsLeft-none c.args.pdb _
+
+pub returns-in-Err-clause-requests : goal.returns-in-Err-clause-requests
+returns-in-Err-clause-requests g c = requested_none c.args.lister.now Out tt
+
+pub returns-clause-requests : goal.returns-clause-requests
+returns-clause-requests g c = c.list_items.ensures.requests

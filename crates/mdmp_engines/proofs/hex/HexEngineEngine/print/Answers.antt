@@ -20,4 +20,4 @@ pub returns-clause-over : goal.returns-clause-over
 returns-clause-over g c = c.hex_listed.ensures.over
 
 pub returns-clause-read : goal.returns-clause-read
-returns-clause-read g c = let most = c.hex_listed.ensures.beside in let none = c.requires.opened.aside in record { beside = omega (arith, most, none); names = tt }
+returns-clause-read g c = let most = c.hex_listed.ensures.beside in let none = c.requires.opened.aside in record { keeps = record { beside = omega (arith, most, none); names = tt }; requests = c.hex_listed.ensures.requests }

@@ -27,6 +27,9 @@ pub returns-clause-read : goal.returns-clause-read
 returns-clause-read g c =
     let of = c.print_listing.ensures in
     record {
-      beside = KeepsBeside-list c.args.self.now.pdb _ _ c.requires.opened of.same of.leaves.reads.fetches.fetches.same_content of.read;
-      names = KeepsNames-list _ _ c.requires.opened of.same of.leaves.reads.fetches.fetches.same_content of.names;
+      keeps = record {
+        beside = KeepsBeside-list c.args.self.now.pdb _ _ c.requires.opened of.same of.leaves.reads.fetches.fetches.same_content of.read;
+        names = KeepsNames-list _ _ c.requires.opened of.same of.leaves.reads.fetches.fetches.same_content of.names;
+      };
+      requests = of.requests;
     }
