@@ -10,7 +10,7 @@ MADE = "Made by bindings/generate from bindings/interface.toml."
 
 def shown(name: str) -> str:
     """The function that prints a structure or a number of an enum."""
-    return "show_" + name.removeprefix("mdmp_")
+    return f"show_{name}"
 
 
 def enum_text(enum: Enum) -> str:

@@ -89,11 +89,11 @@ opened_within limits F choice fault opens is = by (directory_refusal F) (unmappe
 pub check_keeps : (plain : PlainLimits) (limits : Limits) (F : List ℕ) (old new : SourceState) (answer : Result ℕ ToolFault) (form : LineForm) (before after : OutState) → AreGiven plain limits → old.store.content ≡ Some F
     → IsReadThrough (check_access limits) old answer new → Checks form F limits.name before answer after → IsAnswered answer → KeepsMemory plain F All
 check_keeps plain limits F old new (Ok bad) form before after given known (IsReadThrough.listed run) runs told =
-    record { limits = limits; given = given; within = subst (λ (l : Limits). opening_fault_within l F All ≡ None) (leaving_none limits) (run.opens F known) ∙ sym runs.says.0 }
+    record { limits = limits; given = given; within = subst (λ (l : Limits). opening_fault_within l F All ≡ None) (leaving_none limits) (run.opens F known) ∙ sym runs.says.0; opening = λ _. run.opening F known }
 check_keeps plain limits F old new (Ok bad) form before after given known (IsReadThrough.refused asked early kept memory fetches inside) runs told = absurd early
 check_keeps plain limits F old new (Err (Opening fault)) form before after given known (IsReadThrough.listed run) runs told =
     let opens : opening_fault_within limits F All ≡ None = subst (λ (l : Limits). opening_fault_within l F All ≡ None) (leaving_none limits) (run.opens F known) in
     absurd (opened_within limits F All fault opens runs.says)
 check_keeps plain limits F old new (Err (Opening fault)) form before after given known (IsReadThrough.refused asked early kept memory fetches inside) runs told =
-    record { limits = limits; given = given; within = subst (λ (l : Limits). opening_fault_within l F All ≡ Some fault) (leaving_none limits) (memory F known) ∙ sym runs.says }
+    record { limits = limits; given = given; within = subst (λ (l : Limits). opening_fault_within l F All ≡ Some fault) (leaving_none limits) (memory F known) ∙ sym runs.says; opening = λ none. absurd (none-some fault (sym none ∙ runs.says)) }
 check_keeps plain limits F old new answer form before after given known through runs told = absurd told

@@ -115,23 +115,23 @@ module _ {T : Type 0} (row : Item → Option T) where
   }
 
   -- nothing is left, but this fault or none
-  pub Collects-end : (MayEnd : ListFault → Type 0) (run left : Run) (count : ℕ) (fault : Option ListFault) (before now : List T) → HasCollected row run left count before now
-      → left ≡ record { items = []; fault = fault } → Collects row MayEnd run count fault before now
-  Collects-end MayEnd run left count fault before now h end =
+  pub Collects-end : (MayEnd : ListFault → Type 0) (AreGivenSo : List Item → Type 0) (run left : Run) (count : ℕ) (fault : Option ListFault) (before now : List T) → HasCollected row run left count before now
+      → left ≡ record { items = []; fault = fault } → AreGivenSo run.items → Collects row MayEnd AreGivenSo run count fault before now
+  Collects-end MayEnd AreGivenSo run left count fault before now h end so =
       let all : run.items ≡ h.given = h.items ∙ ap (λ (r : Run). h.given ++ r.items) end ∙ append-nil h.given in
-      collects_all (sym (h.fault ∙ ap (λ (r : Run). r.fault) end))
+      collects_all (sym (h.fault ∙ ap (λ (r : Run). r.fault) end)) so
       record {
         count_is = h.count_is ∙ ap (λ (xs : List Item). told_count (length (filter_map row xs))) (sym all);
         out = h.out ∙ ap (λ (xs : List Item). put_front (filter_map row xs) before) (sym all);
       }
 
   -- or it is told that the budget was reached
-  pub Collects-fault : (MayEnd : ListFault → Type 0) (run left : Run) (count : ℕ) (fault : ListFault) (before now : List T) → HasCollected row run left count before now
+  pub Collects-fault : (MayEnd : ListFault → Type 0) (AreGivenSo : List Item → Type 0) (run left : Run) (count : ℕ) (fault : ListFault) (before now : List T) → HasCollected row run left count before now
       → (IsOfStore fault.kind → ⊥) → ((IsUnobtained fault.kind → ⊥) → left ≡ only_fault fault) → (fault.kind ≡ kinds.Budget → MayEnd fault)
-      → Collects row MayEnd run count (Some fault) before now
-  Collects-fault MayEnd run left count fault before now h good gives can = by (of_budget fault.kind good) where
-    by : (fault.kind ≡ kinds.Budget) ⊎ (IsUnobtained fault.kind → ⊥) → Collects row MayEnd run count (Some fault) before now
-    by (inr of_file) = Collects-end MayEnd run left count (Some fault) before now h (gives of_file)
+      → ((IsUnobtained fault.kind → ⊥) → AreGivenSo run.items) → Collects row MayEnd AreGivenSo run count (Some fault) before now
+  Collects-fault MayEnd AreGivenSo run left count fault before now h good gives can so = by (of_budget fault.kind good) where
+    by : (fault.kind ≡ kinds.Budget) ⊎ (IsUnobtained fault.kind → ⊥) → Collects row MayEnd AreGivenSo run count (Some fault) before now
+    by (inr of_file) = Collects-end MayEnd AreGivenSo run left count (Some fault) before now h (gives of_file) (so of_file)
     by (inl is) =
         collects_some h.given
         record { rest = left.items; first = h.items; told = fault; told_is = refl; kind = is; reached = can is }

@@ -28,6 +28,7 @@ use Rattle.mdmp_source.specs.Output.{OutState, PutsAll}
 use Rattle.mdmp_engines.specs.Causes.{IsNoSourceFault}
 use Rattle.mdmp_engines.specs.declared.fault.ToolFault.{ToolFault}
 use Rattle.mdmp_engines.specs.declared.fault.ToolFault.TheVariants.{List as BadList, Budget, Memory, Source, Out, AsideLimit}
+use Rattle.mdmp_engines.specs.Engines.{WhereToldToEnd}
 use Rattle.mdmp_engines.specs.Runs.{ListsNext}
 use Rattle.mdmp_engines.specs.Text.{item_lines, list_text, next_lines, run_text}
 use Rattle.mdmp_print.specs.declared.form.LineForm.{LineForm}
@@ -185,12 +186,12 @@ module _ (form : LineForm) (pdb : Bool) (F : List ℕ) (limit skip : ℕ) where
     is = record { told_is = refl; part_is = refl };
   }
 
-  module _ (valid IsKept : Type 0) (MayTell : PlainFault → Type 0) (MayEnd : ToolFault → Type 0) (keeps : IsKept) where
-    answered : (told : PlainFault) (status count : ℕ) (fault : PlainFault) (before after : List ℕ) (p s n : ℕ) (kept : List ℕ) → valid → opening_fault F All ≡ None
+  module _ (valid IsKept : Type 0) (MayTell : PlainFault → Type 0) (MayEnd : ToolFault → Type 0) where
+    answered : IsKept → (told : PlainFault) (status count : ℕ) (fault : PlainFault) (before after : List ℕ) (p s n : ℕ) (kept : List ℕ) → valid → opening_fault F All ≡ None
         → told ≡ list_told run.fault → IsPartOf skip (length before) whole p s n kept
         → ((part : List ℕ) → n ≡ told_count (length part) → kept ≡ take (length before) part → GivesOrWants told part status count fault before after)
         → Ends (IsListPart form pdb skip F limit) valid IsKept MayTell bad_limits status count fault before after
-    answered told status count fault before after p s n kept ok opened is part gives =
+    answered keeps told status count fault before after p s n kept ok opened is part gives =
         Ends-given (IsListPart form pdb skip F limit) valid IsKept MayTell bad_limits told (drop skip whole) status count fault before after ok
         (inr (inl (keeps, record { told_is = rw opened is; part_is = rw opened refl }))) (gives (drop skip whole) part.size_is part.kept_is)
 
@@ -215,23 +216,23 @@ module _ (form : LineForm) (pdb : Bool) (F : List ℕ) (limit skip : ℕ) where
         (gives (drop skip puts.given) puts.put.size_is puts.put.kept_is)
 
     -- the part of the text of a file that was opened, up to what ended its listing
-    pub Ends-part : (answer : Result (Unit {0}) ToolFault) (status count : ℕ) (fault : PlainFault) (before after : List ℕ) (p s n : ℕ) (kept : List ℕ) → valid
+    pub Ends-part : (answer : Result (Unit {0}) ToolFault) → WhereToldToEnd answer IsKept → (status count : ℕ) (fault : PlainFault) (before after : List ℕ) (p s n : ℕ) (kept : List ℕ) → valid
         → ((f : ToolFault) → MayEnd f → MayTell (list_answer (Err f)))
         → opening_fault F All ≡ None → PutsRun (λ text. IsPartOf skip (length before) text p s n kept) MayEnd whole run answer
         → ((part : List ℕ) → n ≡ told_count (length part) → kept ≡ take (length before) part → GivesOrWants (list_answer answer) part status count fault before after)
         → (list_answer answer ≡ no_memory → Fails no_memory status count fault before after)
         → Ends (IsListPart form pdb skip F limit) valid IsKept MayTell bad_limits status count fault before after
-    Ends-part (Ok x) status count fault before after p s n kept ok can opened puts gives none =
-        answered (list_answer (Ok x)) status count fault before after p s n kept ok opened (ap list_told (sym puts.0)) puts.1 gives
-    Ends-part (Err (BadList f)) status count fault before after p s n kept ok can opened puts gives none =
-        answered (list_answer (Err (BadList f))) status count fault before after p s n kept ok opened (ap list_told (sym puts.0)) puts.1 gives
-    Ends-part (Err (Budget offset size)) status count fault before after p s n kept ok can opened puts gives none =
+    Ends-part (Ok x) keeps status count fault before after p s n kept ok can opened puts gives none =
+        answered keeps (list_answer (Ok x)) status count fault before after p s n kept ok opened (ap list_told (sym puts.0)) puts.1 gives
+    Ends-part (Err (BadList f)) keeps status count fault before after p s n kept ok can opened puts gives none =
+        answered keeps (list_answer (Err (BadList f))) status count fault before after p s n kept ok opened (ap list_told (sym puts.0)) puts.1 gives
+    Ends-part (Err (Budget offset size)) keeps status count fault before after p s n kept ok can opened puts gives none =
         stopped (budget_fault offset size) (MayEnd (Budget offset size)) status count fault before after p s n kept ok opened puts (can (Budget offset size) puts.limit) gives
-    Ends-part (Err (AsideLimit offset size)) status count fault before after p s n kept ok can opened puts gives none =
+    Ends-part (Err (AsideLimit offset size)) keeps status count fault before after p s n kept ok can opened puts gives none =
         stopped (aside_fault offset size) (MayEnd (AsideLimit offset size)) status count fault before after p s n kept ok opened puts (can (AsideLimit offset size) puts.limit) gives
-    Ends-part (Err Out) status count fault before after p s n kept ok can opened puts gives none = wants ok (none refl)
-    Ends-part (Err Memory) status count fault before after p s n kept ok can opened puts gives none = wants ok (none refl)
-    Ends-part (Err _) status count fault before after p s n kept ok can opened puts gives none = absurd puts
+    Ends-part (Err Out) keeps status count fault before after p s n kept ok can opened puts gives none = wants ok (none refl)
+    Ends-part (Err Memory) keeps status count fault before after p s n kept ok can opened puts gives none = wants ok (none refl)
+    Ends-part (Err _) keeps status count fault before after p s n kept ok can opened puts gives none = absurd puts
 
 module _ (form : LineForm) (pdb : Bool) (F : List ℕ) (limit : ℕ) where
   -- what follows no bytes of a text is all of it

@@ -1,5 +1,6 @@
 -- What is told where the memory of a file is not read.
 use Rattle.std.proofs.Common.{◌≡◌, ◌∙◌, ◌⊎◌, ℕ, Bool, List, Some, None, ap, inl, inr, length, refl, subst, sym}
+use Rattle.std.proofs.lemmas.Option.{none-some}
 use Rattle.mdmp_lister.specs.declared.choice.Choice.{Choice}
 use Rattle.mdmp_lister.specs.declared.fault.FaultKind.{FaultKind}
 use Rattle.mdmp_lister.specs.declared.fault.FaultKind.TheVariants as kinds
@@ -12,12 +13,12 @@ use Rattle.mdmp_lister.specs.Format.Listing.{listing, memory_lists}
 use Rattle.mdmp_lister.specs.Format.Refusal.{opening_fault}
 use Rattle.mdmp_c.specs.declared.fault.PlainFault.{PlainFault}
 use Rattle.mdmp_c.specs.declared.limits.PlainLimits.{PlainLimits}
-use Rattle.mdmp_c.specs.Limits.{AreGiven, AreLimits, EndsListing, KeepsMemory}
+use Rattle.mdmp_c.specs.Limits.{AreGiven, AreLimits, EndsListing, KeepsListing}
 use Rattle.mdmp_lister.specs.declared.limits.Limits.{Limits}
 use Rattle.mdmp_lister.specs.Memory.{IsRefusalWithin, opening_fault_within}
 use Rattle.mdmp_c.specs.Fault.{budget_fault, open_fault, plain_by_kind, plain_list_fault, no_fault, status_of, wide_fault}
 use Rattle.mdmp_c.specs.Memory.{ReadsMemory, faulty, memory_told, stops, wants}
-use Rattle.mdmp_c.proofs.Ending.{keeps_memory, plain_budget}
+use Rattle.mdmp_c.proofs.Ending.{keeps_memory, keeps_unlisted, plain_budget}
 use Rattle.mdmp_c.proofs.Stopping.{IsLimitTold, of_budget}
 
 -- a fault of a listing that is the file's has status 1
@@ -48,7 +49,7 @@ some_fault told status none = let wrong : status_of no_fault ≡ 1 = subst (λ (
 
 -- the memory lists of a file that can be opened end with a fault: it is the file's, or the budget was reached
 pub ReadsMemory-fault : (F : List ℕ) (limits : PlainLimits) (name : ℕ) (choice : Choice) (f : ListFault) (address status : ℕ) (fault : PlainFault) (out : List ℕ) (known : List Bool)
-    → AreLimits limits → KeepsMemory limits F memory_lists → length out ≡ length known → choice ≡ memory_lists → name ≡ limits.name → opening_fault F choice ≡ None → (IsOfStore f.kind → ⊥)
+    → AreLimits limits → ((IsUnobtained f.kind → ⊥) → KeepsListing limits F memory_lists) → length out ≡ length known → choice ≡ memory_lists → name ≡ limits.name → opening_fault F choice ≡ None → (IsOfStore f.kind → ⊥)
     → ((IsUnobtained f.kind → ⊥) → (listing F choice name).fault ≡ Some f) → (f.kind ≡ kinds.Budget → EndsListing limits F memory_lists (budget_fault f.offset f.size))
     → status ≡ status_of (plain_list_fault f) → fault ≡ plain_list_fault f → ReadsMemory F limits address status fault out out known known
 ReadsMemory-fault F limits name choice f address status fault out known valid keeps same is named opened good lists can ends tells = by (of_budget f.kind good) where
@@ -59,7 +60,7 @@ ReadsMemory-fault F limits name choice f address status fault out known valid ke
       record { status_is = ends ∙ ap status_of plain; fault_is = tells ∙ plain; out = refl; known = refl }
   by (inr of_file) =
       let told = memory_told-fault F limits.name name choice f is named opened (lists of_file) in
-      faulty valid keeps same (some_fault _ (ap status_of told ∙ status-file f.kind f of_file))
+      faulty valid (keeps of_file) same (some_fault _ (ap status_of told ∙ status-file f.kind f of_file))
       record { status_is = ends ∙ status-file f.kind f of_file; fault_is = tells ∙ sym told; out = refl; known = refl }
 
 -- the file was refused: for what is in it, since memory was wanting, or since the budget was reached
@@ -70,7 +71,8 @@ module _ (F : List ℕ) (limits : PlainLimits) (choice : Choice) (address : ℕ)
   refused_for fault status told refused within one ends tells =
       let first : opening_fault F memory_lists ≡ Some fault = subst (λ (c : Choice). opening_fault F c ≡ Some fault) is refused in
       let all : memory_told F limits.name ≡ open_fault fault = rw first refl in
-      let keeps : KeepsMemory limits F memory_lists = subst (KeepsMemory limits F) is (keeps_memory limits within_of F choice (Some fault) given within refused) in
+      let keeps : KeepsListing limits F memory_lists = subst (KeepsListing limits F) is
+      (keeps_unlisted limits F choice fault refused (keeps_memory limits within_of F choice (Some fault) given within refused (λ none. absurd (none-some fault (sym none))))) in
       faulty valid keeps same (some_fault _ (ap status_of all ∙ one))
       record { status_is = ends ∙ one; fault_is = tells ∙ sym all; out = refl; known = refl }
 

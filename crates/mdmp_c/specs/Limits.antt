@@ -17,6 +17,8 @@ use Rattle.mdmp_lister.specs.Format.Numbers.{listed_bytes}
 use Rattle.mdmp_lister.specs.Format.Refusal.{opening_fault}
 use Rattle.mdmp_lister.specs.Limits.{most_bytes}
 use Rattle.mdmp_lister.specs.Memory.{opening_fault_within}
+use Rattle.mdmp_lister.specs.Opening.{KeepsOpening}
+use Rattle.mdmp_lister.specs.Requested.{IsListedWithin}
 use Rattle.mdmp_lister.specs.Sink.{names_of_all}
 use Rattle.mdmp_engines.specs.Symbols.{IsRecordAmong}
 
@@ -45,11 +47,19 @@ abbrev pub IsLimits : PlainLimits → Option Limits → Type 0
 IsLimits plain (Some limits) = AreGiven plain limits
 IsLimits plain None = AreLimits plain → ⊥
 
--- the limit of memory is kept: within the limits, no other reason keeps F from being opened than without them
+-- the limit of memory is kept: within the limits, no other reason keeps F from being opened than without them. What is read as F is
+-- opened is within the budget
 pub record KeepsMemory (plain : PlainLimits) (F : List ℕ) (choice : Choice) : Type 0 where
   pub limits : Limits
   pub given : AreGiven plain limits
   pub within : opening_fault_within limits F choice ≡ opening_fault F choice
+  pub opening : opening_fault F choice ≡ None → KeepsOpening limits.budget F choice
+
+-- and the listing of a file that can be opened is kept within the budget: a lister that was opened for these limits gives all of it by
+-- requests, each of them within the budget
+pub record KeepsListing (plain : PlainLimits) (F : List ℕ) (choice : Choice) : Type 0 where
+  pub memory : KeepsMemory plain F choice
+  pub listed : opening_fault F choice ≡ None → (limits : Limits) × (AreGiven plain limits × IsListedWithin limits F choice)
 
 -- ---- what a call reads at most
 

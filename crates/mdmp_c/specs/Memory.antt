@@ -4,7 +4,7 @@ use Rattle.mdmp_c.specs.declared.fault.PlainFault.{PlainFault}
 use Rattle.mdmp_c.specs.declared.limits.PlainLimits.{PlainLimits}
 use Rattle.mdmp_c.specs.Fault.{list_told, no_fault, no_memory, of_kind, told_unless}
 use Rattle.mdmp_c.specs.Giving.{bad_limits}
-use Rattle.mdmp_c.specs.Limits.{AreLimits, EndsListing, KeepsMemory}
+use Rattle.mdmp_c.specs.Limits.{AreLimits, EndsListing, KeepsListing}
 use Rattle.mdmp_lister.specs.Addressing.{ReadsCells}
 use Rattle.mdmp_lister.specs.Format.Listing.{listing, memory_lists}
 use Rattle.mdmp_lister.specs.Format.Ranges.{ranges_of}
@@ -53,10 +53,10 @@ memory_told F limit = told_unless (opening_fault F memory_lists) (list_told (lis
 -- memory of F by all ranges of its memory lists, none of which has a fault; or nothing, where they have one, memory was wanting
 -- or a limit was reached before they were read
 pub data ReadsMemory (F : List ℕ) (limits : PlainLimits) (address status : ℕ) (fault : PlainFault) (out_before out_after : List ℕ) (known_before known_after : List Bool) : Type 0 where
-  reads : AreLimits limits → KeepsMemory limits F memory_lists → length out_before ≡ length known_before → memory_told F limits.name ≡ no_fault
+  reads : AreLimits limits → KeepsListing limits F memory_lists → length out_before ≡ length known_before → memory_told F limits.name ≡ no_fault
       → GivesCells F (ranges_of (listing F memory_lists limits.name).items) address status fault out_after known_after
       → ReadsMemory F limits address status fault out_before out_after known_before known_after
-  faulty : AreLimits limits → KeepsMemory limits F memory_lists → length out_before ≡ length known_before → (memory_told F limits.name ≡ no_fault → ⊥) → GivesNoBytes status 1 (memory_told F limits.name) fault out_before out_after known_before known_after
+  faulty : AreLimits limits → KeepsListing limits F memory_lists → length out_before ≡ length known_before → (memory_told F limits.name ≡ no_fault → ⊥) → GivesNoBytes status 1 (memory_told F limits.name) fault out_before out_after known_before known_after
       → ReadsMemory F limits address status fault out_before out_after known_before known_after
   wants : AreLimits limits → length out_before ≡ length known_before → GivesNoBytes status 3 no_memory fault out_before out_after known_before known_after
       → ReadsMemory F limits address status fault out_before out_after known_before known_after

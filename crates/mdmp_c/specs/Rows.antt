@@ -1,4 +1,4 @@
--- Records as plain structures.
+-- Records as plain structures. Made by bindings/generate from bindings/interface.toml.
 use Rattle.std.specs.Prelude.{◌/◌, ◌%◌, ◌^◌, Option, Some, None, replicate}
 use Rattle.mdmp_lister.specs.declared.item.ExceptionItem.{ExceptionItem}
 use Rattle.mdmp_lister.specs.declared.item.Item.{Item}

@@ -54,7 +54,8 @@ pub record IsCutShort {T : Type 0} (MayEnd : ListFault → Type 0) (all given : 
   pub kind : told.kind ≡ kinds.Budget
   pub reached : MayEnd told
 
--- the rows of a run were put there up to its fault or none, or those of its first items up to where the budget was reached
-pub data Collects {T : Type 0} (row : Item → Option T) (MayEnd : ListFault → Type 0) (run : Run) (count : ℕ) (fault : Option ListFault) (before after : List T) : Type 0 where
-  collects_all : fault ≡ run.fault → PutsRows row run.items count before after → Collects row MayEnd run count fault before after
-  collects_some : (given : List Item) → IsCutShort MayEnd run.items given fault → PutsRows row given count before after → Collects row MayEnd run count fault before after
+-- the rows of a run were put there up to its fault or none, and its items were all given so, or those of its first items up to where the
+-- budget was reached
+pub data Collects {T : Type 0} (row : Item → Option T) (MayEnd : ListFault → Type 0) (AreGivenSo : List Item → Type 0) (run : Run) (count : ℕ) (fault : Option ListFault) (before after : List T) : Type 0 where
+  collects_all : fault ≡ run.fault → AreGivenSo run.items → PutsRows row run.items count before after → Collects row MayEnd AreGivenSo run count fault before after
+  collects_some : (given : List Item) → IsCutShort MayEnd run.items given fault → PutsRows row given count before after → Collects row MayEnd AreGivenSo run count fault before after

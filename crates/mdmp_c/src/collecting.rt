@@ -4,6 +4,7 @@ ghost use Rattle.mdmp_c.specs.Giving.{put_front, told_count};
 ghost use Rattle.mdmp_c.specs.Limits.{most_read};
 ghost use Rattle.mdmp_c.specs.Table.{Collects, EndsListAt};
 ghost use Rattle.mdmp_lister.specs.Format.Listing.{Run};
+ghost use Rattle.mdmp_lister.specs.Requested.{GivesByRequests};
 ghost use Rattle.mdmp_lister.specs.Sink.{names_of_all};
 ghost use Rattle.mdmp_source.specs.Store.{IsGood};
 
@@ -26,7 +27,7 @@ pub(crate) fn collect<T: PlainRow, S: Store + Drop, A: Allocator + Copy>(
 ) -> Collected
     requires going { lister.old.stop ≡ None }
     ensures { (file : List ℕ) → IsGood lister.old.source.store file → (left : Run) → lister.old.left ≡ Some left
-        → Collects T.row_of (EndsListAt lister.old (most_read file lister.old.choice lister.old.limit (lister.old.counts.names + names_of_all left.items)))
+        → Collects T.row_of (EndsListAt lister.old (most_read file lister.old.choice lister.old.limit (lister.old.counts.names + names_of_all left.items))) (λ items. GivesByRequests lister.old items lister.new)
         left result.count result.fault out.old out.new }
 {
     let mut count = 0u64;

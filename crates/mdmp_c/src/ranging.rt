@@ -6,6 +6,7 @@ ghost use Rattle.mdmp_lister.specs.declared.fault.FaultKind.TheVariants.{Budget}
 ghost use Rattle.mdmp_lister.specs.Fault.{IsOfStore, IsUnobtained};
 ghost use Rattle.mdmp_lister.specs.Format.Listing.{Run};
 ghost use Rattle.mdmp_lister.specs.Format.Ranges.{ranges_of};
+ghost use Rattle.mdmp_lister.specs.Requested.{GivesByRequests};
 ghost use Rattle.mdmp_lister.specs.Sink.{names_of_all};
 ghost use Rattle.mdmp_source.specs.Source.{FetchesSome};
 ghost use Rattle.mdmp_source.specs.Store.{IsGood};
@@ -39,6 +40,9 @@ pub(crate) fn list_ranges<S: Store + Drop, A: Allocator + Copy>(
         (λ fault. (IsUnobtained fault.kind → ⊥) → left.fault ≡ Some fault) }
     ensures good { (file : List ℕ) → IsGood lister.old.source.store file → IfErr result (λ fault. IsOfStore fault.kind → ⊥) }
     ensures fetches { FetchesSome lister.old.source lister.new.source }
+    ensures requests { (left : Run) → lister.old.left ≡ Some left → MatchResult result
+        (λ _. GivesByRequests lister.old left.items lister.new)
+        (λ fault. (IsUnobtained fault.kind → ⊥) → GivesByRequests lister.old left.items lister.new) }
     ensures ended { (file : List ℕ) → IsGood lister.old.source.store file → (left : Run) → lister.old.left ≡ Some left
         → IfErr result (λ fault. fault.kind ≡ Budget
         → EndsListAt lister.old (most_read file lister.old.choice lister.old.limit (lister.old.counts.names + names_of_all left.items)) fault) }

@@ -1,4 +1,4 @@
-//! Records as plain structures, of which a call gives an array.
+//! Records as plain structures, of which a call gives an array. Made by bindings/generate from bindings/interface.toml.
 ghost use Rattle.std.specs.Prelude.{◌≡◌};
 ghost use Rattle.mdmp_c.specs.Rows.{exception_fields};
 
@@ -20,17 +20,17 @@ pub(crate) trait PlainRow: Copy {
         ensures { result ≡ row_of (plain item.now) };
 }
 
-/// A thread, `MINIDUMP_THREAD`.
+/// A thread: `MINIDUMP_THREAD`.
 #[repr(C)]
 #[derive(Clone, Copy)]
 pub struct ThreadRow {
-    /// The index of the record in its stream, from 0.
+    /// The number of the record in its stream, from 0.
     pub index: u64,
     /// `Teb`, an address of the dumped process.
     pub teb: u64,
     /// `Stack.StartOfMemoryRange`, an address of the dumped process.
     pub stack_start: u64,
-    /// The number of the entry in the directory, from 0.
+    /// The number of the directory entry, from 0.
     pub entry: u32,
     /// `ThreadId`.
     pub thread_id: u32,
@@ -42,7 +42,7 @@ pub struct ThreadRow {
     pub priority: u32,
     /// `Stack.Memory`.
     pub stack: PartPlace,
-    /// `ThreadContext`, of the registers.
+    /// `ThreadContext`, the registers.
     pub context: PartPlace,
     /// Zeros.
     pub reserved: [u32; 3],
@@ -75,15 +75,15 @@ impl PlainRow for ThreadRow {
     }
 }
 
-/// A module, `MINIDUMP_MODULE`.
+/// A module: `MINIDUMP_MODULE`.
 #[repr(C)]
 #[derive(Clone, Copy)]
 pub struct ModuleRow {
-    /// The index of the record in its stream, from 0.
+    /// The number of the record in its stream, from 0.
     pub index: u64,
     /// `BaseOfImage`, an address of the dumped process.
     pub base_of_image: u64,
-    /// The number of the entry in the directory, from 0.
+    /// The number of the directory entry, from 0.
     pub entry: u32,
     /// `SizeOfImage`, in bytes.
     pub size_of_image: u32,
@@ -91,9 +91,9 @@ pub struct ModuleRow {
     pub checksum: u32,
     /// `TimeDateStamp`, in seconds since 1970.
     pub time_date_stamp: u32,
-    /// `VersionInfo.dwFileVersionMS`, the first two of the file version's four numbers.
+    /// `VersionInfo.dwFileVersionMS`: the first two of the four numbers of the version.
     pub file_version_ms: u32,
-    /// `VersionInfo.dwFileVersionLS`, the last two.
+    /// `VersionInfo.dwFileVersionLS`: the last two numbers.
     pub file_version_ls: u32,
     /// `VersionInfo.dwProductVersionMS`.
     pub product_version_ms: u32,
@@ -101,7 +101,7 @@ pub struct ModuleRow {
     pub product_version_ls: u32,
     /// The name at `ModuleNameRva`.
     pub name: NamePlace,
-    /// `CvRecord`, of its CodeView record.
+    /// `CvRecord`: `mdmp_symbols` reads the record that is there.
     pub codeview: PartPlace,
     /// `MiscRecord`.
     pub misc: PartPlace,
@@ -139,15 +139,15 @@ impl PlainRow for ModuleRow {
     }
 }
 
-/// A module that was unloaded, `MINIDUMP_UNLOADED_MODULE`.
+/// An unloaded module: `MINIDUMP_UNLOADED_MODULE`.
 #[repr(C)]
 #[derive(Clone, Copy)]
 pub struct UnloadedRow {
-    /// The index of the record in its stream, from 0.
+    /// The number of the record in its stream, from 0.
     pub index: u64,
     /// `BaseOfImage`, an address of the dumped process.
     pub base_of_image: u64,
-    /// The number of the entry in the directory, from 0.
+    /// The number of the directory entry, from 0.
     pub entry: u32,
     /// `SizeOfImage`, in bytes.
     pub size_of_image: u32,
@@ -185,11 +185,11 @@ impl PlainRow for UnloadedRow {
     }
 }
 
-/// An exception, `MINIDUMP_EXCEPTION_STREAM`.
+/// An exception: `MINIDUMP_EXCEPTION_STREAM`.
 #[repr(C)]
 #[derive(Clone, Copy)]
 pub struct ExceptionRow {
-    /// The index of the record in its stream: 0.
+    /// The number of the record in its stream: 0.
     pub index: u64,
     /// `ExceptionRecord`, an address of the dumped process.
     pub exception_record: u64,
@@ -197,7 +197,7 @@ pub struct ExceptionRow {
     pub exception_address: u64,
     /// `ExceptionInformation`.
     pub information: [u64; 15],
-    /// The number of the entry in the directory, from 0.
+    /// The number of the directory entry, from 0.
     pub entry: u32,
     /// `ThreadId`.
     pub thread_id: u32,
@@ -205,9 +205,9 @@ pub struct ExceptionRow {
     pub exception_code: u32,
     /// `ExceptionFlags`.
     pub exception_flags: u32,
-    /// `NumberParameters`, how many of `information` are of use; it may be over 15.
+    /// `NumberParameters`: how many elements of information are used; may be over 15.
     pub number_parameters: u32,
-    /// `ThreadContext`, of the registers.
+    /// `ThreadContext`, the registers.
     pub context: PartPlace,
     /// Zeros.
     pub reserved: [u32; 3],
@@ -215,7 +215,7 @@ pub struct ExceptionRow {
 
 const _: () = prove!(size_of::<ExceptionRow>() == 192);
 
-/// An exception as a row.
+/// The row of this item.
 pub(crate) fn exception_fields(item: &ExceptionItem) -> ExceptionRow
     ensures { result ≡ exception_fields item.now }
 {
@@ -247,17 +247,17 @@ impl PlainRow for ExceptionRow {
     }
 }
 
-/// The system, `MINIDUMP_SYSTEM_INFO`.
+/// The system: `MINIDUMP_SYSTEM_INFO`.
 #[repr(C)]
 #[derive(Clone, Copy)]
 pub struct SystemRow {
-    /// The index of the record in its stream: 0.
+    /// The number of the record in its stream: 0.
     pub index: u64,
-    /// The name at `CSDVersionRva`, of the service pack.
+    /// The name at `CSDVersionRva`: the service pack.
     pub csd_version: NamePlace,
-    /// The number of the entry in the directory, from 0.
+    /// The number of the directory entry, from 0.
     pub entry: u32,
-    /// `ProcessorArchitecture`.
+    /// `ProcessorArchitecture`: 0 is x86, 9 is x64, 12 is ARM64.
     pub processor_architecture: u32,
     /// `ProcessorLevel`.
     pub processor_level: u32,
@@ -314,11 +314,11 @@ impl PlainRow for SystemRow {
     }
 }
 
-/// A region of memory, `MINIDUMP_MEMORY_INFO`.
+/// A region of memory: `MINIDUMP_MEMORY_INFO`.
 #[repr(C)]
 #[derive(Clone, Copy)]
 pub struct RegionRow {
-    /// The index of the record in its stream, from 0.
+    /// The number of the record in its stream, from 0.
     pub index: u64,
     /// `BaseAddress`, an address of the dumped process.
     pub base_address: u64,
@@ -326,9 +326,9 @@ pub struct RegionRow {
     pub allocation_base: u64,
     /// `RegionSize`, in bytes.
     pub region_size: u64,
-    /// The number of the entry in the directory, from 0.
+    /// The number of the directory entry, from 0.
     pub entry: u32,
-    /// `AllocationProtect`, the protection at first.
+    /// `AllocationProtect`.
     pub allocation_protect: u32,
     /// `State`.
     pub state: u32,
@@ -366,17 +366,17 @@ impl PlainRow for RegionRow {
     }
 }
 
-/// The name of a thread, `MINIDUMP_THREAD_NAME`.
+/// The name of a thread: `MINIDUMP_THREAD_NAME`.
 #[repr(C)]
 #[derive(Clone, Copy)]
 pub struct ThreadNameRow {
-    /// The index of the record in its stream, from 0.
+    /// The number of the record in its stream, from 0.
     pub index: u64,
-    /// The number of the entry in the directory, from 0.
+    /// The number of the directory entry, from 0.
     pub entry: u32,
     /// `ThreadId`.
     pub thread_id: u32,
-    /// The name at `RvaOfThreadName`.
+    /// The name at `RvaOfThreadName`, an offset of 64 bits.
     pub name: NamePlace,
     /// Zeros.
     pub reserved: [u32; 2],
@@ -403,23 +403,23 @@ impl PlainRow for ThreadNameRow {
     }
 }
 
-/// A range of memory, of a `MINIDUMP_MEMORY_LIST` or a `MINIDUMP_MEMORY64_LIST`.
+/// A range of memory: `MINIDUMP_MEMORY_DESCRIPTOR` or `MINIDUMP_MEMORY_DESCRIPTOR64`.
 #[repr(C)]
 #[derive(Clone, Copy)]
 pub struct RangeRow {
-    /// The index of the descriptor in its stream, from 0.
+    /// The number of the record in its stream, from 0.
     pub index: u64,
     /// `StartOfMemoryRange`, an address of the dumped process.
     pub start: u64,
-    /// How many bytes it has.
+    /// `DataSize`, in bytes.
     pub size: u64,
-    /// The offset of its bytes from the start of the file: its low 64 bits.
+    /// The offset of its bytes from the start of the file: the lower 64 bits.
     pub offset: u64,
-    /// The high 64 bits of the offset, which are 0 if its bytes lie inside the file.
+    /// The upper 64 bits of offset; 0 if the bytes are inside the file.
     pub offset_high: u64,
-    /// The number of the entry in the directory, from 0.
+    /// The number of the directory entry, from 0.
     pub entry: u32,
-    /// What its bytes are in the file, as of a [`PartPlace`].
+    /// Whether its bytes are in the file.
     pub extent: u32,
     /// Zeros.
     pub reserved: [u32; 2],

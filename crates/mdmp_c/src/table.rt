@@ -2,7 +2,7 @@
 ghost use Rattle.std.specs.Prelude.{◌≡◌, ◌<◌, ◌^◌, ◌∷◌, [], ℕ, length, nat_lt, if◌then◌else◌};
 ghost use Rattle.mdmp_c.specs.Fault.{list_told, status_of};
 ghost use Rattle.mdmp_c.specs.Giving.{Ends, bad_limits, told_count};
-ghost use Rattle.mdmp_c.specs.Limits.{AreLimits, EndsListing, KeepsMemory};
+ghost use Rattle.mdmp_c.specs.Limits.{AreLimits, EndsListing, KeepsListing};
 ghost use Rattle.mdmp_c.specs.Table.{IsTable};
 ghost use Rattle.mdmp_lister.specs.declared.choice.Choice.TheVariants.{Types};
 
@@ -37,7 +37,7 @@ pub(crate) fn give_rows<T: PlainRow>(
     fault: &mut PlainFault,
 ) -> u32
     requires { length out.old < 2 ^ 63 }
-    ensures { Ends (IsTable T.row_of file.now choice limits.now.name) (AreLimits limits.now) (KeepsMemory limits.now file.now choice) (EndsListing limits.now file.now choice) bad_limits result count.new fault.new out.old out.new }
+    ensures { Ends (IsTable T.row_of file.now choice limits.now.name) (AreLimits limits.now) (KeepsListing limits.now file.now choice) (EndsListing limits.now file.now choice) bad_limits result count.new fault.new out.old out.new }
 {
     let Some(limits) = limits_of(limits) else {
         return refuse(of_kind(kinds::BAD_LIMITS), count, fault);

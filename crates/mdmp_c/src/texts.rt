@@ -1,6 +1,6 @@
 //! Calls that give a text: the lines of `check` and of `list`, in either form.
 ghost use Rattle.mdmp_c.specs.Giving.{Ends, bad_limits};
-ghost use Rattle.mdmp_c.specs.Limits.{AreLimits, EndsChecking, EndsText, KeepsMemory};
+ghost use Rattle.mdmp_c.specs.Limits.{AreLimits, EndsChecking, EndsText, KeepsListing, KeepsMemory};
 ghost use Rattle.mdmp_c.specs.Texts.{IsCheck, IsList};
 ghost use Rattle.mdmp_lister.specs.declared.choice.Choice.TheVariants.{All};
 ghost use Rattle.mdmp_print.specs.declared.form.LineForm.TheVariants.{Json, Text};
@@ -58,7 +58,7 @@ pub extern "C" fn mdmp_list_(
     size: &mut u64,
     fault: &mut PlainFault,
 ) -> u32
-    ensures { Ends (IsList Text pdb file.now limits.now.name) (AreLimits limits.now) (KeepsMemory limits.now file.now All) (EndsText limits.now file.now pdb) bad_limits result size.new fault.new out.old out.new }
+    ensures { Ends (IsList Text pdb file.now limits.now.name) (AreLimits limits.now) (KeepsListing limits.now file.now All) (EndsText limits.now file.now pdb) bad_limits result size.new fault.new out.old out.new }
 {
     list_in(alloc, file, limits, LineForm::Text, pdb, out, size, fault)
 }
@@ -74,7 +74,7 @@ pub extern "C" fn mdmp_list_json_(
     size: &mut u64,
     fault: &mut PlainFault,
 ) -> u32
-    ensures { Ends (IsList Json pdb file.now limits.now.name) (AreLimits limits.now) (KeepsMemory limits.now file.now All) (EndsText limits.now file.now pdb) bad_limits result size.new fault.new out.old out.new }
+    ensures { Ends (IsList Json pdb file.now limits.now.name) (AreLimits limits.now) (KeepsListing limits.now file.now All) (EndsText limits.now file.now pdb) bad_limits result size.new fault.new out.old out.new }
 {
     list_in(alloc, file, limits, LineForm::Json, pdb, out, size, fault)
 }
@@ -112,7 +112,7 @@ fn list_in(
     size: &mut u64,
     fault: &mut PlainFault,
 ) -> u32
-    ensures { Ends (IsList form pdb file.now limits.now.name) (AreLimits limits.now) (KeepsMemory limits.now file.now All) (EndsText limits.now file.now pdb) bad_limits result size.new fault.new out.old out.new }
+    ensures { Ends (IsList form pdb file.now limits.now.name) (AreLimits limits.now) (KeepsListing limits.now file.now All) (EndsText limits.now file.now pdb) bad_limits result size.new fault.new out.old out.new }
 {
     give_list(alloc, file, limits, form, pdb, 0, out, size, fault)
 }

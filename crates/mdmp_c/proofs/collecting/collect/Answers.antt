@@ -1,4 +1,4 @@
-use Rattle.std.proofs.Common.{rules, ◌≡◌, ◌∙◌, ◌+◌, ap, arith, Some, None, refl, sym}
+use Rattle.std.proofs.Common.{rules, ◌≡◌, ◌∙◌, ◌+◌, ◌++◌, ◌∷◌, [], ap, arith, Some, None, refl, sym}
 use Rattle.std.specs.Prelude.{slice_get}
 use Rattle.mdmp_source.specs.SourceLaws.{fetches_then}
 use Rattle.mdmp_source.specs.Store.{IsGood}
@@ -12,6 +12,8 @@ use Rattle.mdmp_lister.specs.Lister.{tail}
 use Rattle.mdmp_lister.specs.Sink.{names_of_all}
 use Rattle.mdmp_c.specs.Limits.{most_read}
 use Rattle.mdmp_c.specs.Table.{EndsListAt}
+use Rattle.mdmp_lister.proofs.Requested.{aside_none, item_requested, requested_more}
+use Rattle.mdmp_engines.proofs.Asking.{given_end, given_fault}
 use Rattle.mdmp_lister.proofs.Standpoints.{run_fetch}
 use Rattle.mdmp_summary.proofs.InEntries.{answers_fault, answers_item}
 use Rattle.mdmp_c.proofs.Coming.{lists_on}
@@ -25,6 +27,7 @@ loop-item-init g c = record {
   going = c.requires.going;
   stands = λ in_chosen. in_chosen;
   same = record { header_is = refl; entries = refl; choice = refl; limit = refl; rooms = refl; aside = refl; start = refl; budget = refl };
+  requested = ([], aside_none _);
   collected = λ file good run known. (run, (known, (HasCollected-nothing g.T.PlainRow.row_of run c.args.out.now, refl)));
 }
 
@@ -32,7 +35,12 @@ pub returns-in-Ok-None : goal.returns-in-Ok-None
 returns-in-Ok-None g c = λ file good run known.
     let so_far = c.loop-item.invariant.collected file good run known in
     let end : so_far.0 ≡ nothing = rw c.in-Ok-None.field-0-is at (c.in-Ok-None.ensures.gives so_far.0 so_far.1.0) in
-    Collects-end g.T.PlainRow.row_of _ run so_far.0 _ None _ _ so_far.1.1.0 end
+    let asked = c.loop-item.invariant.requested in
+    Collects-end g.T.PlainRow.row_of _ _ run so_far.0 _ None _ _ so_far.1.1.0 end
+    (given_end asked.0 c.args.lister.now c.loop-item.lister c.next.follows.lender-at-none run asked.1 record {
+      leaves = rw (c.in-Ok-None.is, c.in-Ok-None.field-0-is) at c.next.follows.holds-at-none;
+      gives = λ left known. rw c.in-Ok-None.field-0-is at (c.in-Ok-None.ensures.gives left known);
+    } known)
 
 pub loop-item-preserved-in-Some : goal.loop-item-preserved-in-Some
 loop-item-preserved-in-Some g c =
@@ -44,6 +52,13 @@ loop-item-preserved-in-Some g c =
       stands = λ in_chosen more. answers_item c.loop-item.lister c.next.follows.lender-at-none holds.list.same.choice holds.list.same.entries (c.loop-item.invariant.stands in_chosen) c.in-Ok-Some.item
           (rw (c.in-Ok-Some.is, c.in-Ok-Some.field-0-is) at (holds.follows c.loop-item.invariant.going));
       same = same_lister-then _ _ _ c.loop-item.invariant.same holds.list.same;
+      requested =
+          let so_far = c.loop-item.invariant.requested in
+          let x = c.in-Ok-Some.item in (
+            so_far.0 ++ plain x ∷ [],
+            requested_more _ _ _ _ so_far.0 (plain x) so_far.1 (item_requested _ x _ (rw (c.in-Ok-Some.is, c.in-Ok-Some.field-0-is) at holds) (λ left known. rw c.in-Ok-Some.field-0-is at (c.in-Ok-Some.ensures.gives left known)))
+                (aside_none _),
+          );
       collected = λ file good run known.
           let before = c.loop-item.invariant.collected file good run known in
           let first : slice_get before.0.items 0 ≡ Some (plain c.in-Ok-Some.item) = rw c.in-Ok-Some.field-0-is at (c.in-Ok-Some.ensures.gives before.0 before.1.0) in (
@@ -69,6 +84,13 @@ loop-item-preserved g c =
       stands = λ in_chosen more. answers_item c.loop-item.lister c.next.follows.lender-at-none holds.list.same.choice holds.list.same.entries (c.loop-item.invariant.stands in_chosen) c.in-Ok-Some.item
           (rw (c.in-Ok-Some.is, c.in-Ok-Some.field-0-is) at (holds.follows c.loop-item.invariant.going));
       same = same_lister-then _ _ _ c.loop-item.invariant.same holds.list.same;
+      requested =
+          let so_far = c.loop-item.invariant.requested in
+          let x = c.in-Ok-Some.item in (
+            so_far.0 ++ plain x ∷ [],
+            requested_more _ _ _ _ so_far.0 (plain x) so_far.1 (item_requested _ x _ (rw (c.in-Ok-Some.is, c.in-Ok-Some.field-0-is) at holds) (λ left known. rw c.in-Ok-Some.field-0-is at (c.in-Ok-Some.ensures.gives left known)))
+                (aside_none _),
+          );
       collected = λ file good run known.
           let before = c.loop-item.invariant.collected file good run known in
           let first : slice_get before.0.items 0 ≡ Some (plain c.in-Ok-Some.item) = rw c.in-Ok-Some.field-0-is at (c.in-Ok-Some.ensures.gives before.0 before.1.0) in (
@@ -102,4 +124,6 @@ returns-in-Err g c = λ file good run known.
     counts.value (counts.of_file file content) counts.held counts.spent (omega (arith, names, ap maybe_name is, so_far.1.1.1)) refused
     (run_fetch c.loop-item.lister new c.in-Err.fault holds.same spends.fetches.same_content spends.fetches.same_size (rw c.in-Err.is at holds.places.current) (rw c.in-Err.is at (holds.next c.loop-item.invariant.going)))
     (λ in_chosen. answers_fault c.loop-item.lister new holds.same.choice holds.same.entries (c.loop-item.invariant.stands in_chosen) c.in-Err.fault (rw c.in-Err.is at (c.next.follows.holds-at-none.follows c.loop-item.invariant.going))) is in
-    Collects-fault g.T.PlainRow.row_of _ run so_far.0 _ c.in-Err.fault _ _ so_far.1.1.0 (c.in-Err.ensures.good file now) (c.in-Err.ensures.gives so_far.0 so_far.1.0) ended
+    let asked = c.loop-item.invariant.requested in
+    Collects-fault g.T.PlainRow.row_of _ _ run so_far.0 _ c.in-Err.fault _ _ so_far.1.1.0 (c.in-Err.ensures.good file now) (c.in-Err.ensures.gives so_far.0 so_far.1.0) ended
+    (λ not. given_fault asked.0 old c.loop-item.lister new c.in-Err.fault run asked.1 record { leaves = rw c.in-Err.is at c.next.follows.holds-at-none; gives = c.in-Err.ensures.gives } not known)

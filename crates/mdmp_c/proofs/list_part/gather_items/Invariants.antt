@@ -2,7 +2,9 @@ use Rattle.std.proofs.Common.{◌≡◌, ℕ, List, Some, None, true}
 use Rattle.mdmp_lister.specs.Memory.{is_within}
 use Rattle.mdmp_source.specs.Source.{FetchesSome}
 use Rattle.mdmp_source.specs.Store.{IsGood}
+use Rattle.mdmp_lister.specs.declared.item.Item.{Item}
 use Rattle.mdmp_lister.specs.Format.Listing.{Run}
+use Rattle.mdmp_lister.specs.Requested.{AreRequested}
 use Rattle.mdmp_engines.proofs.Reached.{HasNamed}
 use Rattle.mdmp_summary.specs.InEntry.{StandsInChosen}
 use Rattle.mdmp_engines.specs.Engines.{IsSameRun}
@@ -19,6 +21,7 @@ invariant-loop-lines g l = record {
   run : IsSameRun l.initial.lister l.lister;
   aside : is_within l.aside l.lister.counts.aside.bytes ≡ true;
   named : HasNamed l.initial.lister l.lister;
+  requested : (items : List Item) × AreRequested l.initial.lister items l.lister;
   part : (file : List ℕ) → IsGood l.initial.lister.source.store file → (run : Run) → l.initial.lister.left ≡ Some run → (skip room : ℕ) (before : List ℕ)
       → IsPartOf skip room before l.initial.part.skip l.initial.part.room l.initial.part.size l.initial.part.kept.items
       → (left : Run) × ((l.lister.left ≡ Some left)

@@ -7,10 +7,12 @@ use Rattle.mdmp_engines.specs.Text.{run_text}
 use Rattle.mdmp_c.specs.Limits.{most_read}
 use Rattle.mdmp_c.specs.TextPart.{EndsTextAt, IsPartOf, PutsRun}
 use Rattle.mdmp_c.proofs.Listed.{lines_taken}
+use Rattle.mdmp_engines.specs.declared.fault.ToolFault.TheVariants.{Memory, Out}
+use Rattle.mdmp_engines.proofs.Asking.{requested_none}
 use Rattle.mdmp_c.proofs.list_part.gather_list.Goals as goal
 
-pub returns : goal.returns
-returns g c = λ file good run known skip room before part.
+pub returns-clause-puts : goal.returns-clause-puts
+returns-clause-puts g c = λ file good run known skip room before part.
     let line = c.deref.result.now in
     let first = dump_line_in c.args.form c.args.lister.now.header in
     let items = run_text c.args.form c.args.pdb file c.args.lister.now.limit run in
@@ -20,4 +22,13 @@ returns g c = λ file good run known skip room before part.
     let all : (before ++ line) ++ items ≡ before ++ (first ++ items) = append_assoc before line items ∙ ap (λ xs. before ++ (xs ++ items)) is in
     let end = λ (text : List ℕ). PutsRun (λ part. IsPartOf skip room part c.gather_items.new.part.skip c.gather_items.new.part.room c.gather_items.new.part.size c.gather_items.new.part.kept.items)
     (EndsTextAt c.args.lister.now (most_read file c.args.lister.now.choice c.args.lister.now.limit (c.args.lister.now.counts.names + names_of_all run.items)) c.args.aside c.args.pdb run) text run c.gather_items.result in
-    subst end all (c.gather_items.ensures file good run known skip room (before ++ line) (c.in_default-take.ensures skip room before part))
+    subst end all (c.gather_items.ensures.puts file good run known skip room (before ++ line) (c.in_default-take.ensures skip room before part))
+
+pub returns-clause-requests : goal.returns-clause-requests
+returns-clause-requests g c = c.gather_items.ensures.requests
+
+pub returns-in-Err-clause-requests : goal.returns-in-Err-clause-requests
+returns-in-Err-clause-requests g c = requested_none c.args.lister.now Out tt
+
+pub returns-in-Err-take-clause-requests : goal.returns-in-Err-take-clause-requests
+returns-in-Err-take-clause-requests g c = requested_none c.args.lister.now Memory tt

@@ -1,20 +1,23 @@
-use Rattle.std.proofs.Common.{rules, ◌≡◌, ◌∙◌, ◌+◌, ◌++◌, ℕ, Err, List, [], Some, None, ap, refl, length, subst}
+use Rattle.std.proofs.Common.{rules, ◌≡◌, ◌∙◌, ◌+◌, ◌++◌, ℕ, Err, List, [], Some, None, ap, refl, length, subst, sym}
 use Rattle.std.specs.Option.{option_map}
 use Rattle.mdmp_source.specs.Store.{IsGood}
 use Rattle.mdmp_lister.proofs.Fetches.{IsGood-later}
 use Rattle.mdmp_lister.specs.declared.choice.Choice.TheVariants.{All}
 use Rattle.mdmp_lister.specs.Format.Listing.{listing}
 use Rattle.mdmp_c.specs.Fault.{status_of}
-use Rattle.mdmp_c.specs.Limits.{AreLimits, EndsText, KeepsMemory, ends_text, most_read}
+use Rattle.mdmp_c.specs.Limits.{AreLimits, EndsText, KeepsListing, ends_text, most_read}
+use Rattle.mdmp_lister.specs.declared.item.Item.{Item}
+use Rattle.mdmp_lister.specs.Requested.{GivesByRequests}
 use Rattle.mdmp_lister.specs.Sink.{names_of_all}
 use Rattle.mdmp_c.specs.TextPart.{EndsTextAt, IsListPart, IsPartOf, PutsRun}
 use Rattle.mdmp_c.specs.ToolFault.{list_answer}
 use Rattle.mdmp_engines.specs.declared.fault.ToolFault.{ToolFault}
 use Rattle.mdmp_print.specs.Forms.{dump_line_in}
 use Rattle.mdmp_engines.specs.Text.{run_text}
+use Rattle.mdmp_engines.proofs.Asking.{to_end}
 use Rattle.mdmp_wire.specs.declared.header.Header.{Header}
 use Rattle.mdmp_c.proofs.Coming.{opened_in}
-use Rattle.mdmp_c.proofs.Ending.{Ends-refused, keeps_memory}
+use Rattle.mdmp_c.proofs.Ending.{Ends-unlisted, keeps_listing, keeps_memory}
 use Rattle.mdmp_c.proofs.Listed.{Ends-part, all_parts, no_part}
 use Rattle.mdmp_c.proofs.Stopping.{least_read, most_listed, opening_over, sized, text_ended}
 use Rattle.mdmp_c.proofs.list_part.give_list.Goals as goal
@@ -24,7 +27,7 @@ returns-in-Err c =
     let file = c.args.file.now in
     let good : IsGood c.new-source.result.store file = search rules in
     let valid : AreLimits c.args.limits.now = c.in-Some.ensures.valid in
-    Ends-refused (IsListPart c.args.form c.args.pdb c.args.skip file c.args.limits.now.name) file All (AreLimits c.args.limits.now) c.args.limits.now c.in-Some.limits c.in-Some.ensures
+    Ends-unlisted (IsListPart c.args.form c.args.pdb c.args.skip file c.args.limits.now.name) file All (AreLimits c.args.limits.now) c.args.limits.now c.in-Some.limits c.in-Some.ensures
     (EndsText c.args.limits.now file c.args.pdb) (no_part c.args.form c.args.pdb file c.args.limits.now.name c.args.skip) (all_parts c.args.form c.args.pdb file c.args.limits.now.name c.args.skip)
     c.in-Err.refused.fault _ _ _ _ _ valid (λ told. ends_text (opening_over c.args.limits.now c.in-Some.limits file All _ _ _ c.in-Err.refused.fault _ c.in-Some.ensures good.known (sized file c.new-source.result good.known c.new-source.ensures.content) (search rules) c.new-source.ensures.counts.0
     (least_read file All c.args.limits.now.name _) c.in-Err.ensures.refused.fetches.kept c.in-Err.ensures.refused.fetches.next c.in-Err.ensures.refused.over (c.in-Err.ensures.within file good.known) told))
@@ -45,7 +48,7 @@ returns c =
     let limit : c.in-Some.limits.name ≡ name = c.in-Some.ensures.name in
     let left : c.in-Ok.lister.left ≡ Some (listing file All name) =
     new.list.given.left ∙ ap (option_map (λ (f : List ℕ). listing f All c.in-Some.limits.name)) good.known ∙ ap (λ n. Some (listing file All n)) limit in
-    let puts = c.gather_list-answer.ensures file now (listing file All name) left skip (length c.args.out.now) [] c.new-part.ensures in
+    let puts = c.gather_list-answer.ensures.puts file now (listing file All name) left skip (length c.args.out.now) [] c.new-part.ensures in
     let lister = c.in-Ok.lister in
     let run = listing file All name in
     let IsPut : List ℕ → Type 0 = λ text. IsPartOf skip (length c.args.out.now) text c.gather_list-answer.new.part.skip c.gather_list-answer.new.part.room c.gather_list-answer.new.part.size c.gather_list-answer.new.part.kept.items in
@@ -57,6 +60,12 @@ returns c =
     let can : (f : ToolFault) → EndsTextAt lister (most_read file lister.choice lister.limit (lister.counts.names + names_of_all run.items)) c.in-Some.limits.aside pdb run f → EndsText c.args.limits.now file pdb (list_answer (Err f)) =
     text_ended c.args.limits.now c.in-Some.limits file lister _ pdb c.in-Some.ensures (opened_in _ All c.in-Some.limits file lister good.known size new.list)
     (most_listed file All name name lister new.list.asked.choice_is (new.list.asked.limit_is ∙ limit) new.list.counts.names refl) in
-    Ends-part c.args.form pdb file name skip (AreLimits c.args.limits.now) (KeepsMemory c.args.limits.now file All) (EndsText c.args.limits.now file c.args.pdb) (EndsTextAt lister (most_read file lister.choice lister.limit (lister.counts.names + names_of_all run.items)) c.in-Some.limits.aside pdb run)
-    (keeps_memory c.args.limits.now c.in-Some.limits file All None c.in-Some.ensures (c.in-Ok.ensures.within file good.known) (c.in-Ok.ensures.opens file good.known)) c.gather_list-answer.result c.give.result c.give.new.size c.give.new.fault c.args.out.now c.give.new.out _ _ _ _ valid can
+    let last = c.gather_list-answer.new.lister in
+    let asked = c.gather_list-answer.ensures.requests in
+    let keeps : asked.items ≡ run.items → KeepsListing c.args.limits.now file All = λ same.
+    keeps_listing c.args.limits.now c.in-Some.limits file All c.new-source.result lister last c.in-Some.ensures good.known new
+    (keeps_memory c.args.limits.now c.in-Some.limits file All None c.in-Some.ensures (c.in-Ok.ensures.within file good.known) (c.in-Ok.ensures.opens file good.known) (λ _. c.in-Ok.ensures.new.opening file good.known))
+    (subst (λ n. GivesByRequests lister (listing file All n).items last) (sym limit) (subst (λ (xs : List Item). GivesByRequests lister xs last) same asked.given)) in
+    Ends-part c.args.form pdb file name skip (AreLimits c.args.limits.now) (KeepsListing c.args.limits.now file All) (EndsText c.args.limits.now file c.args.pdb) (EndsTextAt lister (most_read file lister.choice lister.limit (lister.counts.names + names_of_all run.items)) c.in-Some.limits.aside pdb run)
+    c.gather_list-answer.result (to_end c.gather_list-answer.result (asked.items ≡ run.items) (KeepsListing c.args.limits.now file All) keeps (asked.whole run left)) c.give.result c.give.new.size c.give.new.fault c.args.out.now c.give.new.out _ _ _ _ valid can
     (c.in-Ok.ensures.opens file good.known) told (rw c.list_answer.ensures at c.give.ensures.gives) (rw c.list_answer.ensures at c.give.ensures.wants)

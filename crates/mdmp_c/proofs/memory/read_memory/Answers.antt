@@ -3,17 +3,18 @@ use Rattle.std.specs.Option.{option_map}
 use Rattle.std.specs.Prelude.{IsTrue}
 use Rattle.mdmp_source.specs.Store.{IsGood}
 use Rattle.mdmp_lister.proofs.Fetches.{IsGood-later}
+use Rattle.mdmp_lister.specs.Fault.{IsUnobtained}
 use Rattle.mdmp_lister.specs.Format.Listing.{listing, memory_lists}
 use Rattle.mdmp_c.specs.Fault.{budget_fault, status_of}
 use Rattle.mdmp_lister.specs.declared.fault.FaultKind.TheVariants as kinds
 use Rattle.mdmp_lister.specs.declared.choice.Choice.{Choice}
 use Rattle.mdmp_lister.specs.Memory.{IsRefusalWithin}
 use Rattle.mdmp_lister.specs.Sink.{names_of_all}
-use Rattle.mdmp_c.specs.Limits.{AreLimits, EndsListing, KeepsMemory, most_read, names_listed}
+use Rattle.mdmp_c.specs.Limits.{AreLimits, EndsListing, KeepsListing, most_read, names_listed}
 use Rattle.mdmp_c.specs.Table.{IsEndedAt}
 use Rattle.mdmp_lister.specs.NextFetch.{TellsNextOpening}
 use Rattle.mdmp_c.proofs.Coming.{IsOpenedIn, opened_in}
-use Rattle.mdmp_c.proofs.Ending.{keeps_memory}
+use Rattle.mdmp_c.proofs.Ending.{keeps_listing, keeps_memory}
 use Rattle.mdmp_c.proofs.Remembered.{ReadsMemory-fault, ReadsMemory-refused}
 use Rattle.mdmp_c.proofs.Stopping.{ended_over, least_read, most_listed, opening_over, sized}
 use Rattle.mdmp_c.proofs.memory.read_memory.Goals as goal
@@ -52,9 +53,12 @@ returns-in-Err-list_ranges c =
     ended_over c.args.limits.now c.in-Some.limits file memory_lists (Some memory_lists) _ lister f.offset f.size c.in-Some.ensures
     (subst (λ (choice : Choice). IsOpenedIn c.in-Some.limits file choice lister) c.memory_lists.ensures (opened_in _ choice c.in-Some.limits file lister good.known size new.list))
     (subst (λ n. IsEndedAt lister (Some n) f.offset f.size) most (c.in-Err-list_ranges.ensures.ended file now run listed is)) in
-    let keeps : KeepsMemory c.args.limits.now file memory_lists =
-    subst (KeepsMemory c.args.limits.now file) c.memory_lists.ensures
-    (keeps_memory c.args.limits.now c.in-Some.limits file choice None c.in-Some.ensures (c.in-Ok.ensures.within file good.known) (c.in-Ok.ensures.opens file good.known)) in
+    let last = c.list_ranges.new.lister in
+    let keeps : (IsUnobtained f.kind → ⊥) → KeepsListing c.args.limits.now file memory_lists = λ not.
+    subst (KeepsListing c.args.limits.now file) c.memory_lists.ensures
+    (keeps_listing c.args.limits.now c.in-Some.limits file c.memory_lists.result c.new-source.result c.in-Ok.lister last c.in-Some.ensures good.known c.in-Ok.ensures.new
+    (keeps_memory c.args.limits.now c.in-Some.limits file c.memory_lists.result None c.in-Some.ensures (c.in-Ok.ensures.within file good.known) (c.in-Ok.ensures.opens file good.known) (λ _. c.in-Ok.ensures.new.opening file good.known))
+    (c.in-Err-list_ranges.ensures.requests (listing file choice name) left not)) in
     ReadsMemory-fault file c.args.limits.now name choice f _ _ _ _ _ valid keeps c.if-out-known.false c.memory_lists.ensures c.in-Some.ensures.name (c.in-Ok.ensures.opens file good.known)
     (c.in-Err-list_ranges.ensures.good file now) (c.in-Err-list_ranges.ensures.lists (listing file choice name) left) can
     (ap status_of c.plain_list_fault.ensures) c.plain_list_fault.ensures
@@ -76,7 +80,13 @@ pub returns-in-Ok-read_address : goal.returns-in-Ok-read_address
 returns-in-Ok-read_address c =
     let file = c.args.file.now in
     let good : IsGood c.new-source.result.store file = search rules in
-    let keeps : KeepsMemory c.args.limits.now file memory_lists =
-    subst (KeepsMemory c.args.limits.now file) c.memory_lists.ensures
-    (keeps_memory c.args.limits.now c.in-Some.limits file c.memory_lists.result None c.in-Some.ensures (c.in-Ok.ensures.within file good.known) (c.in-Ok.ensures.opens file good.known)) in
+    let choice = c.memory_lists.result in
+    let name = c.in-Some.limits.name in
+    let left : c.in-Ok.lister.left ≡ Some (listing file choice name) = c.in-Ok.ensures.new.list.given.left ∙ ap (option_map (λ (f : List ℕ). listing f choice name)) good.known in
+    let last = c.list_ranges.new.lister in
+    let keeps : KeepsListing c.args.limits.now file memory_lists =
+    subst (KeepsListing c.args.limits.now file) c.memory_lists.ensures
+    (keeps_listing c.args.limits.now c.in-Some.limits file c.memory_lists.result c.new-source.result c.in-Ok.lister last c.in-Some.ensures good.known c.in-Ok.ensures.new
+    (keeps_memory c.args.limits.now c.in-Some.limits file c.memory_lists.result None c.in-Some.ensures (c.in-Ok.ensures.within file good.known) (c.in-Ok.ensures.opens file good.known) (λ _. c.in-Ok.ensures.new.opening file good.known))
+    (c.in-Ok-list_ranges.ensures.requests (listing file choice name) left)) in
     search (rules, keeps)

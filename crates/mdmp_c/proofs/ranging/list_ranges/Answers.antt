@@ -6,6 +6,7 @@ use Rattle.mdmp_lister.specs.Sink.{names_of_all}
 use Rattle.mdmp_lister.proofs.Unseen.{never_stopped, ranges-all}
 use Rattle.mdmp_lister.specs.declared.sink.RunFault.TheVariants as runs
 use Rattle.mdmp_summary.proofs.InEntries.{run_ends}
+use Rattle.mdmp_engines.proofs.Asking.{given_end, given_fault}
 use Rattle.mdmp_c.proofs.Coming.{lists_on}
 use Rattle.mdmp_c.proofs.Stopping.{listing_over}
 use Rattle.mdmp_c.proofs.ranging.list_ranges.Goals as goal
@@ -48,3 +49,16 @@ returns-in-Err-Stopped-clause-fetches g c = record { count = _; fetches = c.list
 
 pub returns-in-Err-At-clause-good : goal.returns-in-Err-At-clause-good
 returns-in-Err-At-clause-good g c = λ file good. c.in-Err-At.ensures.good file good c.in-Err-At.fault c.in-Err-At.field-0-is
+
+pub returns-in-Ok-clause-requests : goal.returns-in-Ok-clause-requests
+returns-in-Ok-clause-requests g c = λ left known.
+    let ran = c.in-Ok.ensures.runs.requests in
+    given_end c.in-Ok.ensures.runs.items c.args.lister.now ran.behind c.list_into.new.self left ran.requested ran.ended known
+
+pub returns-in-Err-At-clause-requests : goal.returns-in-Err-At-clause-requests
+returns-in-Err-At-clause-requests g c = λ left known not.
+    let run = rw c.in-Err-At.field-0-is at c.in-Err-At.ensures.runs in
+    given_fault run.items c.args.lister.now run.requests.behind c.list_into.new.self c.in-Err-At.fault left run.requests.requested run.requests.ended not known
+
+pub returns-in-Err-Stopped-clause-requests : goal.returns-in-Err-Stopped-clause-requests
+returns-in-Err-Stopped-clause-requests g c = let run = rw c.in-Err-Stopped.field-0-is at c.in-Err-Stopped.ensures.runs in absurd (never_stopped run.items _ _ run.handed)

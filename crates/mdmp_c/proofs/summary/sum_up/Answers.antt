@@ -23,7 +23,7 @@ returns-in-Ok-summarize_listing c =
     let file = c.args.file.now in
     let good : IsGood c.new-source.result.store file = search rules in
     let new = c.in-Ok.ensures.new.list in
-    (c.in-Ok.ensures.within file good.known, c.in-Ok-summarize_listing.ensures.sums file (new.same_content ∙ good.known) ∙ ap (file_summary file) new.asked.limit_is)
+    ((c.in-Ok.ensures.within file good.known, c.in-Ok.ensures.new.opening file good.known), c.in-Ok-summarize_listing.ensures.sums file (new.same_content ∙ good.known) ∙ ap (file_summary file) new.asked.limit_is)
 
 pub returns : goal.returns
 returns c =

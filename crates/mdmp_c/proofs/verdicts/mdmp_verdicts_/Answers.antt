@@ -51,6 +51,6 @@ returns c =
     (subst (λ n. IsEndedAt lister (Some n) f.offset f.size) most ended) in
     Ends-judged file c.args.limits.now.name (AreLimits c.args.limits.now) (KeepsMemory c.args.limits.now file All) (EndsChecking c.args.limits.now file) MayEnd c.judge-judged.result c.tell.result c.tell.new.count c.ending_told.result
     c.tell.new.fault c.args.out.now c.judge-judged.new.out valid
-    (keeps_memory c.args.limits.now c.in-Some.limits file All None c.in-Some.ensures (c.in-Ok.ensures.within file good.known) (c.in-Ok.ensures.opens file good.known)) can
+    (keeps_memory c.args.limits.now c.in-Some.limits file All None c.in-Some.ensures (c.in-Ok.ensures.within file good.known) (c.in-Ok.ensures.opens file good.known) (λ _. c.in-Ok.ensures.new.opening file good.known)) can
     (c.in-Ok.ensures.opens file good.known) few named c.ending_told.ensures
     (λ n is. subst (λ (m : ℕ). c.tell.result ≡ (if nat_lt m n then 4 else status_of c.ending_told.result)) c.judge-judged.auto.out (c.tell.ensures.status n is)) c.tell.ensures.count c.tell.ensures.fault
