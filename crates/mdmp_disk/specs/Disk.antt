@@ -9,6 +9,8 @@ use Rattle.mdmp_disk.specs.declared.disk.Requests.{Requests}
 pub record FileState : Type 0 where
   pub bytes : Option (List ℕ)
   pub is_reliable : Bool
+  -- if that is known: which read of a file fails, counted from 0; or how many bytes standard input gives before it fails
+  pub fail_at : Option ℕ
 
 -- what is known of a name
 pub data FileAt : Type 0 where

@@ -138,7 +138,10 @@ fn find_given<'a>(files: &'a [GivenFile<'a>], name: &str) -> Option<GivenFile<'a
 }
 
 impl<'a, A: Allocator + Copy> Disk for MemoryDisk<'a, A> {
-    ghost use Rattle.mdmp_disk.specs.Memory.{given_input, memory_state};
+    ghost use Rattle.std.specs.Prelude.{◌≡◌, IfOk, IsOk, IsTrue, is_ok};
+    ghost use Rattle.mdmp_source.specs.Patchy.{patchy_state};
+    ghost use Rattle.mdmp_disk.specs.Disk.{FileState, IsOpenedFile, after_open, present};
+    ghost use Rattle.mdmp_disk.specs.Memory.{FailsAsGiven, given_input, memory_files, memory_state};
 
     type File = PatchyStore<'a>;
 
@@ -146,8 +149,17 @@ impl<'a, A: Allocator + Copy> Disk for MemoryDisk<'a, A> {
 
     ghost state = { λ d. memory_state d.given.now (given_input d.input) d.has_made d.made_name.items d.made_bytes.items d.requests };
 
-    /// The file that was made is not opened.
-    fn open(&mut self, name: &str) -> Result<PatchyStore<'a>, DiskRefused> {
+    /// The file that was made is not opened. The store over another one fails in the read that was given with it.
+    fn open(&mut self, name: &str) -> Result<PatchyStore<'a>, DiskRefused>
+        ensures opened { IfOk result (λ file. IsOpenedFile (memory_files self.old.given.now self.old.has_made self.old.made_name.items self.old.made_bytes.items name.now) (patchy_state file)) }
+        ensures gives { (file : FileState) → memory_files self.old.given.now self.old.has_made self.old.made_name.items self.old.made_bytes.items name.now ≡ present file
+            → IsTrue file.is_reliable → IsOk result }
+        ensures state { memory_state self.new.given.now (given_input self.new.input) self.new.has_made self.new.made_name.items self.new.made_bytes.items self.new.requests
+            ≡ after_open (is_ok result)
+            (memory_state self.old.given.now (given_input self.old.input) self.old.has_made self.old.made_name.items self.old.made_bytes.items self.old.requests) }
+        // What this disk says beside any other.
+        ensures fails { IfOk result (λ file. FailsAsGiven (memory_files self.old.given.now self.old.has_made self.old.made_name.items self.old.made_bytes.items name.now) file.fail_at) }
+    {
         let is_made = self.has_made && self.made_name.as_slice() == name.as_bytes();
         if is_made {
             self.requests.count_open(false);

@@ -124,19 +124,27 @@ fn has_hidden_bytes<R: Files>(
     Ok(count > 0)
 }
 
-/// A file of the system that was made. No contract knows its bytes.
+/// A file of the system that was made. No contract knows its bytes. It hands on what it is given to the output below it.
 #[derive(Drop)]
 pub struct NewFile<O> {
     out: O,
 }
 
 impl<O: Out> Out for NewFile<O> {
-    ghost use Rattle.std.specs.Prelude.{None};
-    ghost use Rattle.mdmp_source.specs.Output.{OutState};
+    ghost use Rattle.std.specs.Prelude.{◌≡◌, ◌≤◌, ◌||◌, IfOk, None, OnErr, is_err, length, take};
+    ghost use Rattle.mdmp_source.specs.Output.{Keeps, OutState, Takes, refused_if};
+    ghost use Rattle.mdmp_source.specs.Store.{is_empty_answer};
 
     ghost state = { λ f. record { taken = None; failures = (O.state f.out).failures } };
 
-    fn write(&mut self, bytes: &[u8]) -> Result<usize, OutFailed> {
+    fn write(&mut self, bytes: &[u8]) -> Result<usize, OutFailed>
+        ensures bound { IfOk result (λ k. k ≤ length bytes.now) }
+        // The output below it took the first of these bytes, or none.
+        ensures took { IfOk result (λ k. Takes (O.state self.old.out).taken (take k bytes.now) (O.state self.new.out).taken) }
+        ensures none { OnErr result (Keeps (O.state self.old.out).taken (O.state self.new.out).taken) }
+        ensures failures { (O.state self.new.out).failures
+            ≡ refused_if (is_err result || is_empty_answer result (length bytes.now)) (O.state self.old.out).failures }
+    {
         self.out.write(bytes)
     }
 }

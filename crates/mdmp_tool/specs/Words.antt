@@ -127,7 +127,7 @@ input_fault most LacksMemory = Memory
 
 -- a file of these bytes, which is opened and read without fail
 abbrev pub input_file : List ℕ → FileAt
-input_file bytes = present (record { bytes = Some bytes; is_reliable = true })
+input_file bytes = present (record { bytes = Some bytes; is_reliable = true; fail_at = None })
 
 -- how a command ends that prints this of standard input: the disk was asked for that, once, and for nothing else, and the
 -- command prints what it prints of a file of these bytes. A fault of the input has this text
