@@ -75,6 +75,20 @@ fn four_at(text: &mut [u8], len: usize, number: u32) -> usize
     last_two_at(text, len, number % 100)
 }
 
+/// Puts a number of at most six digits behind the first `len` bytes.
+#[inline(always)]
+fn six_at(text: &mut [u8], len: usize, number: u32) -> usize
+    requires small { number < 1000000 }
+    requires room { len + 6 ≤ length text.old }
+    ensures { IsPutBehind text.old len (decimal number) 6 text.new result }
+{
+    if number < 10_000 {
+        return four_at(text, len, number);
+    }
+    let len = two_at(text, len, number / 10_000);
+    last_four_at(text, len, number % 10_000)
+}
+
 /// Puts a number of at most eight digits behind the first `len` bytes.
 #[inline(always)]
 fn eight_at(text: &mut [u8], len: usize, number: u32) -> usize
@@ -105,11 +119,18 @@ fn twelve_at(text: &mut [u8], len: usize, number: u64) -> usize
 
 /// Puts a number in decimal digits behind the first `len` bytes: what [`decimal_at`] calls where the
 /// number has more than one.
+// Sizes, states and numbers of records have mostly four to six digits, so that these are tested first.
 #[inline(never)]
 fn long_decimal_at(text: &mut [u8], len: usize, number: u64) -> usize
     requires { len + 20 ≤ length text.old }
     ensures { IsPutBehind text.old len (decimal number) 20 text.new result }
 {
+    if number < 10_000 {
+        return four_at(text, len, number as u32);
+    }
+    if number < 1_000_000 {
+        return six_at(text, len, number as u32);
+    }
     if number < 100_000_000 {
         return eight_at(text, len, number as u32);
     }
@@ -137,6 +158,12 @@ fn long_decimal32_at(text: &mut [u8], len: usize, number: u32) -> usize
     requires { len + 10 ≤ length text.old }
     ensures { IsPutBehind text.old len (decimal number) 10 text.new result }
 {
+    if number < 10_000 {
+        return four_at(text, len, number);
+    }
+    if number < 1_000_000 {
+        return six_at(text, len, number);
+    }
     if number < 100_000_000 {
         return eight_at(text, len, number);
     }

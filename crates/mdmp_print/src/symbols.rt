@@ -118,6 +118,19 @@ fn print_json<O: Printer>(
     }
 }
 
+/// The members of the object of a record that is not of the kind RSDS, and then these.
+macro_rules! other_members {
+    ($place:expr, $signature:expr, $size:expr $(, $more:expr)* $(,)?) => {
+        row![
+            AtMembers($place.entry, $place.index),
+            NextMember(JsonMember(b"kind", Word(b"other"))),
+            NextMember(JsonMember(b"signature", InQuotes(Signature($signature)))),
+            NextMember(JsonMember(b"size", $size)),
+            $($more),*
+        ]
+    };
+}
+
 fn print_other<O: Printer>(
     place: ModulePlace,
     head: &[u8],
@@ -135,24 +148,14 @@ fn print_other<O: Printer>(
         Some(pdb) => print_object(
             out,
             b"pdb",
-            row![
-                AtMembers(place.entry, place.index),
-                NextMember(JsonMember(b"kind", Word(b"other"))),
-                NextMember(JsonMember(b"signature", InQuotes(Signature(signature)))),
-                NextMember(JsonMember(b"size", size)),
+            other_members![
+                place,
+                signature,
+                size,
                 NextMember(JsonMember(b"debug_id", InQuotes(StampId(pdb.time, pdb.age)))),
             ],
         ),
-        None => print_object(
-            out,
-            b"pdb",
-            row![
-                AtMembers(place.entry, place.index),
-                NextMember(JsonMember(b"kind", Word(b"other"))),
-                NextMember(JsonMember(b"signature", InQuotes(Signature(signature)))),
-                NextMember(JsonMember(b"size", size)),
-            ],
-        ),
+        None => print_object(out, b"pdb", other_members![place, signature, size]),
     }
 }
 
@@ -171,11 +174,10 @@ fn print_build_id<O: Printer>(
     print_object(
         out,
         b"pdb",
-        row![
-            AtMembers(place.entry, place.index),
-            NextMember(JsonMember(b"kind", Word(b"other"))),
-            NextMember(JsonMember(b"signature", InQuotes(Signature(signature)))),
-            NextMember(JsonMember(b"size", size)),
+        other_members![
+            place,
+            signature,
+            size,
             NextMember(JsonMember(b"build_id", InQuotes(BuildDigits { bytes: id.bytes }))),
             NextMember(JsonMember(b"build_id_cut", id.cut)),
             NextMember(JsonMember(b"debug_id", InQuotes(DebugId(*guid.as_bytes(), age)))),

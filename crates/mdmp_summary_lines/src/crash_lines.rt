@@ -92,6 +92,18 @@ impl Piece for RegistersWords {
     }
 }
 
+/// Where a crash is in a module, and the id of its thread.
+macro_rules! place_and_thread {
+    ($place:expr, $crash:expr) => {
+        row![
+            b"+",
+            Prefixed(ShortHex($place.offset)),
+            b", thread ",
+            $crash.exception.fields.thread_id,
+        ]
+    };
+}
+
 /// Prints what crashed where, and the id of the thread.
 fn print_headline<O: Printer>(
     system: Option<SystemRecord>,
@@ -110,12 +122,7 @@ fn print_headline<O: Printer>(
             out,
             &row![code, b" at "],
             &FileName(owner),
-            &row![
-                b"+",
-                Prefixed(ShortHex(place.offset)),
-                b", thread ",
-                crash.exception.fields.thread_id,
-            ],
+            &place_and_thread![place, crash],
         ),
         None => print_near(code, crash, owner, out),
     }
@@ -136,12 +143,7 @@ fn print_near<O: Printer>(
             out,
             &row![code, b" at ", address, b" near "],
             &FileName(owner),
-            &row![
-                b"+",
-                Prefixed(ShortHex(place.offset)),
-                b", thread ",
-                crash.exception.fields.thread_id,
-            ],
+            &place_and_thread![place, crash],
         ),
         None => out.print(&row![
             code,
