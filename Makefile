@@ -17,7 +17,7 @@ PROGRAM = crates/mdmp/out/mdmp
 ARCHIVE = crates/mdmp_c/out/libmdmp_c.a
 # The crates of both, and what their proofs read. A folder is newer if a file went.
 PRODUCT = $(shell sed -n '/^. The product/,/^$$/s|^\([a-z_]*\).*:.*|crates/\1|p' crates.txt)
-PROVED = crates.txt HANDLES $(shell find $(PRODUCT) \( -name out -o -name must-fail \) -prune -o \( -type d -o -name '*.rt' -o -name '*.antt' \) -print)
+PROVED = crates.txt HANDLES $(shell find $(PRODUCT) \( -name out -o -name must-fail -o -name mutants \) -prune -o \( -type d -o -name '*.rt' -o -name '*.antt' \) -print)
 TO = $(DESTDIR)$(PREFIX)
 PAGE = share/man/man1/mdmp.1
 CALLS = share/man/man3/mdmp.3
