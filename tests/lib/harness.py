@@ -18,7 +18,7 @@ WARNINGS = "-Wall -Wextra -Wpedantic -Werror".split()
 WRAPPED = ["-Wl,--wrap=malloc,--wrap=realloc,--wrap=free"]
 INCLUDED = [f"-I{TOP / 'include'}", f"-I{IN_C}", f"-I{FOLDER}"]
 MAIN = FOLDER / "harness.c"
-ORACLES = sorted({*FOLDER.glob("*.c")} - {MAIN, FOLDER / "edges.c"}) + [IN_C / name for name in ("support.c", "fillers.c", "texts.c")]
+ORACLES = sorted({*FOLDER.glob("*.c")} - {MAIN, FOLDER / "edges.c"}) + [IN_C / name for name in ("support.c", "fillers.c", "heap.c", "texts.c")]
 
 
 def compiler() -> str:

@@ -42,3 +42,15 @@ def program(word: str | None = None) -> Path:
 def first_word() -> str | None:
     """The first word that the script is given."""
     return sys.argv[1] if len(sys.argv) > 1 else None
+
+
+def use_package(folder: Path) -> None:
+    """Lets this script, and those that it starts, import the Python package and the scripts of bench. The library is the one that
+    MDMP_LIBRARY names, or it is built in the folder.
+    """
+    if "MDMP_LIBRARY" not in os.environ:
+        subprocess.run([TOP / "bindings/build", folder / "built"], check=True)
+        os.environ["MDMP_LIBRARY"] = str(folder / "built/libmdmp.so")
+    places = [str(TOP / "bindings/python"), str(TOP / "bench")]
+    os.environ["PYTHONPATH"] = ":".join(places + os.environ.get("PYTHONPATH", "").split(":"))
+    sys.path[:0] = places

@@ -3,21 +3,18 @@
 //! No function that a test calls here has a contract, so that the test knows nothing of what it did, and its own
 //! proof stays short. Each ends the test by itself where memory runs out.
 
-use crate::files::{SmallFile, bytes_of, remove_file};
+use crate::disk_runs::{Done, made_by, over_disk};
+use crate::engine_statuses::{copy_status, print_status};
+use crate::files::{SmallFile, bytes_of};
 use crate::same::assert_same_at;
-use mdmp_disk::{Disk, GivenFile, MemoryDisk};
-use mdmp_source::{PatchyOut, PatchyStore, Source};
-use mdmp_test_support::{FOR_LONG_TEXT, HeapCounts, MEMORY64, MeteredHeap, Refusal, Room, SYSTEM};
-use mdmp_tool::{
-    CheckEngine, Engine, HexEngine, LINE_ROOM, Limits, LineForm, LineOut, ListEngine, TypeSet,
-    copy_and_report, print_and_report, run_args, run_on_disk, run_words,
-};
+use mdmp_source::{PatchyOut, PatchyStore};
+use mdmp_test_support::{FOR_LONG_TEXT, HeapCounts, MeteredHeap, Refusal, Room, limits};
+use mdmp_tool::{Limits, run_words};
 use std::alloc::{AllocGlobal, Global};
 use std::fmt::Debug;
 use std::io::ErrorKind;
 use std::process::Abort;
 use std::rt::Files;
-use std::{fs, io};
 
 /// What is printed of a file.
 #[derive(Clone, Copy)]
@@ -103,13 +100,7 @@ pub const GOOD: Trial = Trial {
     read: None,
     out: TAKES_ALL,
     err: TAKES_ALL,
-    limits: Limits {
-        window: 65536,
-        name: 4096,
-        budget: None,
-        memory: None,
-        aside: None,
-    },
+    limits: limits!(65536, 4096),
     times: 1,
 };
 
@@ -138,268 +129,6 @@ pub struct Ran {
     /// What it asked of its memory, and what the disk asked.
     pub heap: HeapCounts,
     pub disk_heap: HeapCounts,
-}
-
-/// The status of an engine that prints, in the smallest blocks.
-fn engine_status<E: Engine>(
-    rt: &impl Abort,
-    alloc: Global,
-    heap: &MeteredHeap<Global>,
-    engine: E,
-    store: PatchyStore<'_>,
-    limits: Limits,
-    out: &mut PatchyOut<Global>,
-    err: &mut PatchyOut<Global>,
-) -> u8
-    requires { E.can_print engine }
-{
-    let mut buffer = vec![in alloc; 0; LINE_ROOM].expect(rt, "memory for a block");
-    let mut blocks = LineOut::over(&mut buffer, out);
-    let source = Source::new(store);
-    print_and_report(engine, heap, source, limits, &mut blocks, err).answer
-}
-
-/// The status of a check whose lines have this form.
-fn check_status(
-    rt: &impl Abort,
-    alloc: Global,
-    heap: &MeteredHeap<Global>,
-    form: LineForm,
-    store: PatchyStore<'_>,
-    limits: Limits,
-    out: &mut PatchyOut<Global>,
-    err: &mut PatchyOut<Global>,
-) -> u8 {
-    let engine = CheckEngine { form };
-    engine_status(rt, alloc, heap, engine, store, limits, out, err)
-}
-
-/// The status of a list whose lines have this form.
-fn list_status(
-    rt: &impl Abort,
-    alloc: Global,
-    heap: &MeteredHeap<Global>,
-    form: LineForm,
-    pdb: bool,
-    store: PatchyStore<'_>,
-    limits: Limits,
-    out: &mut PatchyOut<Global>,
-    err: &mut PatchyOut<Global>,
-) -> u8 {
-    let aside = limits.aside;
-    let engine = ListEngine { form, pdb, aside };
-    engine_status(rt, alloc, heap, engine, store, limits, out, err)
-}
-
-/// The status of a command that prints two bytes from the address 16 on.
-fn hex_status(
-    rt: &impl Abort,
-    alloc: Global,
-    heap: &MeteredHeap<Global>,
-    store: PatchyStore<'_>,
-    limits: Limits,
-    out: &mut PatchyOut<Global>,
-    err: &mut PatchyOut<Global>,
-) -> u8 {
-    let engine = HexEngine {
-        alloc: heap,
-        address: 16,
-        length: 2,
-    };
-    engine_status(rt, alloc, heap, engine, store, limits, out, err)
-}
-
-/// The status of a command that prints.
-fn print_status(
-    rt: &impl Abort,
-    alloc: Global,
-    heap: &MeteredHeap<Global>,
-    shown: Shown,
-    store: PatchyStore<'_>,
-    limits: Limits,
-    out: &mut PatchyOut<Global>,
-    err: &mut PatchyOut<Global>,
-) -> u8 {
-    let (text, json) = (LineForm::Text, LineForm::Json);
-    match shown {
-        Shown::Verdicts => check_status(rt, alloc, heap, text, store, limits, out, err),
-        Shown::Items => list_status(rt, alloc, heap, text, false, store, limits, out, err),
-        Shown::ItemsAndSymbols => {
-            list_status(rt, alloc, heap, text, true, store, limits, out, err)
-        }
-        Shown::VerdictObjects => check_status(rt, alloc, heap, json, store, limits, out, err),
-        Shown::Objects => list_status(rt, alloc, heap, json, true, store, limits, out, err),
-        Shown::Memory => hex_status(rt, alloc, heap, store, limits, out, err),
-    }
-}
-
-/// The status of a copy.
-fn copy_status(
-    rt: &impl Abort,
-    heap: &MeteredHeap<Global>,
-    types: &[u32],
-    store: PatchyStore<'_>,
-    limits: Limits,
-    out: &mut PatchyOut<Global>,
-    err: &mut PatchyOut<Global>,
-) -> u8 {
-    let types = TypeSet::new(types).expect(rt, "types");
-    copy_and_report(heap, types, Source::new(store), limits, out, err).answer
-}
-
-/// The bytes of the copy, if there is one among the files of the system, which is removed.
-pub fn made_by<R: Files + AllocGlobal>(rt: &R) -> Option<Vec<u8>> {
-    let made = fs::read(rt, "copy.dmp").ok();
-    remove_file(rt, "copy.dmp");
-    made
-}
-
-/// The bytes of the copy, if there is one on a disk.
-fn made_on(
-    rt: &impl Abort,
-    alloc: Global,
-    disk: &MemoryDisk<'_, &MeteredHeap<Global>>,
-) -> Option<Vec<u8>> {
-    match disk.bytes("copy.dmp") {
-        Some(bytes) => Some(bytes.to_vec(alloc).expect(rt, "memory for a file")),
-        None => None,
-    }
-}
-
-/// These words, each a text of its own.
-fn texts_of(rt: &impl Abort, alloc: Global, name: &[&str], words: &[&str]) -> Vec<String> {
-    let mut texts: Vec<String> = Vec::new(alloc);
-    push_texts(rt, alloc, &mut texts, name);
-    push_texts(rt, alloc, &mut texts, words);
-    texts
-}
-
-fn push_texts(rt: &impl Abort, alloc: Global, texts: &mut Vec<String>, words: &[&str]) {
-    for word in words {
-        let text = word.to_string(alloc).expect(rt, "memory for a word");
-        texts.push(text).expect(rt, "memory for words");
-    }
-}
-
-/// The arguments of a program.
-fn args_of(rt: &impl Abort, alloc: Global, call: CommandCall<'_>) -> io::Result<Vec<String>> {
-    match call {
-        CommandCall::Program(words) => Ok(texts_of(rt, alloc, &["mdmp"], words)),
-        CommandCall::Arguments(words) => Ok(texts_of(rt, alloc, &[], words)),
-        CommandCall::NoArguments(kind) => Err(io::Error::from(kind)),
-        _ => rt.panic("no program"),
-    }
-}
-
-/// The status of a command line or a program over a disk.
-fn status_on<R: AllocGlobal + Abort>(
-    rt: &R,
-    alloc: Global,
-    heap: &MeteredHeap<Global>,
-    disk: &mut MemoryDisk<'_, &MeteredHeap<Global>>,
-    call: CommandCall<'_>,
-    out: &mut PatchyOut<Global>,
-    err: &mut PatchyOut<Global>,
-) -> u8 {
-    match call {
-        CommandCall::Line(words) => run_on_disk(rt, disk, heap, words, out, err),
-        _ => run_args(rt, disk, heap, args_of(rt, alloc, call), out, err),
-    }
-}
-
-/// A command's status, what it made and what it asked of the disk.
-#[derive(Drop)]
-struct Done {
-    status: u8,
-    made: Option<Vec<u8>>,
-    requests: DiskRequests,
-}
-
-/// What was asked of a disk.
-fn requests_of(disk: &MemoryDisk<'_, &MeteredHeap<Global>>) -> DiskRequests {
-    let requests = disk.requests();
-    (requests.opened, requests.made, requests.refused)
-}
-
-/// Asserts that the files that a disk was given are as they were.
-fn assert_kept(
-    rt: &impl Abort,
-    disk: &MemoryDisk<'_, &MeteredHeap<Global>>,
-    files: &[GivenFile<'_>],
-) {
-    for file in files {
-        assert_same_at(rt, &file.name, disk.bytes(file.name), Some(file.bytes));
-    }
-}
-
-/// Runs a command line or a program over a disk that has these files.
-fn over_files<R: AllocGlobal + Abort>(
-    rt: &R,
-    alloc: Global,
-    heap: &MeteredHeap<Global>,
-    disk_heap: &MeteredHeap<Global>,
-    files: &[GivenFile<'_>],
-    call: CommandCall<'_>,
-    times: u32,
-    out: &mut PatchyOut<Global>,
-    err: &mut PatchyOut<Global>,
-) -> Done {
-    let mut disk = MemoryDisk::new(disk_heap, files);
-    let mut status = 0;
-    for _ in 0..times {
-        status = status_on(rt, alloc, heap, &mut disk, call, out, err);
-    }
-    assert_kept(rt, &disk, files);
-    Done {
-        status,
-        made: made_on(rt, alloc, &disk),
-        requests: requests_of(&disk),
-    }
-}
-
-/// Runs a command line or a program over a disk that has the small files, and an empty one.
-fn over_disk<R: AllocGlobal + Abort>(
-    rt: &R,
-    alloc: Global,
-    heap: &MeteredHeap<Global>,
-    disk_heap: &MeteredHeap<Global>,
-    call: CommandCall<'_>,
-    trial: &Trial,
-    out: &mut PatchyOut<Global>,
-    err: &mut PatchyOut<Global>,
-) -> Done {
-    let six = bytes_of(rt, alloc, SmallFile::Six);
-    let faulty = bytes_of(rt, alloc, SmallFile::Faulty);
-    let module = bytes_of(rt, alloc, SmallFile::Module);
-    let fail_at = trial.read;
-    let files = [
-        given("system.dmp", &SYSTEM, fail_at),
-        given("wide.dmp", &MEMORY64, fail_at),
-        given("six.dmp", &six, fail_at),
-        given("faulty.dmp", &faulty, fail_at),
-        given("module.dmp", &module, fail_at),
-        given("empty.dmp", b"", fail_at),
-        given("\u{1b}[31m\n.dmp", &SYSTEM, fail_at),
-    ];
-    over_files(
-        rt,
-        alloc,
-        heap,
-        disk_heap,
-        &files,
-        call,
-        trial.times,
-        out,
-        err,
-    )
-}
-
-fn given<'a>(name: &'a str, bytes: &'a [u8], fail_at: Option<u64>) -> GivenFile<'a> {
-    GivenFile {
-        name,
-        bytes,
-        fail_at,
-    }
 }
 
 /// The status of a command over a store.

@@ -6,7 +6,9 @@ use crate::commands::{
 use crate::files::SmallFile;
 use crate::same::assert_same_at;
 use crate::texts::{SYMBOL_LINES, SYMBOL_OBJECTS};
-use mdmp_test_support::{CRASH, FAULTY_VERDICTS, SYSTEM, SYSTEM_TEXT, WIDE_TEXT, file_of_numbers};
+use mdmp_test_support::{
+    CRASH, FAULTY_VERDICTS, SYSTEM, SYSTEM_TEXT, WIDE_TEXT, file_of_numbers, limits,
+};
 use mdmp_tool::Limits;
 use std::alloc::{AllocGlobal, Global};
 use std::process::Abort;
@@ -103,13 +105,7 @@ fn prints_end_at_each_read_that_fails(rt: HostRuntime) {
 }
 
 /// The least window, and names of no byte.
-const LEAST: Limits = Limits {
-    window: 168,
-    name: 0,
-    budget: None,
-    memory: None,
-    aside: None,
-};
+const LEAST: Limits = limits!(168, 0);
 
 /// A copy of the thread and the exception of `SIX`.
 const COPY: CommandCall<'static> = CommandCall::Copy(&[3, 6], SmallFile::Six);

@@ -7,11 +7,19 @@
 #![tactic(auto)]
 
 #[cfg(test)]
+mod asked_memory;
+#[cfg(test)]
+mod bad_requests;
+#[cfg(test)]
 mod bad_words;
 #[cfg(test)]
 mod commands;
 #[cfg(test)]
+mod disk_runs;
+#[cfg(test)]
 mod endings;
+#[cfg(test)]
+mod engine_statuses;
 #[cfg(test)]
 mod failing_outputs;
 #[cfg(test)]
@@ -21,9 +29,15 @@ mod failing_system;
 #[cfg(test)]
 mod file_blocks;
 #[cfg(test)]
+mod file_growths;
+#[cfg(test)]
 mod files;
 #[cfg(test)]
 mod growths;
+#[cfg(test)]
+mod limit_requests;
+#[cfg(test)]
+mod line_limits;
 #[cfg(test)]
 mod requests;
 #[cfg(test)]

@@ -1,7 +1,8 @@
 //! `summary` of one file and of several: what its words ask for, and how it ends.
 use crate::commands::{CommandCall, GOOD, Outlet, TAKES_ALL, Trial, run, written};
 use crate::endings::{EndingRow, assert_each_ends};
-use crate::requests::{AskedRow, NONE, STRANGERS, USUAL, assert_asked};
+use crate::limit_requests::STRANGERS;
+use crate::requests::{AskedRow, NONE, USUAL, assert_asked};
 use crate::same::assert_same_at;
 use std::alloc::{AllocGlobal, Global};
 use std::process::Abort;

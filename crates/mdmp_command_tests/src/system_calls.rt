@@ -1,5 +1,6 @@
 //! Command lines over files of the system, of which each call fails in turn.
-use crate::commands::{CommandEnd, GOOD, ended, made_by, out_of};
+use crate::commands::{CommandEnd, GOOD, ended, out_of};
+use crate::disk_runs::made_by;
 use crate::failing_system::{FailingSystem, FileCalls};
 use crate::files::write_files;
 use crate::same::assert_same_at;

@@ -1,28 +1,19 @@
 //! The files of the tests, and the limits under which they are read.
 use mdmp_lister::{Choice, Limits, TypeSet};
 use mdmp_test_support::{
-    ABSENT_STACK, CRASH, MEMORY64, SIX, SYSTEM, UNLOADED, file_of_numbers, file_of_parts,
+    ABSENT_STACK, CRASH, MEMORY64, SIX, SYSTEM, UNLOADED, file_of_numbers, file_of_parts, limits,
 };
 use std::alloc::Global;
 use std::process::Abort;
 
 /// The least window, and no room for a name.
-pub const LEAST: Limits = Limits {
-    window: 168,
-    name: 0,
-    budget: None,
-    memory: None,
-    aside: None,
-};
+pub const LEAST: Limits = limits!(168, 0);
 
 /// The least window, and the room for a name that the program has.
-pub const NAMED: Limits = Limits {
-    window: 168,
-    name: 4096,
-    budget: None,
-    memory: None,
-    aside: None,
-};
+pub const NAMED: Limits = limits!(168, 4096);
+
+/// The least window, and names of at most 8 bytes.
+pub const EIGHT: Limits = limits!(168, 8);
 
 /// What a file is made of.
 #[derive(Clone, Copy)]

@@ -18,18 +18,6 @@ type Heap<'a> = &'a MeteredHeap<Global>;
 /// How many bytes were written, or why there is no dump.
 type WrittenAnswer = Result<u64, ReadFault>;
 
-/// What was taken of a heap of which so many bytes were held at once: so many in all, by so many growths. All are
-/// given back.
-fn taken(peak: u64, bytes: u64, growths: u64) -> HeapCounts {
-    HeapCounts {
-        growths,
-        bytes,
-        out: 0,
-        held: 0,
-        peak,
-    }
-}
-
 /// A file that is read into a value, without names.
 struct ValueRow {
     file: OneStream<'static>,
@@ -182,10 +170,10 @@ fn assert_value(rt: &impl Abort, alloc: Global, number: usize, row: &ValueRow) {
     let limits = limits_of(rt, row.window, lister);
     let found = read_within(alloc, &file, limits, row);
     let expected = match row.written {
-        Some(0) => (Ok(0), taken(read, read, growths)),
+        Some(0) => (Ok(0), HeapCounts::once(read, growths)),
         Some(size) => (
             Ok(size),
-            taken(
+            HeapCounts::given_back(
                 read.max(value.saturating_add(size)),
                 read.saturating_add(size),
                 growths.saturating_add(1),
@@ -193,7 +181,7 @@ fn assert_value(rt: &impl Abort, alloc: Global, number: usize, row: &ValueRow) {
         ),
         None => (
             Err(ReadFault::PartsTooLarge { entry: 0, index: 0 }),
-            taken(read, read, growths),
+            HeapCounts::once(read, growths),
         ),
     };
     assert_same_at(rt, &number, found, expected);
@@ -257,12 +245,12 @@ fn assert_view(rt: &impl Abort, alloc: Global, number: usize, row: &ViewHeapRow)
     let most = held.saturating_add(u64::from(window));
     let limits = limits_of(rt, window, most);
     let found = viewed_within(rt, alloc, &bytes, limits, size);
-    assert_same_at(rt, &number, found, (Ok(size), taken(held, held, 4)));
+    assert_same_at(rt, &number, found, (Ok(size), HeapCounts::once(held, 4)));
     let limits = limits_of(rt, window, most.saturating_sub(1));
     let found = viewed_within(rt, alloc, &bytes, limits, size);
     let held = u128::from(most);
     let over = Err(ReadFault::Opening(OpenFault::MemoryLimit { held }));
-    assert_same_at(rt, &number, found, (over, taken(0, 0, 0)));
+    assert_same_at(rt, &number, found, (over, HeapCounts::once(0, 0)));
 }
 
 #[test]

@@ -5,6 +5,8 @@
 #[cfg(test)]
 mod dump;
 #[cfg(test)]
+mod faults;
+#[cfg(test)]
 mod files;
 #[cfg(test)]
 mod heaps;

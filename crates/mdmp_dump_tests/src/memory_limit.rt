@@ -7,7 +7,7 @@ use crate::viewed::two_faces;
 use mdmp_dump::ReadFault;
 use mdmp_lister::{Limits, OpenFault};
 use mdmp_source::{MemoryStore, PatchyStore, Source, Store};
-use mdmp_test_support::{HeapCounts, MeteredHeap, OVERLAPPING, Refusal};
+use mdmp_test_support::{HeapCounts, MeteredHeap, OVERLAPPING, Refusal, limits};
 use std::alloc::Global;
 use std::process::Abort;
 
@@ -31,90 +31,86 @@ const VIEW: u64 = 2 * 168 + 24 * 6;
 /// Two ranges.
 const RANGES: Sample<'static> = Sample::Numbers(1, &OVERLAPPING);
 
+/// The ranges as a value.
+const OF_RANGES: MemoryLimitRow = MemoryLimitRow {
+    into: ReadInto::Value,
+    sample: RANGES,
+    types: ALL,
+    memory: 0,
+    held: None,
+    growths: 0,
+};
+
+/// The thread and the exception of six streams as a view.
+const OF_SIX: MemoryLimitRow = MemoryLimitRow {
+    into: ReadInto::View,
+    sample: SIX_FILE,
+    types: &[3, 6],
+    memory: 0,
+    held: None,
+    growths: 0,
+};
+
 const LIMITED: &[MemoryLimitRow] = &[
     MemoryLimitRow {
-        into: ReadInto::Value,
-        sample: RANGES,
-        types: ALL,
         memory: LISTS + 48,
         held: None,
         growths: 8,
+        ..OF_RANGES
     },
     MemoryLimitRow {
-        into: ReadInto::Value,
-        sample: RANGES,
-        types: ALL,
         memory: LISTS + 47,
         held: Some(260),
         growths: 3,
+        ..OF_RANGES
     },
     MemoryLimitRow {
-        into: ReadInto::Value,
-        sample: RANGES,
-        types: ALL,
         memory: LISTS,
         held: Some(260),
         growths: 3,
+        ..OF_RANGES
     },
     MemoryLimitRow {
-        into: ReadInto::Value,
-        sample: RANGES,
-        types: ALL,
         memory: LISTS - 1,
         held: Some(212),
         growths: 0,
+        ..OF_RANGES
     },
     MemoryLimitRow {
-        into: ReadInto::Value,
-        sample: RANGES,
-        types: ALL,
         memory: 0,
         held: Some(212),
         growths: 0,
+        ..OF_RANGES
     },
     MemoryLimitRow {
-        into: ReadInto::View,
-        sample: SIX_FILE,
-        types: &[3, 6],
         memory: VIEW + 1,
         held: None,
         growths: 4,
+        ..OF_SIX
     },
     MemoryLimitRow {
-        into: ReadInto::View,
-        sample: SIX_FILE,
-        types: &[3, 6],
         memory: VIEW,
         held: None,
         growths: 4,
+        ..OF_SIX
     },
     MemoryLimitRow {
-        into: ReadInto::View,
-        sample: SIX_FILE,
-        types: &[3, 6],
         memory: VIEW - 1,
         held: Some(480),
         growths: 0,
+        ..OF_SIX
     },
     MemoryLimitRow {
-        into: ReadInto::View,
-        sample: SIX_FILE,
-        types: &[3, 6],
         memory: 0,
         held: Some(480),
         growths: 0,
+        ..OF_SIX
     },
 ];
 
 /// A window of 168 bytes and names of 32.
 fn limits_of(memory: Option<u64>) -> Limits {
-    Limits {
-        window: 168,
-        name: 32,
-        budget: None,
-        memory,
-        aside: None,
-    }
+    limits!(168, 32, None, memory)
 }
 
 /// What came of a reading: its fault, how often the heap was asked for a block, how many blocks were not given

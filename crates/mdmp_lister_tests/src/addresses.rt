@@ -5,11 +5,9 @@ ghost use Rattle.mdmp_map.specs.Ranges.{AreSorted};
 use crate::files::file_of;
 use crate::given::{range, stream};
 use crate::opening::{close, counts_of, fetched_by, list_all, opened};
+use crate::playing::{assert_plays, assert_plays_numbers, assert_plays_patchy};
 use crate::same::{assert_same, assert_same_at};
-use crate::script::{
-    LEAST, STANDARD, assert_plays, assert_plays_numbers, assert_plays_patchy, ends, gives,
-    has_room, read_fails, reads, runs,
-};
+use crate::script::{LEAST, STANDARD, ends, gives, has_room, read_fails, reads, runs};
 use mdmp_lister::{Choice, Lister};
 use mdmp_map::Steps;
 use mdmp_source::{Extent, MemoryStore, SourceFault, Store};

@@ -3,10 +3,11 @@
 use crate::files::file_of;
 use crate::given::{stream, thread};
 use crate::opening::{fault, listed_ranges, patchy, store_fault};
+use crate::playing::assert_plays_patchy;
 use crate::same::assert_same_at;
 use crate::script::{
-    Call, LEAST, NAMED, assert_plays_patchy, count_fails, counts, ends, fails, gives, has_part,
-    part_fails, read_fails, reads, runs, seeks,
+    Call, LEAST, NAMED, count_fails, counts, ends, fails, gives, has_part, part_fails, read_fails,
+    reads, runs, seeks,
 };
 use crate::walking::{PartRead, assert_walk, assert_walks_patchy, close, open_over, part_of};
 use mdmp_lister::{Choice, FaultKind, ListFault};
@@ -152,17 +153,22 @@ fn assert_third_fails(rt: &impl Abort, alloc: Global, at: u64) {
     assert_thrice(rt, alloc, at, &script);
 }
 
-/// Asserts that the call by which this byte of the list is fetched once more ends the first entry, to which a
-/// walker goes from the third.
-fn assert_first_fails(rt: &impl Abort, alloc: Global, at: u64) {
-    let script = [
+/// The calls of a walker that goes to the third entry, and then to the first, whose record is answered so.
+fn first_after_third(record: Call) -> [Call; 6] {
+    [
         seeks(2),
         gives(stream(2, 3, 52, 68)),
         gives(thread(2, 7)),
         seeks(0),
         gives(stream(0, 3, 52, 68)),
-        fails(store_fault(0, at)),
-    ];
+        record,
+    ]
+}
+
+/// Asserts that the call by which this byte of the list is fetched once more ends the first entry, to which a
+/// walker goes from the third.
+fn assert_first_fails(rt: &impl Abort, alloc: Global, at: u64) {
+    let script = first_after_third(fails(store_fault(0, at)));
     assert_thrice(rt, alloc, at.saturating_add(52), &script);
 }
 
@@ -173,14 +179,7 @@ fn each_call_behind_a_sought_entry_may_fail(rt: HostRuntime) {
         assert_third_fails(&rt, rt.alloc(), at);
         assert_first_fails(&rt, rt.alloc(), at);
     }
-    let script = [
-        seeks(2),
-        gives(stream(2, 3, 52, 68)),
-        gives(thread(2, 7)),
-        seeks(0),
-        gives(stream(0, 3, 52, 68)),
-        gives(thread(0, 7)),
-    ];
+    let script = first_after_third(gives(thread(0, 7)));
     assert_thrice(&rt, rt.alloc(), 172, &script);
 }
 

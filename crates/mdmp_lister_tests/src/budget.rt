@@ -2,8 +2,9 @@
 use crate::files::named_by_a_thousand;
 use crate::given::stream;
 use crate::opening::{ListOutcome, all, fault, open_and_close, run_over};
+use crate::playing::play;
 use crate::same::{assert_same, assert_same_at, assert_that};
-use crate::script::{Call, entries, fails, gives, has_numbers, play, skips};
+use crate::script::{Call, entries, fails, gives, has_numbers, skips};
 use crate::walking;
 use mdmp_lister::{Choice, FaultKind, Limits, ListFault, OpenFault, RunFault};
 use mdmp_source::{MemoryStore, Source};

@@ -1,10 +1,8 @@
 //! The lister's calls, one by one.
 use crate::given::{spelled, stream, system, thread};
 use crate::opening::{FAULTY_NAME, FAULTY_STREAM, fault};
-use crate::script::{
-    STANDARD, assert_plays, assert_plays_chosen, assert_plays_numbers, ends, entries, fails, gives,
-    runs, runs_on, skips,
-};
+use crate::playing::{assert_plays, assert_plays_chosen, assert_plays_numbers};
+use crate::script::{STANDARD, ends, entries, fails, gives, runs, runs_on, skips};
 use mdmp_lister::{FaultKind, RunFault};
 use mdmp_test_support::{FAULTY, SYSTEM, THRICE};
 

@@ -1,7 +1,8 @@
 //! A lister and a walker over a store that changes while it is read.
 use crate::given::{range, stream};
 use crate::opening::{fault, open_and_close};
-use crate::script::{Call, LEAST, counts, ends, fails, gives, has_room, play};
+use crate::playing::play;
+use crate::script::{Call, LEAST, counts, ends, fails, gives, has_room};
 use crate::walking::assert_walks;
 use mdmp_lister::{Choice, FaultKind};
 use mdmp_source::{Extent, Source, SourceFault, TwoFaces};

@@ -2,10 +2,10 @@
 use crate::files::file_of;
 use crate::given::stream;
 use crate::opening::{FAULTY_NAME, FAULTY_STREAM, chosen, close, opened, store_fault};
+use crate::playing::{assert_plays_numbers, assert_plays_patchy};
 use crate::same::assert_same;
 use crate::script::{
-    LEAST, STANDARD, assert_plays_numbers, assert_plays_patchy, checks, ends, fails, finds, gives,
-    has_begun, has_room, skips,
+    LEAST, STANDARD, checks, ends, fails, finds, gives, has_begun, has_room, skips,
 };
 use mdmp_lister::{ListFault, Lister, RunFault, Stopped, Verdict, VerdictSink};
 use mdmp_source::{MemoryStore, Store};

@@ -2,11 +2,9 @@
 use crate::files::crowded;
 use crate::given::{What, nameless, range, stream};
 use crate::opening::{chosen, fault, open_and_close};
+use crate::playing::{assert_plays_chosen, assert_plays_numbers};
 use crate::same::assert_same;
-use crate::script::{
-    LEAST, assert_plays_chosen, assert_plays_numbers, ends, fails, finds, gives, has_room, runs,
-    skips,
-};
+use crate::script::{LEAST, ends, fails, finds, gives, has_room, runs, skips};
 use mdmp_lister::{Choice, FaultKind, OpenFault};
 use mdmp_source::{Extent, MemoryStore, Source};
 use mdmp_test_support::OVERLAPPING;

@@ -2,8 +2,9 @@
 use crate::files::{first_bytes, padded};
 use crate::given::{Named, stream, system};
 use crate::opening::{FAULTY_NAME, fault, open_and_close};
+use crate::playing::assert_plays_numbers;
 use crate::same::{assert_same, assert_same_at};
-use crate::script::{Call, LEAST, STANDARD, assert_plays_numbers, ends, fails, gives};
+use crate::script::{Call, LEAST, STANDARD, ends, fails, gives};
 use mdmp_lister::{Choice, Fault, FaultKind, OpenFault};
 use mdmp_source::{MemoryStore, Source, SourceFault};
 use mdmp_test_support::{FAULTY, SYSTEM};

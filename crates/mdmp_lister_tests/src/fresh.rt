@@ -1,6 +1,7 @@
 //! Whether a lister has given anything yet.
 use crate::given::stream;
-use crate::script::{LEAST, assert_plays_numbers, gives, is_fresh};
+use crate::playing::assert_plays_numbers;
+use crate::script::{LEAST, gives, is_fresh};
 use mdmp_test_support::OVERLAPPING;
 
 #[test]

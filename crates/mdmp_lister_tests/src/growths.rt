@@ -2,8 +2,9 @@
 use crate::codeview::told_at;
 use crate::files::file_of;
 use crate::opening::{counts_of, patchy};
+use crate::playing::answer_of;
 use crate::same::{assert_same, assert_same_at};
-use crate::script::{NAMED, ScriptStep, answer_of};
+use crate::script::{NAMED, ScriptStep};
 use crate::walking;
 use mdmp_lister::{Choice, Lister, StopAt, Walker};
 use mdmp_source::{Location, MemoryStore, Source, Store};

@@ -14,6 +14,7 @@ use std::process::Abort;
 
 /// A file, and who opens it with which window W and names of how many bytes L; the items that are given, and how many
 /// ranges are mapped.
+#[derive(Clone, Copy)]
 struct HeapRow {
     opener: Opener,
     file: OneStream<'static>,
@@ -30,6 +31,19 @@ struct HeapRow {
     growths: (u64, u64),
 }
 
+/// Unused entries that a lister lists, by a window of 1 MiB.
+const ENTRIES: HeapRow = HeapRow {
+    opener: Opener::Lister,
+    file: MANY_ENTRIES,
+    window: 1 << 20,
+    name: 4096,
+    items: 5000,
+    mapped: 0,
+    held: (1 << 20) + 12 * 5000 + 4096,
+    before: 0,
+    growths: (3, 0),
+};
+
 const ROWS: [HeapRow; 8] = [
     HeapRow {
         opener: Opener::Lister,
@@ -42,17 +56,7 @@ const ROWS: [HeapRow; 8] = [
         before: 0,
         growths: (2, 0),
     },
-    HeapRow {
-        opener: Opener::Lister,
-        file: MANY_ENTRIES,
-        window: 1 << 20,
-        name: 4096,
-        items: 5000,
-        mapped: 0,
-        held: (1 << 20) + 12 * 5000 + 4096,
-        before: 0,
-        growths: (3, 0),
-    },
+    ENTRIES,
     HeapRow {
         opener: Opener::Lister,
         file: MANY_RANGES,
@@ -88,14 +92,7 @@ const ROWS: [HeapRow; 8] = [
     },
     HeapRow {
         opener: Opener::Walker,
-        file: MANY_ENTRIES,
-        window: 1 << 20,
-        name: 4096,
-        items: 5000,
-        mapped: 0,
-        held: (1 << 20) + 12 * 5000 + 4096,
-        before: 0,
-        growths: (3, 0),
+        ..ENTRIES
     },
     HeapRow {
         opener: Opener::Walker,
@@ -134,23 +131,15 @@ fn taken_by(
     (outcome, heap.counts())
 }
 
-/// So many bytes, of which each is taken once, by so many growths, and all are given back.
-fn once(bytes: u64, growths: u64) -> HeapCounts {
-    HeapCounts {
-        growths,
-        bytes,
-        out: 0,
-        held: 0,
-        peak: bytes,
-    }
-}
-
 /// Asserts what a file takes without a limit of memory, at its limit, and with a byte less.
 fn assert_row(rt: &impl Abort, alloc: Global, number: usize, row: &HeapRow) {
     let file = one_stream_file(alloc, row.file).expect(rt, "memory for a file");
     let limits = limits_of(rt, row.window, row.name);
     let (growths, before) = row.growths;
-    let whole = (all(row.items, row.mapped), once(row.held, growths));
+    let whole = (
+        all(row.items, row.mapped),
+        HeapCounts::once(row.held, growths),
+    );
     let found = taken_by(alloc, &file, limits, row.opener);
     assert_same_at(rt, &(number, "no limit"), found, whole);
     let enough = limits.limit_memory(row.held);
@@ -164,7 +153,7 @@ fn assert_row(rt: &impl Abort, alloc: Global, number: usize, row: &HeapRow) {
         rt,
         &(number, "less"),
         found,
-        (over, once(row.before, before)),
+        (over, HeapCounts::once(row.before, before)),
     );
 }
 

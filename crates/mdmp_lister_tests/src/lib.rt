@@ -1,6 +1,6 @@
 //! Tests of `mdmp_lister`, by its public calls alone.
 //!
-//! `given`, `opening`, `script` and `walking` make the calls whose contracts are long, in helpers without a
+//! `given`, `opening`, `playing` and `walking` make the calls whose contracts are long, in helpers without a
 //! contract; the tests compare what they give, which is plain values.
 #![tactic(auto)]
 
@@ -50,6 +50,8 @@ mod names;
 mod opening;
 #[cfg(test)]
 mod parts;
+#[cfg(test)]
+mod playing;
 #[cfg(test)]
 mod prefixes;
 #[cfg(test)]

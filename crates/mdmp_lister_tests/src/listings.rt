@@ -2,10 +2,8 @@
 use crate::files::{first_bytes, named, padded};
 use crate::given::{Named, What, nameless, spelled, stream, system, thread, unloaded};
 use crate::opening::{chosen, fault};
-use crate::script::{
-    Call, LEAST, NAMED, SHORT_NAMES, assert_plays, assert_plays_chosen, assert_plays_numbers, ends,
-    fails, gives, play,
-};
+use crate::playing::{assert_plays, assert_plays_chosen, assert_plays_numbers, play};
+use crate::script::{Call, LEAST, NAMED, SHORT_NAMES, ends, fails, gives};
 use mdmp_lister::FaultKind;
 use mdmp_source::{Extent, MemoryStore};
 use mdmp_test_support::{FAULTY, SYSTEM};

@@ -7,7 +7,7 @@ use crate::same::{assert_same, assert_same_at};
 use crate::script::{LEAST, NAMED};
 use mdmp_lister::{Choice, Limits, OpenFault};
 use mdmp_source::{MemoryStore, Source};
-use mdmp_test_support::{OVERLAPPING, Refusal, SYSTEM, header_of};
+use mdmp_test_support::{OVERLAPPING, Refusal, SYSTEM, header_of, limits};
 use std::alloc::Global;
 use std::process::Abort;
 
@@ -280,13 +280,7 @@ fn limit_is_tested_by_the_ranges_that_were_counted_of_a_file_that_changes(rt: Ho
 /// Asserts why `OVERLAPPING` is not opened within a budget and a limit on memory.
 fn assert_first(rt: &impl Abort, alloc: Global, budget: u64, most: u64, fault: OpenFault) {
     let file = file_of(rt, alloc, 1, &OVERLAPPING);
-    let limits = Limits {
-        window: 168,
-        name: 0,
-        budget: Some(budget),
-        memory: Some(most),
-        aside: None,
-    };
+    let limits = limits!(168, 0, Some(budget), Some(most));
     let source = Source::new(MemoryStore::new(&file));
     let (found, _) = open_and_close(alloc, source, limits, Choice::All);
     assert_same_at(rt, &(budget, most), found, Some(fault));

@@ -1,9 +1,9 @@
 //! Bytes of the file that are read beside the listing.
 use crate::files::file_of;
 use crate::given::{range, stream};
+use crate::playing::{assert_plays, assert_plays_patchy};
 use crate::script::{
-    LEAST, assert_plays, assert_plays_patchy, ends, gives, has_numbers, has_part, has_room,
-    part_fails, part_outside,
+    LEAST, ends, gives, has_numbers, has_part, has_room, part_fails, part_outside,
 };
 use mdmp_source::{Extent, SourceFault};
 use mdmp_test_support::{MEMORY64, OVERLAPPING};

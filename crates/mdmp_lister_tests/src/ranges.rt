@@ -1,9 +1,7 @@
 //! Which ranges of memory are mapped as they are given.
 use crate::given::{GivenItem, range, stream};
-use crate::script::{
-    LEAST, assert_plays, assert_plays_numbers, ends, finds, finds_nothing, gives, has_room, runs,
-    runs_on, skips,
-};
+use crate::playing::{assert_plays, assert_plays_numbers};
+use crate::script::{LEAST, ends, finds, finds_nothing, gives, has_room, runs, runs_on, skips};
 use mdmp_lister::RunFault;
 use mdmp_source::Extent;
 use mdmp_test_support::{MEMORY64, OVERLAPPING};

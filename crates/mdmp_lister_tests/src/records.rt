@@ -4,7 +4,8 @@ use crate::given::{
     GivenItem, Named, What, module, nameless, range, spelled, stream, thread, thread_name, unloaded,
 };
 use crate::opening::fault;
-use crate::script::{LEAST, SHORT_NAMES, assert_plays, assert_plays_numbers, ends, fails, gives};
+use crate::playing::{assert_plays, assert_plays_numbers};
+use crate::script::{LEAST, SHORT_NAMES, ends, fails, gives, items_of_thrice};
 use mdmp_lister::FaultKind;
 use mdmp_source::Extent;
 use mdmp_test_support::{MEMORY64, THREAD_NAME, THRICE};
@@ -14,16 +15,7 @@ use std::process::Abort;
 
 #[test]
 fn list_that_three_entries_name_is_listed_thrice(rt: HostRuntime) {
-    let script = [
-        gives(stream(0, 3, 52, 68)),
-        gives(thread(0, 7)),
-        gives(stream(1, 3, 52, 68)),
-        gives(thread(1, 7)),
-        gives(stream(2, 3, 52, 68)),
-        gives(thread(2, 7)),
-        ends(),
-    ];
-    assert_plays_numbers(&rt, rt.alloc(), LEAST, 3, &THRICE, &script);
+    assert_plays_numbers(&rt, rt.alloc(), LEAST, 3, &THRICE, &items_of_thrice());
 }
 
 #[test]

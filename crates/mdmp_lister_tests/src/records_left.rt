@@ -1,6 +1,7 @@
 //! How many records of the current entry are still to come.
 use crate::given::{GivenItem, What, nameless, stream};
-use crate::script::{LEAST, assert_plays_numbers, ends, gives, has_records_left, skips};
+use crate::playing::assert_plays_numbers;
+use crate::script::{LEAST, ends, gives, has_records_left, skips};
 use mdmp_source::Extent;
 
 /// An unused entry, and a memory list of three ranges of four bytes.

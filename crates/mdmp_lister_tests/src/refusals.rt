@@ -135,12 +135,12 @@ fn assert_opened_without(
 }
 
 /// Asserts that each of so many growths may be refused, which ends the opening, and that there are no more.
-fn assert_each_may_be_refused(
+fn assert_refusable(
     rt: &impl Abort,
     alloc: Global,
+    opener: Opener,
     file: &[u8],
     limits: Limits,
-    opener: Opener,
     growths: u64,
     outcome: ListOutcome,
 ) {
@@ -153,18 +153,6 @@ fn assert_each_may_be_refused(
     assert_opened_without(rt, found, outcome, outcome, growths);
 }
 
-/// The same of a lister.
-fn assert_lister(
-    rt: &impl Abort,
-    alloc: Global,
-    file: &[u8],
-    limits: Limits,
-    growths: u64,
-    outcome: ListOutcome,
-) {
-    assert_each_may_be_refused(rt, alloc, file, limits, Opener::Lister, growths, outcome);
-}
-
 /// The same of a lister of a file with so many entries and these numbers.
 fn assert_lister_of_numbers(
     rt: &impl Abort,
@@ -175,36 +163,26 @@ fn assert_lister_of_numbers(
     outcome: ListOutcome,
 ) {
     let file = file_of(rt, alloc, entries, numbers);
-    assert_lister(rt, alloc, &file, NAMED, growths, outcome);
+    assert_refusable(rt, alloc, Opener::Lister, &file, NAMED, growths, outcome);
 }
 
 #[test]
 fn each_growth_of_a_lister_may_be_refused(rt: HostRuntime) {
     // A directory, a window, a name, and a map where memory is listed.
-    assert_lister(&rt, rt.alloc(), &SYSTEM, NAMED, 3, all(2, 0));
-    assert_lister(&rt, rt.alloc(), &SYSTEM, LEAST, 2, all(2, 0));
-    assert_lister(&rt, rt.alloc(), &MEMORY64, NAMED, 4, all(3, 1));
-    assert_lister(&rt, rt.alloc(), &MEMORY64, LEAST, 3, all(3, 1));
+    let by = Opener::Lister;
+    assert_refusable(&rt, rt.alloc(), by, &SYSTEM, NAMED, 3, all(2, 0));
+    assert_refusable(&rt, rt.alloc(), by, &SYSTEM, LEAST, 2, all(2, 0));
+    assert_refusable(&rt, rt.alloc(), by, &MEMORY64, NAMED, 4, all(3, 1));
+    assert_refusable(&rt, rt.alloc(), by, &MEMORY64, LEAST, 3, all(3, 1));
     assert_lister_of_numbers(&rt, rt.alloc(), 3, &THRICE, 3, all(6, 0));
     assert_lister_of_numbers(&rt, rt.alloc(), 1, &OVERLAPPING, 4, all(3, 2));
-}
-
-/// The same of a walker.
-fn assert_walker(
-    rt: &impl Abort,
-    alloc: Global,
-    file: &[u8],
-    limits: Limits,
-    growths: u64,
-    outcome: ListOutcome,
-) {
-    assert_each_may_be_refused(rt, alloc, file, limits, Opener::Walker, growths, outcome);
 }
 
 #[test]
 fn each_growth_of_a_walker_may_be_refused(rt: HostRuntime) {
     // A directory, a window and a name: it has no map.
-    assert_walker(&rt, rt.alloc(), &SYSTEM, NAMED, 3, all(2, 0));
-    assert_walker(&rt, rt.alloc(), &SYSTEM, LEAST, 2, all(2, 0));
-    assert_walker(&rt, rt.alloc(), &MEMORY64, NAMED, 3, all(3, 0));
+    let by = Opener::Walker;
+    assert_refusable(&rt, rt.alloc(), by, &SYSTEM, NAMED, 3, all(2, 0));
+    assert_refusable(&rt, rt.alloc(), by, &SYSTEM, LEAST, 2, all(2, 0));
+    assert_refusable(&rt, rt.alloc(), by, &MEMORY64, NAMED, 3, all(3, 0));
 }

@@ -1,5 +1,7 @@
-//! The comparisons of the tests. The text of `assert_eq!` and of `assert!` is long for the prover in each
-//! function that has it, and a call is short; so it stands here, in functions without a contract.
+//! The comparisons of the tests. Made by tests/comparisons.
+//!
+//! The text of `assert_eq!` is long for the prover in each function that has it, and a call is short. So it is in functions
+//! without a contract.
 use std::fmt::Debug;
 use std::process::Abort;
 

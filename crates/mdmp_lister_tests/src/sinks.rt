@@ -1,7 +1,6 @@
 //! Sinks that stop at each item of a file in turn, and at each verdict.
-use crate::script::{
-    Call, NAMED, assert_plays_chosen, checks, ends, has_begun, runs, runs_on, skips,
-};
+use crate::playing::assert_plays_chosen;
+use crate::script::{Call, NAMED, checks, ends, has_begun, runs, runs_on, skips};
 use crate::six::{STREAMS, six_items};
 use mdmp_lister::RunFault;
 use mdmp_test_support::SIX;

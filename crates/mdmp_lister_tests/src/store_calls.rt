@@ -3,10 +3,9 @@
 use crate::files::{file_of, named_by_a_thousand, padded};
 use crate::given::{module, range, stream};
 use crate::opening::{open_and_close, patchy, store_fault};
+use crate::playing::assert_plays_patchy;
 use crate::same::{assert_same, assert_same_at};
-use crate::script::{
-    Call, NAMED, assert_plays_patchy, checks, ends, fails, gives, has_begun, runs, runs_on, skips,
-};
+use crate::script::{Call, NAMED, checks, ends, fails, gives, has_begun, runs, runs_on, skips};
 use crate::six::six_items;
 use crate::walking;
 use crate::walking::assert_walks_patchy;

@@ -1,8 +1,9 @@
 //! A lister over stores that give few bytes a call, or fail.
 use crate::given::{range, spelled, stream, system};
 use crate::opening::{fault, open_and_close, patchy};
+use crate::playing::assert_plays_patchy;
 use crate::same::assert_same;
-use crate::script::{LEAST, NAMED, STANDARD, assert_plays_patchy, ends, fails, gives, runs, skips};
+use crate::script::{LEAST, NAMED, STANDARD, ends, fails, gives, runs, skips};
 use mdmp_lister::{Choice, FaultKind, OpenFault, RunFault};
 use mdmp_source::{Extent, Source, SourceFault};
 use mdmp_test_support::{MEMORY64, SYSTEM};

@@ -3,7 +3,7 @@ use crate::files::file_of;
 use crate::given::{range, spelled, stream, system, thread};
 use crate::opening::{chosen, patchy, store_fault};
 use crate::same::{assert_same, assert_same_at};
-use crate::script::{LEAST, NAMED, WHOLE_BLOCKS, counts, ends, gives, seeks};
+use crate::script::{LEAST, NAMED, WHOLE_BLOCKS, counts, ends, gives, items_of_thrice, seeks};
 use crate::walking::{
     assert_walk, assert_walks_numbers, assert_walks_patchy, close, counts_of, entry_of, fetched_of,
     is_chosen, open, open_and_close, part_of, step_of,
@@ -84,17 +84,7 @@ fn walker_tells_which_entries_are_chosen(rt: HostRuntime) {
 
 #[test]
 fn walker_gives_what_a_lister_gives(rt: HostRuntime) {
-    let script = [
-        gives(stream(0, 3, 52, 68)),
-        gives(thread(0, 7)),
-        gives(stream(1, 3, 52, 68)),
-        gives(thread(1, 7)),
-        gives(stream(2, 3, 52, 68)),
-        gives(thread(2, 7)),
-        ends(),
-        ends(),
-    ];
-    assert_walks_numbers(&rt, rt.alloc(), 3, &THRICE, &script);
+    assert_walks_numbers(&rt, rt.alloc(), 3, &THRICE, &items_of_thrice());
 }
 
 #[test]

@@ -1,8 +1,9 @@
 //! A walker that is opened, and its calls in a row.
 use crate::files::file_of;
 use crate::opening::patchy;
+use crate::playing::answer_by;
 use crate::same::assert_same_at;
-use crate::script::{Answer, Call, LEAST, ScriptStep, answer_by};
+use crate::script::{Answer, Call, LEAST, ScriptStep};
 use mdmp_lister::{
     Choice, Counts, Limits, ListFault, OpenFault, OpenRefused, Step as Read, Walker,
 };

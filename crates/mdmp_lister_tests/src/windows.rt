@@ -3,8 +3,9 @@
 use crate::files::{file_of, padded};
 use crate::given::{Named, stream, unloaded};
 use crate::opening::{close, counts_of, limits_of, list_all, opened, store_fault};
+use crate::playing::{assert_plays_numbers, assert_plays_patchy};
 use crate::same::assert_same;
-use crate::script::{LEAST, assert_plays_numbers, assert_plays_patchy, ends, gives, runs};
+use crate::script::{LEAST, ends, gives, runs};
 use mdmp_lister::{Choice, Counts, RunFault};
 use mdmp_source::MemoryStore;
 use std::alloc::Global;

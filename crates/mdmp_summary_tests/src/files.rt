@@ -91,37 +91,15 @@ pub fn crash_file(rt: &impl Abort, alloc: Global, made: Made) -> Vec<u8> {
 
 /// An exception with this code in each of 25 entries, and a system of Linux.
 pub fn threads_file(rt: &impl Abort, alloc: Global, code: u32) -> Vec<u8> {
+    let header = header_of(26, 32);
     let stopped = entry(6, 168, 344);
-    let parts: [&[u8]; 29] = [
-        &header_of(26, 32),
-        &stopped,
-        &stopped,
-        &stopped,
-        &stopped,
-        &stopped,
-        &stopped,
-        &stopped,
-        &stopped,
-        &stopped,
-        &stopped,
-        &stopped,
-        &stopped,
-        &stopped,
-        &stopped,
-        &stopped,
-        &stopped,
-        &stopped,
-        &stopped,
-        &stopped,
-        &stopped,
-        &stopped,
-        &stopped,
-        &stopped,
-        &stopped,
-        &stopped,
-        &entry(7, 56, 512),
-        &exception(6, code, 5, 0, 0),
-        &system(0x8201, 9),
-    ];
+    let of_system = entry(7, 56, 512);
+    let exception = exception(6, code, 5, 0, 0);
+    let system = system(0x8201, 9);
+    let mut parts: [&[u8]; 29] = [&stopped; 29];
+    parts[0] = &header;
+    parts[26] = &of_system;
+    parts[27] = &exception;
+    parts[28] = &system;
     file_of_parts(alloc, &parts, 568).expect(rt, "a file")
 }

@@ -1,8 +1,8 @@
 //! Names and summaries that are given to the lines.
-use crate::files::{Made, crash_file};
+use crate::files::{LINUX, Made, crash_file};
 use crate::summing::summary_in;
 use mdmp_lister::Name;
-use mdmp_summary::FileSummary;
+use mdmp_summary::{AccessKind, FileSummary, PartKind, PartOutside, Reached};
 use mdmp_summary_lines::SummaryNames;
 use mdmp_wire::UnitsRef;
 use std::alloc::Global;
@@ -47,3 +47,26 @@ pub fn summary_of(rt: &impl Abort, alloc: Global, made: Made) -> FileSummary {
     summary.bad.first = None;
     summary
 }
+
+/// The summary of a file of Linux that has a time, and whose crash was a write to the address 16.
+pub fn summary_of_write(rt: &impl Abort, alloc: Global) -> FileSummary {
+    let mut summary = summary_of(rt, alloc, LINUX);
+    summary.header.time_date_stamp = 1735689600;
+    if let Some(crash) = &mut summary.crash {
+        crash.exception.fields.exception_flags = 1;
+        crash.reached = Some(Reached {
+            address: 16,
+            access: AccessKind::Write,
+        });
+    }
+    summary
+}
+
+/// A stack that lies outside the file.
+pub const STACK_OUTSIDE: PartOutside = PartOutside {
+    entry: 2,
+    index: 0,
+    part: PartKind::Stack,
+    offset: 4720,
+    size: 7264,
+};

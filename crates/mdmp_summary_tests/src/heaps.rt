@@ -41,27 +41,26 @@ fn summed_within(
     (fault, heap.counts())
 }
 
-/// So many bytes, of which each is taken once, by so many growths, and all are given back.
-fn once(bytes: u64, growths: u64) -> HeapCounts {
-    HeapCounts {
-        growths,
-        bytes,
-        out: 0,
-        held: 0,
-        peak: bytes,
-    }
-}
-
 /// Asserts what the summary of a row takes at its limit of memory, and with a byte less.
 fn assert_row(rt: &impl Abort, alloc: Global, number: usize, row: &SummaryHeapRow) {
     let (file, _, _, most, growths) = *row;
     let bytes = one_stream_file(alloc, file).expect(rt, "memory for a file");
     let found = summed_within(rt, alloc, &bytes, row, most);
-    assert_same_at(rt, &(number, most), found, (None, once(most, growths)));
+    assert_same_at(
+        rt,
+        &(number, most),
+        found,
+        (None, HeapCounts::once(most, growths)),
+    );
     let held = u128::from(most);
     let over = SummaryFault::Opening(OpenFault::MemoryLimit { held });
     let found = summed_within(rt, alloc, &bytes, row, most.saturating_sub(1));
-    assert_same_at(rt, &(number, most), found, (Some(over), once(0, 0)));
+    assert_same_at(
+        rt,
+        &(number, most),
+        found,
+        (Some(over), HeapCounts::once(0, 0)),
+    );
 }
 
 #[test]

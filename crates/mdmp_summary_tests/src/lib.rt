@@ -9,6 +9,8 @@ mod check_rows;
 #[cfg(test)]
 mod contexts;
 #[cfg(test)]
+mod counter;
+#[cfg(test)]
 mod failures;
 #[cfg(test)]
 mod files;

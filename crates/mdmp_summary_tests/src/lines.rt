@@ -1,11 +1,11 @@
 //! The lines of summaries.
 use crate::files::{LINUX, crash_file};
-use crate::given::{CPAD, EXE, GivenName, names, summary_of};
+use crate::given::{CPAD, EXE, GivenName, STACK_OUTSIDE, names, summary_of, summary_of_write};
 use crate::same::{assert_same, assert_same_at};
 use crate::summing::{summary_in, summary_of_first};
 use mdmp_print::Printer;
 use mdmp_source::{OutFailed, PatchyOut};
-use mdmp_summary::{AccessKind, FileSummary, PartKind, PartOutside, Reached, Registers};
+use mdmp_summary::{AccessKind, FileSummary, Reached, Registers};
 use mdmp_summary_lines::{SummaryNames, print_summary};
 use std::alloc::Global;
 use std::process::Abort;
@@ -39,15 +39,7 @@ const COUNTS: &str =
 
 #[test]
 fn crash_in_a_module_succeeds(rt: HostRuntime) {
-    let mut summary = summary_of(&rt, rt.alloc(), LINUX);
-    summary.header.time_date_stamp = 1735689600;
-    if let Some(crash) = &mut summary.crash {
-        crash.exception.fields.exception_flags = 1;
-        crash.reached = Some(Reached {
-            address: 16,
-            access: AccessKind::Write,
-        });
-    }
+    let summary = summary_of_write(&rt, rt.alloc());
     let cpad = GivenName::Units(CPAD);
     let thread = GivenName::Units(b"c\0\"\0");
     assert_printed(
@@ -121,13 +113,7 @@ fn file_without_a_crash_succeeds(rt: HostRuntime) {
         system.number_of_processors = 255;
     }
     summary.outside.count = 2;
-    summary.outside.first = Some(PartOutside {
-        entry: 2,
-        index: 0,
-        part: PartKind::Stack,
-        offset: 4720,
-        size: 7264,
-    });
+    summary.outside.first = Some(STACK_OUTSIDE);
     assert_printed(
         &rt,
         rt.alloc(),

@@ -1,11 +1,13 @@
 //! The objects of summaries.
 use crate::files::LINUX;
-use crate::given::{CPAD, EXE, GivenName, name, names, summary_of};
+use crate::given::{
+    CPAD, EXE, GivenName, STACK_OUTSIDE, name, names, summary_of, summary_of_write,
+};
 use crate::same::{assert_same, assert_same_at};
 use mdmp_lister::{CodeViewBytes, ModuleItem, Name};
 use mdmp_print::Printer;
 use mdmp_source::{Extent, OutFailed, PatchyOut};
-use mdmp_summary::{AccessKind, FileSummary, PartKind, PartOutside, Reached, Registers};
+use mdmp_summary::{FileSummary, Registers};
 use mdmp_summary_lines::{
     SummaryNames, print_module_front, print_module_ids, print_summary_end, print_summary_head,
     print_thread_object, print_threads_front,
@@ -20,6 +22,19 @@ struct GivenModule<'a> {
     name: GivenName,
     fields: ModuleRecord,
     codeview: Option<CodeViewBytes<'a>>,
+}
+
+/// The program of a summary, with this CodeView record.
+fn program_of<'a>(
+    rt: &impl Abort,
+    summary: &FileSummary,
+    codeview: CodeViewBytes<'a>,
+) -> GivenModule<'a> {
+    GivenModule {
+        name: GivenName::Units(CPAD),
+        fields: summary.program.expect(rt, "a program"),
+        codeview: Some(codeview),
+    }
 }
 
 /// Prints the objects of some modules.
@@ -99,27 +114,13 @@ fn rsds(name: &'static [u8]) -> CodeViewBytes<'static> {
 
 #[test]
 fn object_of_a_crash_succeeds(rt: HostRuntime) {
-    let mut summary = summary_of(&rt, rt.alloc(), LINUX);
-    summary.header.time_date_stamp = 1735689600;
-    if let Some(crash) = &mut summary.crash {
-        crash.exception.fields.exception_flags = 1;
-        crash.reached = Some(Reached {
-            address: 16,
-            access: AccessKind::Write,
-        });
-    }
-    let Some(fields) = summary.program else {
-        return assert!(&rt; false);
-    };
+    let summary = summary_of_write(&rt, rt.alloc());
+    let build = record_of(
+        b"LEpB\x2d\x1f\x3c\x4b\x5a\x69\x78\x87\x96\xa5\xb4\xc3\xd2\xe1\xf0\x0f\x1e\x2e\x3e\x4e",
+        24,
+    );
+    let module = program_of(&rt, &summary, build);
     let cpad = GivenName::Units(CPAD);
-    let module = GivenModule {
-        name: cpad,
-        fields,
-        codeview: Some(record_of(
-            b"LEpB\x2d\x1f\x3c\x4b\x5a\x69\x78\x87\x96\xa5\xb4\xc3\xd2\xe1\xf0\x0f\x1e\x2e\x3e\x4e",
-            24,
-        )),
-    };
     assert_object(
         &rt,
         rt.alloc(),
@@ -138,13 +139,7 @@ fn object_without_a_crash_succeeds(rt: HostRuntime) {
     summary.system = None;
     summary.program = None;
     summary.outside.count = 1;
-    summary.outside.first = Some(PartOutside {
-        entry: 2,
-        index: 0,
-        part: PartKind::Stack,
-        offset: 4720,
-        size: 7264,
-    });
+    summary.outside.first = Some(STACK_OUTSIDE);
     assert_object(
         &rt,
         rt.alloc(),
@@ -261,15 +256,8 @@ fn calls_of_object(
 #[test]
 fn output_that_fails_has_a_first_part_of_the_object(rt: HostRuntime) {
     let summary = summary_of(&rt, rt.alloc(), LINUX);
-    let Some(fields) = summary.program else {
-        return assert!(&rt; false);
-    };
+    let module = program_of(&rt, &summary, rsds(b"a.pdb"));
     let cpad = GivenName::Units(CPAD);
-    let module = GivenModule {
-        name: cpad,
-        fields,
-        codeview: Some(rsds(b"a.pdb")),
-    };
     let given = names(cpad, cpad, cpad);
     let calls = calls_of_object(&rt, rt.alloc(), &summary, &given, &[module, module]);
     assert!(&rt; 40 < calls && calls < 100, "{calls} calls");

@@ -1,11 +1,12 @@
 //! A long list of memory regions, which no visitor of a summary looks at.
+use crate::counter::Counter;
 use crate::same::assert_same_at;
 use crate::summing::{fetched_within, summary_in};
-use mdmp_lister::{Choice, FaultKind, Item, Limits, ListFault, Stopped, StreamKind, Walker};
-use mdmp_source::{MemoryStore, Source, Store};
-use mdmp_summary::{VisitEnd, Visitor, visit_all};
+use mdmp_lister::{Choice, FaultKind, Limits, ListFault, Walker};
+use mdmp_source::{MemoryStore, Source};
+use mdmp_summary::visit_all;
 use mdmp_test_support::{entry, file_of_parts, header_of};
-use std::alloc::{Allocator, Global};
+use std::alloc::Global;
 use std::process::Abort;
 
 /// A list of memory regions, whose head tells so many and which has room for 1,000, and a list of two threads.
@@ -81,48 +82,6 @@ fn bad_head_of_regions_is_told(rt: HostRuntime) {
     assert_same_at(&rt, &"bad", told, (1, Some(fault), 2));
 }
 
-/// Counts threads, and the other items that it is shown.
-#[derive(Drop)]
-struct ThreadCounter {
-    threads: u32,
-    others: u32,
-}
-
-impl Visitor for ThreadCounter {
-    ghost use Rattle.mdmp_summary.specs.Visiting.{nothing_read};
-
-    ghost taken = { λ old item result new. Unit {0} };
-
-    ghost looked = { λ content limit old result new. Unit {0} };
-
-    ghost owed = { λ _. nothing_read };
-
-    ghost span = { λ _. 0 };
-
-    ghost room = { λ span item. nothing_read };
-
-    #[tactic(auto, using(mdmp_summary::proofs::Unused::nothing_said))]
-    fn wants(&self, kind: StreamKind) -> bool {
-        matches!(kind, StreamKind::Threads)
-    }
-
-    fn take(&mut self, item: &Item<'_>) -> Result<(), Stopped> {
-        match item {
-            Item::Thread(_) => self.threads = self.threads.saturating_add(1),
-            _ => self.others = self.others.saturating_add(1),
-        }
-        Ok(())
-    }
-
-    #[tactic(auto, using(mdmp_summary::proofs::Visited::reads_nothing))]
-    fn look<S: Store + Drop, A: Allocator + Copy>(
-        &mut self,
-        _walker: &mut Walker<S, A>,
-    ) -> Result<(), VisitEnd> {
-        Ok(())
-    }
-}
-
 #[test]
 fn visitor_is_shown_what_it_wants(rt: HostRuntime) {
     let file = regions_file(&rt, rt.alloc(), 1000);
@@ -131,9 +90,11 @@ fn visitor_is_shown_what_it_wants(rt: HostRuntime) {
     let Ok(mut walker) = walker else {
         panic!(&rt; "a walker");
     };
-    let mut counter = ThreadCounter {
+    let mut counter = Counter {
         threads: 0,
         others: 0,
+        most: 2000,
+        is_of_threads: true,
     };
     let bad = visit_all(&mut walker, &mut counter);
     assert_same_at(&rt, &"bad", bad.is_ok_and(|bad| bad.count == 0), true);

@@ -1,5 +1,7 @@
-//! The comparisons of the tests. The text of `assert_eq!` is long for the prover in each function that has it,
-//! and a call is short; so it is here, in functions without a contract.
+//! The comparisons of the tests. Made by tests/comparisons.
+//!
+//! The text of `assert_eq!` is long for the prover in each function that has it, and a call is short. So it is in functions
+//! without a contract.
 use std::fmt::Debug;
 use std::process::Abort;
 
@@ -8,7 +10,7 @@ pub fn assert_same<T: PartialEq + Debug + Drop>(rt: &impl Abort, found: T, expec
     assert_eq!(rt; found, expected)
 }
 
-/// Asserts that what was found at this row is what was expected.
+/// Asserts that what was found at this row, word or size is what was expected.
 pub fn assert_same_at<T: PartialEq + Debug + Drop>(
     rt: &impl Abort,
     at: &impl Debug,

@@ -1,56 +1,16 @@
 //! A visitor of all items, and what is read outside the listing.
+use crate::counter::Counter;
 use crate::files::{LINUX, crash_file};
 use crate::same::{assert_same, assert_same_at};
-use mdmp_lister::{Choice, Item, Limits, Stopped, StreamKind, Walker};
+use mdmp_lister::{Choice, Limits, Walker};
 use mdmp_source::{Location, MemoryStore, PatchyStore, Source, Store};
 use mdmp_summary::{
-    Registers, SymbolsRead, VisitEnd, VisitFault, Visitor, read_registers, read_symbols, visit_all,
+    Registers, SymbolsRead, VisitEnd, VisitFault, read_registers, read_symbols, visit_all,
 };
 use mdmp_test_support::{CODEVIEW_RECORD, module_file};
 use mdmp_wire::{Record, SystemRecord};
-use std::alloc::{Allocator, Global};
+use std::alloc::Global;
 use std::process::Abort;
-
-/// Counts items, and wants no more than so many.
-#[derive(Drop)]
-struct Counter {
-    items: u32,
-    most: u32,
-}
-
-impl Visitor for Counter {
-    ghost use Rattle.mdmp_summary.specs.Visiting.{nothing_read};
-
-    ghost taken = { λ old item result new. Unit {0} };
-
-    ghost looked = { λ content limit old result new. Unit {0} };
-
-    ghost owed = { λ _. nothing_read };
-
-    ghost span = { λ _. 0 };
-
-    ghost room = { λ span item. nothing_read };
-
-    fn wants(&self, _kind: StreamKind) -> bool {
-        true
-    }
-
-    fn take(&mut self, _item: &Item<'_>) -> Result<(), Stopped> {
-        self.items = self.items.saturating_add(1);
-        if self.items >= self.most {
-            return Err(Stopped);
-        }
-        Ok(())
-    }
-
-    #[tactic(auto, using(mdmp_summary::proofs::Visited::reads_nothing))]
-    fn look<S: Store + Drop, A: Allocator + Copy>(
-        &mut self,
-        _walker: &mut Walker<S, A>,
-    ) -> Result<(), VisitEnd> {
-        Ok(())
-    }
-}
 
 /// How many items a visitor of a store was shown that wants so many, and how many entries are bad or how it ended;
 /// none if the file is not opened.
@@ -63,12 +23,17 @@ fn visited_over<S: Store + Drop>(
     let Ok(mut walker) = Walker::open(alloc, source, Limits::default(), Choice::All) else {
         return None;
     };
-    let mut counter = Counter { items: 0, most };
+    let mut counter = Counter {
+        threads: 0,
+        others: 0,
+        most,
+        is_of_threads: false,
+    };
     let end = match visit_all(&mut walker, &mut counter) {
         Ok(bad) => Ok(bad.count),
         Err(fault) => Err(fault),
     };
-    Some((counter.items, end))
+    Some((counter.threads.saturating_add(counter.others), end))
 }
 
 #[test]

@@ -5,6 +5,7 @@
 //! called, but compares what it was given, and its own proof stays short.
 #![tactic(auto)]
 
+mod constants;
 mod files;
 mod large_files;
 mod memory_files;
@@ -29,8 +30,8 @@ pub use crate::metered_heap::{HeapCounts, MeteredHeap, Refusal};
 pub use crate::module_files::{CODEVIEW_RECORD, module_file};
 pub use crate::outputs::{BY_SEVEN, BY_WHOLE, FOR_LONG_TEXT, Room};
 pub use crate::small_files::{
-    ABSENT_STACK, COMMENT, CRASH, FAULTY, MEMORY64, MODULE, OVERLAPPING, SIX, SYSTEM, THREAD_NAME,
-    THRICE, UNLOADED,
+    ABSENT_STACK, COMMENT, CRASH, FAR_NAME, FAULTY, MEMORY64, MODULE, OVERLAPPING, SIX, SYSTEM,
+    THREAD_NAME, THRICE, UNLOADED,
 };
 pub use crate::texts::{
     CODEVIEW_LINE, FAULTY_TEXT, FAULTY_TOLD, FAULTY_VERDICTS, MODULE_FILE_TEXT, SYSTEM_TEXT,

@@ -27,6 +27,25 @@ pub struct HeapCounts {
     pub peak: u64,
 }
 
+impl HeapCounts {
+    /// What is counted if at most `peak` bytes are out at once, of so many in all, by so many growths, and all are
+    /// given back.
+    pub fn given_back(peak: u64, bytes: u64, growths: u64) -> HeapCounts {
+        HeapCounts {
+            growths,
+            bytes,
+            out: 0,
+            held: 0,
+            peak,
+        }
+    }
+
+    /// What is counted if each of so many bytes is taken once, by so many growths, and all are given back.
+    pub fn once(bytes: u64, growths: u64) -> HeapCounts {
+        HeapCounts::given_back(bytes, bytes, growths)
+    }
+}
+
 #[derive(Clone, Copy)]
 struct Metering {
     refusal: Refusal,

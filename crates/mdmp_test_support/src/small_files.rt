@@ -81,5 +81,19 @@ pub const COMMENT: [u32; 5] = [10, 5, 44, 0x04030201, 5];
 /// The name `abcd` of thread 7, which stands at 60.
 pub const THREAD_NAME: [u32; 10] = [24, 16, 44, 1, 7, 60, 0, 8, 0x00620061, 0x00640063];
 
+/// The same name, whose place of 64 bits is past each file.
+pub const FAR_NAME: [u32; 10] = [
+    24,
+    16,
+    44,
+    1,
+    7,
+    0xffff_fffc,
+    0xffff_ffff,
+    8,
+    0x00620061,
+    0x00640063,
+];
+
 /// An unloaded module whose name stands at 80, behind these numbers.
 pub const UNLOADED: [u32; 12] = [14, 36, 44, 12, 24, 1, 0, 0, 0, 0, 0, 80];

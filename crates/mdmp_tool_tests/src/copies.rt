@@ -1,6 +1,7 @@
 //! What `copy` writes of files, how much it reads, and which types it copies.
 use crate::commands::{CallWay, CommandRun, StoreWay, Task};
 use crate::files::{File, bytes_of};
+use crate::over_budget;
 use crate::runs::{
     OF_CRASH, RunAnswer, USUAL, Within, assert_wrote, run_bytes, run_file, run_over, run_within,
 };
@@ -8,7 +9,7 @@ use crate::same::assert_same_at;
 use crate::watched::Watched;
 use mdmp_source::MemoryStore;
 use mdmp_test_support::{ABSENT_STACK, CRASH, Room, SIX, SYSTEM, THREAD_NAME};
-use mdmp_tool::{LayoutFault, PartName, ReadFault, ToolFault, copied};
+use mdmp_tool::{LayoutFault, PartName, ReadFault, ToolFault, copied, first_not_copied};
 use std::alloc::Global;
 use std::cell::Cell;
 use std::process::Abort;
@@ -40,246 +41,187 @@ const LEAST: Within = (168, 0, None, None, None);
 
 /// Which types are copied out of a file, in which way, within which limits, what is answered and written, and how many
 /// bytes are fetched, where a source tells it.
-type CopyRow<'a> = (
-    File<'a>,
-    &'a [u32],
-    CallWay,
-    Within,
-    RunAnswer,
-    File<'a>,
-    Option<u128>,
-);
+#[derive(Clone, Copy)]
+struct CopyRow<'a> {
+    file: File<'a>,
+    types: &'a [u32],
+    way: CallWay,
+    within: Within,
+    answer: RunAnswer,
+    copy: File<'a>,
+    fetched: Option<u128>,
+}
+
+/// A copy of the crash, over a store.
+const COPY: CopyRow<'static> = CopyRow {
+    file: SIX_FILE,
+    types: &[3, 6],
+    way: CallWay::Store,
+    within: LEAST,
+    answer: Ok(292),
+    copy: CRASH_FILE,
+    fetched: None,
+};
+
+/// A copy of the crash, over a source.
+const COPY_READ: CopyRow<'static> = CopyRow {
+    way: CallWay::Source,
+    fetched: Some(778),
+    ..COPY
+};
+
+/// A copy of the crash over a source, of which nothing is written.
+const NO_COPY: CopyRow<'static> = CopyRow {
+    way: CallWay::Source,
+    answer: OVER_MEMORY,
+    copy: NOTHING,
+    ..COPY
+};
 
 const ROWS: [CopyRow<'static>; 11] = [
-    (
-        SIX_FILE,
-        &[3, 6],
-        CallWay::Store,
-        LEAST,
-        Ok(292),
-        CRASH_FILE,
-        None,
-    ),
-    (
-        SIX_FILE,
-        &[6, 200000, 3, 3],
-        CallWay::Store,
-        LEAST,
-        Ok(292),
-        CRASH_FILE,
-        None,
-    ),
-    (
-        SIX_FILE,
-        &[3, 6],
-        CallWay::Source,
-        USUAL,
-        Ok(292),
-        CRASH_FILE,
-        Some(778),
-    ),
+    CopyRow { ..COPY },
+    CopyRow {
+        types: &[6, 200000, 3, 3],
+        ..COPY
+    },
+    CopyRow {
+        within: USUAL,
+        ..COPY_READ
+    },
     // The name of a thread.
-    (
-        File::Numbers(1, &THREAD_NAME),
-        &[24],
-        CallWay::Store,
-        (168, 8, None, None, None),
-        Ok(76),
-        File::NumbersThenBytes(1, &THREAD_NAME, &[0; 4]),
-        None,
-    ),
+    CopyRow {
+        file: File::Numbers(1, &THREAD_NAME),
+        types: &[24],
+        within: (168, 8, None, None, None),
+        answer: Ok(76),
+        copy: File::NumbersThenBytes(1, &THREAD_NAME, &[0; 4]),
+        ..COPY
+    },
     // No stream.
-    (
-        SIX_FILE,
-        &[200000],
-        CallWay::Store,
-        LEAST,
-        Ok(32),
-        File::Numbers(0, &[]),
-        None,
-    ),
+    CopyRow {
+        types: &[200000],
+        answer: Ok(32),
+        copy: File::Numbers(0, &[]),
+        ..COPY
+    },
     // A stream of a user is copied as its bytes, and the location of an unused entry is not looked at.
-    (
-        File::NumbersThenBytes(2, &[0, 7, 0xffff_ffff, 65536, 3, 60], b"gap!abc"),
-        &[65536, 0],
-        CallWay::Store,
-        LEAST,
-        Ok(60),
-        File::NumbersThenBytes(2, &[0, 0, 0, 65536, 3, 56], b"abc\0"),
-        None,
-    ),
+    CopyRow {
+        file: File::NumbersThenBytes(2, &[0, 7, 0xffff_ffff, 65536, 3, 60], b"gap!abc"),
+        types: &[65536, 0],
+        answer: Ok(60),
+        copy: File::NumbersThenBytes(2, &[0, 0, 0, 65536, 3, 56], b"abc\0"),
+        ..COPY
+    },
     // A part of 2 MiB.
-    (
-        File::Large,
-        &[5],
-        CallWay::Store,
-        LEAST,
-        Ok(2_097_216),
-        File::Large,
-        None,
-    ),
+    CopyRow {
+        file: File::Large,
+        types: &[5],
+        answer: Ok(2_097_216),
+        copy: File::Large,
+        ..COPY
+    },
     // A context that ends one byte past the file, and one that does not.
-    (
-        File::FirstOfNumbers(&ABSENT_STACK, 96),
-        &[3],
-        CallWay::Store,
-        LEAST,
-        Err(ToolFault::Reading(OUTSIDE)),
-        NOTHING,
-        None,
-    ),
-    (
-        File::FirstOfNumbers(&ABSENT_STACK, 97),
-        &[3],
-        CallWay::Store,
-        LEAST,
-        Ok(100),
-        File::Numbers(1, &ABSENT_STACK),
-        None,
-    ),
+    CopyRow {
+        file: File::FirstOfNumbers(&ABSENT_STACK, 96),
+        types: &[3],
+        answer: Err(ToolFault::Reading(OUTSIDE)),
+        copy: NOTHING,
+        ..COPY
+    },
+    CopyRow {
+        file: File::FirstOfNumbers(&ABSENT_STACK, 97),
+        types: &[3],
+        answer: Ok(100),
+        copy: File::Numbers(1, &ABSENT_STACK),
+        ..COPY
+    },
     // A name that is too long, and one that is not.
-    (
-        File::Bytes(&SYSTEM),
-        &[7],
-        CallWay::Store,
-        (168, 27, None, None, None),
-        Err(ToolFault::Reading(LONG_NAME)),
-        NOTHING,
-        None,
-    ),
-    (
-        File::Bytes(&SYSTEM),
-        &[7],
-        CallWay::Store,
-        (168, 28, None, None, None),
-        Ok(136),
-        File::Bytes(&SYSTEM),
-        None,
-    ),
+    CopyRow {
+        file: File::Bytes(&SYSTEM),
+        types: &[7],
+        within: (168, 27, None, None, None),
+        answer: Err(ToolFault::Reading(LONG_NAME)),
+        copy: NOTHING,
+        ..COPY
+    },
+    CopyRow {
+        file: File::Bytes(&SYSTEM),
+        types: &[7],
+        within: (168, 28, None, None, None),
+        answer: Ok(136),
+        copy: File::Bytes(&SYSTEM),
+        ..COPY
+    },
 ];
 
 /// Copies at their limits.
 const LIMITED: [CopyRow<'static>; 12] = [
     // A copy past the greatest place. Its budget is tested first.
-    (
-        File::Crowded,
-        &[10],
-        CallWay::Store,
-        LEAST,
-        TOO_LARGE,
-        NOTHING,
-        None,
-    ),
-    (
-        File::Crowded,
-        &[10],
-        CallWay::Source,
-        (168, 0, Some(CROWDED), None, None),
-        TOO_LARGE,
-        NOTHING,
-        None,
-    ),
-    (
-        File::Crowded,
-        &[10],
-        CallWay::Source,
-        (168, 0, Some(CROWDED - 1), None, None),
-        Err(ToolFault::CopyBudget { needed: 4400013232 }),
-        NOTHING,
-        None,
-    ),
+    CopyRow {
+        file: File::Crowded,
+        types: &[10],
+        way: CallWay::Store,
+        answer: TOO_LARGE,
+        ..NO_COPY
+    },
+    CopyRow {
+        file: File::Crowded,
+        types: &[10],
+        within: (168, 0, Some(CROWDED), None, None),
+        answer: TOO_LARGE,
+        ..NO_COPY
+    },
+    CopyRow {
+        file: File::Crowded,
+        types: &[10],
+        within: (168, 0, Some(CROWDED - 1), None, None),
+        answer: Err(ToolFault::CopyBudget { needed: 4400013232 }),
+        ..NO_COPY
+    },
     // A budget that ends the opening. The list of threads stands at 196, and the exception at 264.
-    (
-        SIX_FILE,
-        &[3, 6],
-        CallWay::Source,
-        (168, 0, Some(31), None, None),
-        Err(ToolFault::Budget {
-            offset: 0,
-            size: 32,
-        }),
-        NOTHING,
-        None,
-    ),
-    (
-        SIX_FILE,
-        &[3, 6],
-        CallWay::Source,
-        (168, 0, Some(103), None, None),
-        Err(ToolFault::Budget {
-            offset: 32,
-            size: 72,
-        }),
-        NOTHING,
-        None,
-    ),
-    (
-        SIX_FILE,
-        &[3, 6],
-        CallWay::Source,
-        (168, 0, Some(155), None, None),
-        Err(ToolFault::Budget {
-            offset: 196,
-            size: 52,
-        }),
-        NOTHING,
-        None,
-    ),
+    CopyRow {
+        within: (168, 0, Some(31), None, None),
+        answer: over_budget!(0, 32),
+        ..NO_COPY
+    },
+    CopyRow {
+        within: (168, 0, Some(103), None, None),
+        answer: over_budget!(32, 72),
+        ..NO_COPY
+    },
+    CopyRow {
+        within: (168, 0, Some(155), None, None),
+        answer: over_budget!(196, 52),
+        ..NO_COPY
+    },
     // A limit of memory.
-    (
-        SIX_FILE,
-        &[3, 6],
-        CallWay::Source,
-        (168, 0, None, Some(0), None),
-        OVER_MEMORY,
-        NOTHING,
-        Some(32),
-    ),
-    (
-        SIX_FILE,
-        &[3, 6],
-        CallWay::Source,
-        (168, 0, None, Some(HELD - 2), None),
-        OVER_MEMORY,
-        NOTHING,
-        Some(32),
-    ),
-    (
-        SIX_FILE,
-        &[3, 6],
-        CallWay::Source,
-        (168, 0, None, Some(HELD - 1), None),
-        OVER_MEMORY,
-        NOTHING,
-        Some(32),
-    ),
-    (
-        SIX_FILE,
-        &[3, 6],
-        CallWay::Source,
-        (168, 0, None, Some(HELD), None),
-        Ok(292),
-        CRASH_FILE,
-        Some(778),
-    ),
-    (
-        SIX_FILE,
-        &[3, 6],
-        CallWay::Source,
-        (168, 0, None, Some(HELD + 1), None),
-        Ok(292),
-        CRASH_FILE,
-        Some(778),
-    ),
-    (
-        SIX_FILE,
-        &[3, 6],
-        CallWay::Source,
-        (168, 0, None, Some(18446744073709551615), None),
-        Ok(292),
-        CRASH_FILE,
-        Some(778),
-    ),
+    CopyRow {
+        within: (168, 0, None, Some(0), None),
+        fetched: Some(32),
+        ..NO_COPY
+    },
+    CopyRow {
+        within: (168, 0, None, Some(HELD - 2), None),
+        fetched: Some(32),
+        ..NO_COPY
+    },
+    CopyRow {
+        within: (168, 0, None, Some(HELD - 1), None),
+        fetched: Some(32),
+        ..NO_COPY
+    },
+    CopyRow {
+        within: (168, 0, None, Some(HELD), None),
+        ..COPY_READ
+    },
+    CopyRow {
+        within: (168, 0, None, Some(HELD + 1), None),
+        ..COPY_READ
+    },
+    CopyRow {
+        within: (168, 0, None, Some(18446744073709551615), None),
+        ..COPY_READ
+    },
 ];
 
 const OUTSIDE: ReadFault = ReadFault::PartOutside {
@@ -298,7 +240,16 @@ const LONG_NAME: ReadFault = ReadFault::NameTooLong {
 
 /// Asserts what is copied.
 fn assert_rows(rt: &impl Abort, alloc: Global, rows: &[CopyRow<'_>]) {
-    for (file, types, way, within, answer, copy, fetched) in rows {
+    for row in rows {
+        let CopyRow {
+            file,
+            types,
+            way,
+            within,
+            answer,
+            copy,
+            fetched,
+        } = row;
         let wanted = bytes_of(rt, alloc, copy);
         let room = Room {
             all: wanted.len().saturating_add(100),
@@ -338,6 +289,22 @@ fn types_are_copied_or_not(rt: HostRuntime) {
     ];
     assert_copied(&rt, &types, true);
     assert_copied(&rt, &[1, 2, 8, 12, 13, 17, 23, 25, 0x8000, 65535], false);
+}
+
+/// The first of these types that is not copied. They fill a block, so that a read past the last one is found.
+fn first_of(rt: &impl Abort, alloc: Global, types: &[u32]) -> Option<u32> {
+    let kept = types.to_vec(alloc).expect(rt, "memory for types");
+    first_not_copied(&kept)
+}
+
+#[test]
+fn first_type_that_is_not_copied_is_one_of_those_given(rt: HostRuntime) {
+    let types = [3, 6, 12, 13];
+    assert_same_at(&rt, &0, first_of(&rt, rt.alloc(), &types[..0]), None);
+    assert_same_at(&rt, &2, first_of(&rt, rt.alloc(), &types[..2]), None);
+    assert_same_at(&rt, &3, first_of(&rt, rt.alloc(), &types[..3]), Some(12));
+    assert_same_at(&rt, &4, first_of(&rt, rt.alloc(), &types[1..]), Some(12));
+    assert_same_at(&rt, &1, first_of(&rt, rt.alloc(), &types[3..]), Some(13));
 }
 
 /// Asserts that types are refused for the first that is not copied, before the first call of a store, which would fail;

@@ -145,13 +145,7 @@ fn run_with(
 /// So many bytes, of which each is taken once, by so many growths, and all are given back.
 fn once(taken: (u64, u64)) -> HeapCounts {
     let (bytes, growths) = taken;
-    HeapCounts {
-        growths,
-        bytes,
-        out: 0,
-        held: 0,
-        peak: bytes,
-    }
+    HeapCounts::once(bytes, growths)
 }
 
 /// Asserts what the command of a row takes at its least limit of memory, and with a byte less.

@@ -11,13 +11,19 @@ mod commands;
 #[cfg(test)]
 mod copies;
 #[cfg(test)]
+mod copy_fault_rows;
+#[cfg(test)]
 mod failing_outputs;
 #[cfg(test)]
 mod failing_stores;
 #[cfg(test)]
+mod fault_rows;
+#[cfg(test)]
 mod faults;
 #[cfg(test)]
 mod files;
+#[cfg(test)]
+mod growth_limits;
 #[cfg(test)]
 mod growths;
 #[cfg(test)]
@@ -25,7 +31,15 @@ mod heaps;
 #[cfg(test)]
 mod line_outs;
 #[cfg(test)]
+mod list_ends;
+#[cfg(test)]
+mod list_faults;
+#[cfg(test)]
 mod lists;
+#[cfg(test)]
+mod long_lines;
+#[cfg(test)]
+mod memory_prints;
 #[cfg(test)]
 mod part_checks;
 mod print_items;
@@ -41,5 +55,7 @@ mod summary_ends;
 mod summary_objects;
 #[cfg(test)]
 mod texts;
+#[cfg(test)]
+mod unopened;
 #[cfg(test)]
 mod watched;

@@ -1,7 +1,8 @@
 //! What `check --parts` prints in each way, and how much it reads.
 use crate::commands::{CallWay, Task};
 use crate::files::{EMPTY, File};
-use crate::prints::{BAD_TWICE, GOOD, LEAST, PrintRow, SHORT, WIDE, assert_rows};
+use crate::over_budget;
+use crate::prints::{BAD_TWICE, CHECK, PrintRow, SHORT, WIDE, assert_rows};
 use crate::runs::{PARTS, USUAL, WIDE_PARTS};
 use mdmp_test_support::FAULTY_VERDICTS;
 use mdmp_tool::{LINE_ROOM, LineForm, ToolFault};
@@ -45,146 +46,114 @@ const LOST_STACK_TEXT: &str =
 
 const OBJECTS: Task<'static> = Task::CheckParts(LineForm::Json);
 
+/// A check of parts of the system, over a store.
+const PART_CHECK: PrintRow<'static> = PrintRow {
+    task: PARTS,
+    ..CHECK
+};
+
+/// A check of parts of the thread whose stack is lost, over a source.
+const LOST: PrintRow<'static> = PrintRow {
+    file: LOST_STACK,
+    way: CallWay::Source,
+    within: USUAL,
+    answer: Ok(1),
+    text: LOST_STACK_TEXT,
+    fetched: Some(96),
+    ..PART_CHECK
+};
+
+/// A check of parts of ranges of memory, over a source.
+const PARTS_OF_WIDE: PrintRow<'static> = PrintRow {
+    file: WIDE,
+    way: CallWay::Source,
+    answer: Ok(1),
+    text: WIDE_PARTS,
+    fetched: Some(108),
+    ..PART_CHECK
+};
+
 const PART_CHECKS: [PrintRow<'static>; 14] = [
-    (
-        GOOD,
-        PARTS,
-        CallWay::Store,
-        LEAST,
-        Ok(0),
-        "entry 0: ok\n",
-        None,
-    ),
-    (
-        WHOLE_STACK,
-        PARTS,
-        CallWay::Store,
-        LEAST,
-        Ok(0),
-        "entry 0: ok\n",
-        None,
-    ),
-    (
-        CUT_STACK,
-        PARTS,
-        CallWay::Store,
-        LEAST,
-        Ok(1),
-        LOST_STACK_TEXT,
-        None,
-    ),
-    (
-        LOST_STACK,
-        PARTS,
-        CallWay::Source,
-        USUAL,
-        Ok(1),
-        LOST_STACK_TEXT,
-        Some(96),
-    ),
+    PrintRow { ..PART_CHECK },
+    PrintRow {
+        file: WHOLE_STACK,
+        ..PART_CHECK
+    },
+    PrintRow {
+        file: CUT_STACK,
+        answer: Ok(1),
+        text: LOST_STACK_TEXT,
+        ..PART_CHECK
+    },
+    PrintRow { ..LOST },
     // An entry that loses two parts is one bad entry.
-    (
-        LOST_TWICE,
-        PARTS,
-        CallWay::Source,
-        USUAL,
-        Ok(1),
-        "entry 0 item 0: stack outside the file: offset 96 size 4
+    PrintRow {
+        file: LOST_TWICE,
+        text: "entry 0 item 0: stack outside the file: offset 96 size 4
 entry 0 item 0: context outside the file: offset 97 size 6
 entry 0: ok
 ",
-        Some(96),
-    ),
-    (
-        LOST_STACK,
-        Task::Check,
-        CallWay::Source,
-        USUAL,
-        Ok(0),
-        "entry 0: ok\n",
-        Some(96),
-    ),
-    (
-        LOST_STACK,
-        OBJECTS,
-        CallWay::Store,
-        LEAST,
-        Ok(1),
-        "{\"line\":\"part\",\"entry\":0,\"item\":\"0\",\"part\":\"stack\",\"offset\":\"96\",\"size\":\"4\"}
+        ..LOST
+    },
+    PrintRow {
+        task: Task::Check,
+        answer: Ok(0),
+        text: "entry 0: ok\n",
+        ..LOST
+    },
+    PrintRow {
+        file: LOST_STACK,
+        task: OBJECTS,
+        answer: Ok(1),
+        text: "{\"line\":\"part\",\"entry\":0,\"item\":\"0\",\"part\":\"stack\",\"offset\":\"96\",\"size\":\"4\"}
 {\"line\":\"entry\",\"entry\":0,\"fault\":null}
 ",
-        None,
-    ),
-    (
-        BAD_TWICE,
-        PARTS,
-        CallWay::Blocks(LINE_ROOM),
-        USUAL,
-        Ok(2),
-        FAULTY_VERDICTS,
-        Some(236),
-    ),
-    (
-        File::Bytes(EMPTY),
-        PARTS,
-        CallWay::Store,
-        LEAST,
-        Ok(0),
-        "",
-        None,
-    ),
-    (
-        File::Bytes(&[0; 31]),
-        PARTS,
-        CallWay::Store,
-        LEAST,
-        SHORT,
-        "",
-        None,
-    ),
-    (
-        WIDE,
-        PARTS,
-        CallWay::Blocks(LINE_ROOM),
-        USUAL,
-        Ok(1),
-        WIDE_PARTS,
-        Some(108),
-    ),
+        ..PART_CHECK
+    },
+    PrintRow {
+        file: BAD_TWICE,
+        way: CallWay::Blocks(LINE_ROOM),
+        within: USUAL,
+        answer: Ok(2),
+        text: FAULTY_VERDICTS,
+        fetched: Some(236),
+        ..PART_CHECK
+    },
+    PrintRow {
+        file: File::Bytes(EMPTY),
+        text: "",
+        ..PART_CHECK
+    },
+    PrintRow {
+        file: File::Bytes(&[0; 31]),
+        answer: SHORT,
+        text: "",
+        ..PART_CHECK
+    },
+    PrintRow {
+        way: CallWay::Blocks(LINE_ROOM),
+        within: USUAL,
+        ..PARTS_OF_WIDE
+    },
     // The read limit at its edge: the header, an entry, the head of the list, and the list.
-    (
-        WIDE,
-        PARTS,
-        CallWay::Source,
-        (168, 48, Some(108), None, None),
-        Ok(1),
-        WIDE_PARTS,
-        Some(108),
-    ),
-    (
-        WIDE,
-        PARTS,
-        CallWay::Source,
-        (168, 48, Some(107), None, None),
-        Err(ToolFault::Budget {
-            offset: 44,
-            size: 48,
-        }),
-        "",
-        Some(60),
-    ),
-    (
-        LOST_STACK,
-        PARTS,
-        CallWay::Source,
-        (168, 48, Some(95), None, None),
-        Err(ToolFault::Budget {
-            offset: 44,
-            size: 52,
-        }),
-        "",
-        Some(44),
-    ),
+    PrintRow {
+        within: (168, 48, Some(108), None, None),
+        ..PARTS_OF_WIDE
+    },
+    PrintRow {
+        within: (168, 48, Some(107), None, None),
+        answer: over_budget!(44, 48),
+        text: "",
+        fetched: Some(60),
+        ..PARTS_OF_WIDE
+    },
+    PrintRow {
+        within: (168, 48, Some(95), None, None),
+        answer: over_budget!(44, 52),
+        text: "",
+        fetched: Some(44),
+        ..LOST
+    },
 ];
 
 #[test]

@@ -1,6 +1,7 @@
 //! Runs of the commands over files, and what they come to.
-use crate::commands::{AddressSpan, CallWay, CommandRun, End, StoreWay, Task, end_over};
+use crate::commands::{CallWay, CommandRun, End, StoreWay, Task, end_over};
 use crate::files::{File, bytes_of};
+use crate::hex_at;
 use crate::same::assert_same_at;
 use mdmp_source::{MemoryStore, PatchyOut, PatchyStore, Store, TwoFaces};
 use mdmp_test_support::{HeapCounts, MeteredHeap, Refusal, Room};
@@ -9,11 +10,30 @@ use std::alloc::Global;
 use std::fmt::Debug;
 use std::process::Abort;
 
+/// `hex` of so many bytes at an address. No constant calls a function, so that this is a macro.
+#[macro_export]
+macro_rules! hex_at {
+    ($address:expr, $length:expr) => {
+        $crate::commands::Task::Hex($crate::commands::AddressSpan {
+            address: $address,
+            length: $length,
+        })
+    };
+}
+
+/// A read of so many bytes at an offset that is over the budget.
+#[macro_export]
+macro_rules! over_budget {
+    ($offset:expr, $size:expr) => {
+        Err(ToolFault::Budget {
+            offset: $offset,
+            size: $size,
+        })
+    };
+}
+
 /// The four bytes at 0x1000.
-pub const FOUR: Task<'static> = Task::Hex(AddressSpan {
-    address: 0x1000,
-    length: 4,
-});
+pub const FOUR: Task<'static> = hex_at!(0x1000, 4);
 
 /// A check of parts, as lines of text.
 pub const PARTS: Task<'static> = Task::CheckParts(LineForm::Text);

@@ -31,72 +31,56 @@ unts\":{\"streams\":\"1\",\"threads\":\"0\",\"modules\":\"1\",\"exceptions\":\"0
 \":null,\"main_module\":0,\"modules\":[{\"filename\":null,\"base_addr\":\"0x0000000000000000\",\
 \"end_addr\":\"0x0000000000000000\",\"version\":\"0.0.0.0\",\"code_id\":null,\"debug_file\":\"a.\",\"debug_id\":\"00112233445566778899AABBCCDDEEFF1\"}],\"threads\":[],\"crash_info\":null}\n";
 
+/// The object of a module, over a source.
+const OF_MODULE: PrintRow<'static> = PrintRow {
+    file: File::Module(30, CODEVIEW_RECORD),
+    task: OBJECT,
+    way: CallWay::Source,
+    within: USUAL,
+    answer: Ok(0),
+    text: MODULE_OBJECT,
+    fetched: None,
+};
+
+/// That of a crash.
+const OF_CRASH: PrintRow<'static> = PrintRow {
+    file: File::Numbers(2, &CRASH),
+    text: CRASH_OBJECT,
+    ..OF_MODULE
+};
+
+/// That of a file with names.
+const OF_NAMED: PrintRow<'static> = PrintRow {
+    file: File::Numbers(1, &NAMED),
+    text: NAMED_OBJECT,
+    ..OF_MODULE
+};
+
 const OBJECTS: [PrintRow<'static>; 7] = [
-    (
-        File::Numbers(1, &NAMED),
-        OBJECT,
-        CallWay::Source,
-        USUAL,
-        Ok(0),
-        NAMED_OBJECT,
-        None,
-    ),
+    OF_NAMED,
     // A name limit above the size of the file gives the same object.
-    (
-        File::Numbers(1, &NAMED),
-        OBJECT,
-        CallWay::Blocks(1031),
-        (65536, 1000, None, None, None),
-        Ok(0),
-        NAMED_OBJECT,
-        None,
-    ),
-    (
-        File::Numbers(2, &CRASH),
-        OBJECT,
-        CallWay::Blocks(4096),
-        (168, 28, None, None, None),
-        Ok(0),
-        CRASH_OBJECT,
-        None,
-    ),
-    (
-        File::Numbers(2, &CRASH),
-        OBJECT,
-        CallWay::Source,
-        USUAL,
-        Ok(0),
-        CRASH_OBJECT,
-        None,
-    ),
-    (
-        File::Module(30, CODEVIEW_RECORD),
-        OBJECT,
-        CallWay::Source,
-        USUAL,
-        Ok(0),
-        MODULE_OBJECT,
-        None,
-    ),
+    PrintRow {
+        way: CallWay::Blocks(1031),
+        within: (65536, 1000, None, None, None),
+        ..OF_NAMED
+    },
+    PrintRow {
+        way: CallWay::Blocks(4096),
+        within: (168, 28, None, None, None),
+        ..OF_CRASH
+    },
+    OF_CRASH,
+    OF_MODULE,
     // What is read aside is 24 bytes of the record, and as many of the name as the limit still allows.
-    (
-        File::Module(30, CODEVIEW_RECORD),
-        OBJECT,
-        CallWay::Source,
-        (168, 28, None, None, Some(26)),
-        Ok(0),
-        CUT_OBJECT,
-        None,
-    ),
-    (
-        File::Module(30, CODEVIEW_RECORD),
-        OBJECT,
-        CallWay::Source,
-        (168, 28, None, None, Some(30)),
-        Ok(0),
-        MODULE_OBJECT,
-        None,
-    ),
+    PrintRow {
+        within: (168, 28, None, None, Some(26)),
+        text: CUT_OBJECT,
+        ..OF_MODULE
+    },
+    PrintRow {
+        within: (168, 28, None, None, Some(30)),
+        ..OF_MODULE
+    },
 ];
 
 #[test]

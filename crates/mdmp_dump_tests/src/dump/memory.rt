@@ -5,19 +5,13 @@ use crate::same::assert_same_at;
 use linked_list_allocator::LocalHeap;
 use mdmp_dump::{MemoryRange, ReadFault, Stream, Thread};
 use mdmp_lister::{Choice, Limits, OpenFault};
-use mdmp_test_support::{MODULE, OVERLAPPING};
+use mdmp_test_support::{MODULE, OVERLAPPING, limits};
 use std::alloc::Global;
 use std::mem::size_of;
 use std::process::Abort;
 
 /// A window of 176 bytes and names of 32, both multiples of 16 as a heap's blocks are.
-const LIMITS: Limits = Limits {
-    window: 176,
-    name: 32,
-    budget: None,
-    memory: None,
-    aside: None,
-};
+const LIMITS: Limits = limits!(176, 32);
 
 /// Two ranges of memory.
 const RANGES: Sample<'static> = Sample::Numbers(1, &OVERLAPPING);

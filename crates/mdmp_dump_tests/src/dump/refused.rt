@@ -1,11 +1,15 @@
 //! Files that give no dump.
 use super::built::value_fault;
-use crate::files::{ABSENT_STACK_FILE, CRASH_FILE, LEAST, SYSTEM_FILE, Sample, file_of};
+use crate::faults::{
+    COMMENT_OUTSIDE, CONTEXT_OUTSIDE, DIRECTORY_FAILS, EXCEPTION_FAILS, HEADER_FAILS, NAME_OUTSIDE,
+    RANGE_OUTSIDE, THREADS_FAIL,
+};
+use crate::files::{ABSENT_STACK_FILE, CRASH_FILE, EIGHT, LEAST, SYSTEM_FILE, Sample, file_of};
 use crate::same::assert_same_at;
 use mdmp_dump::{PartName, ReadFault};
 use mdmp_lister::{Choice, FaultKind, Limits, ListFault, OpenFault};
 use mdmp_source::{MemoryStore, PatchyStore, Source, SourceFault};
-use mdmp_test_support::{ABSENT_STACK, COMMENT, FAULTY, MEMORY64};
+use mdmp_test_support::{ABSENT_STACK, COMMENT, FAULTY, MEMORY64, limits};
 
 /// A file, how it is read, why it gives no dump, and how many bytes are fetched of it.
 #[derive(Clone, Copy)]
@@ -17,42 +21,6 @@ struct NoDumpRow {
     fault: Option<ReadFault>,
     fetched: u128,
 }
-
-/// Names of at most 8 bytes.
-const EIGHT: Limits = Limits {
-    window: 168,
-    name: 8,
-    budget: None,
-    memory: None,
-    aside: None,
-};
-
-/// Names of at most 28 bytes, and at most 43 bytes that are fetched.
-const WITHIN_43: Limits = Limits {
-    window: 168,
-    name: 28,
-    budget: Some(43),
-    memory: None,
-    aside: None,
-};
-
-/// The same, but for the budget.
-const WITHIN_99: Limits = Limits {
-    window: 168,
-    name: 28,
-    budget: Some(99),
-    memory: None,
-    aside: None,
-};
-
-/// The same, but for the budget.
-const WITHIN_132: Limits = Limits {
-    window: 168,
-    name: 28,
-    budget: Some(132),
-    memory: None,
-    aside: None,
-};
 
 const REFUSED: [NoDumpRow; 13] = [
     NoDumpRow {
@@ -92,13 +60,7 @@ const REFUSED: [NoDumpRow; 13] = [
         sample: Sample::Cut(1, &ABSENT_STACK, 96),
         limits: LEAST,
         parts: 1,
-        fault: Some(ReadFault::PartOutside {
-            entry: 0,
-            index: 0,
-            part: PartName::Context,
-            offset: 96,
-            size: 1,
-        }),
+        fault: Some(CONTEXT_OUTSIDE),
         fetched: 32 + 12 + 52,
     },
     NoDumpRow {
@@ -106,13 +68,7 @@ const REFUSED: [NoDumpRow; 13] = [
         sample: Sample::Parts(&[&MEMORY64], 98),
         limits: LEAST,
         parts: 4,
-        fault: Some(ReadFault::PartOutside {
-            entry: 0,
-            index: 1,
-            part: PartName::Memory,
-            offset: 96,
-            size: 4,
-        }),
+        fault: Some(RANGE_OUTSIDE),
         // The head of a list of memory is read as the file is opened.
         fetched: 32 + 12 + 16 + 48 + 4,
     },
@@ -141,13 +97,7 @@ const REFUSED: [NoDumpRow; 13] = [
         sample: Sample::Numbers(3, &FAULTY),
         limits: LEAST,
         parts: 0,
-        fault: Some(ReadFault::List(ListFault {
-            entry: 1,
-            index: Some(0),
-            kind: FaultKind::NameLengthOutside,
-            offset: 4294967295,
-            size: 4,
-        })),
+        fault: Some(NAME_OUTSIDE),
         fetched: 32 + 36 + 56 + 112,
     },
     NoDumpRow {
@@ -155,19 +105,13 @@ const REFUSED: [NoDumpRow; 13] = [
         sample: Sample::Cut(1, &COMMENT, 48),
         limits: LEAST,
         parts: 4,
-        fault: Some(ReadFault::List(ListFault {
-            entry: 0,
-            index: None,
-            kind: FaultKind::StreamOutside,
-            offset: 44,
-            size: 5,
-        })),
+        fault: Some(COMMENT_OUTSIDE),
         fetched: 32 + 12,
     },
     NoDumpRow {
         name: "a budget that ends in the directory",
         sample: SYSTEM_FILE,
-        limits: WITHIN_43,
+        limits: limits!(168, 28, Some(43), None),
         parts: 0,
         fault: Some(ReadFault::Opening(OpenFault::Budget {
             offset: 32,
@@ -178,7 +122,7 @@ const REFUSED: [NoDumpRow; 13] = [
     NoDumpRow {
         name: "a budget that ends in the stream",
         sample: SYSTEM_FILE,
-        limits: WITHIN_99,
+        limits: limits!(168, 28, Some(99), None),
         parts: 0,
         fault: Some(ReadFault::List(ListFault {
             entry: 0,
@@ -192,7 +136,7 @@ const REFUSED: [NoDumpRow; 13] = [
     NoDumpRow {
         name: "a budget that suffices",
         sample: SYSTEM_FILE,
-        limits: WITHIN_132,
+        limits: limits!(168, 28, Some(132), None),
         parts: 0,
         fault: None,
         fetched: 132,
@@ -215,25 +159,13 @@ fn first_of_its_reasons_is_told_for_which_a_file_gives_no_dump(rt: HostRuntime) 
 /// number.
 const FAILING: [Option<ReadFault>; 8] = [
     // The header, and the directory.
-    Some(ReadFault::Opening(OpenFault::Source(SourceFault::Failed { at: 0 }))),
-    Some(ReadFault::Opening(OpenFault::Source(SourceFault::Failed { at: 32 }))),
+    Some(HEADER_FAILS),
+    Some(DIRECTORY_FAILS),
     // Of each entry its stream, by one fetch, and the parts of its record.
-    Some(ReadFault::List(ListFault {
-        entry: 0,
-        index: None,
-        kind: FaultKind::Source(SourceFault::Failed { at: 56 }),
-        offset: 56,
-        size: 0,
-    })),
+    Some(THREADS_FAIL),
     Some(ReadFault::Source(SourceFault::Failed { at: 108 })),
     Some(ReadFault::Source(SourceFault::Failed { at: 112 })),
-    Some(ReadFault::List(ListFault {
-        entry: 1,
-        index: None,
-        kind: FaultKind::Source(SourceFault::Failed { at: 120 }),
-        offset: 120,
-        size: 0,
-    })),
+    Some(EXCEPTION_FAILS),
     Some(ReadFault::Source(SourceFault::Failed { at: 288 })),
     None,
 ];

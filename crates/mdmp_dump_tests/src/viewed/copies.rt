@@ -11,7 +11,7 @@ use crate::vectors::REGION;
 use mdmp_dump::{Dump, ReadFault};
 use mdmp_source::MemoryStore;
 use mdmp_test_support::{
-    ABSENT_STACK, COMMENT, FAULTY, MEMORY64, MODULE, OVERLAPPING, THREAD_NAME, THRICE,
+    ABSENT_STACK, COMMENT, FAR_NAME, FAULTY, MEMORY64, MODULE, OVERLAPPING, THREAD_NAME, THRICE,
     endless_ranges_file, header_of, last_file,
 };
 use std::alloc::Global;
@@ -89,21 +89,7 @@ const SAMPLES: [Sample<'static>; 28] = [
     Sample::Numbers(1, &THREAD_NAME),
     // Names of threads: one that stands nowhere, and those that are read past every place of 32 bits.
     Sample::Numbers(1, &[24, 16, 44, 1, 7, 0, 0, 8, 0x00620061, 0x00640063]),
-    Sample::Numbers(
-        1,
-        &[
-            24,
-            16,
-            44,
-            1,
-            7,
-            0xffff_fffc,
-            0xffff_ffff,
-            8,
-            0x00620061,
-            0x00640063,
-        ],
-    ),
+    Sample::Numbers(1, &FAR_NAME),
     Sample::Numbers(1, &[24, 16, 44, 1, 7, 60, 1, 8, 0x00620061, 0x00640063]),
     // Lists with longer heads and records.
     Sample::Numbers(1, &[14, 44, 44, 16, 28, 1, 9, 1, 2, 3, 4, 5, 0, 9]),

@@ -5,7 +5,7 @@ use crate::same::assert_same_at;
 use mdmp_dump::{DumpView, FileView, ReadFault, ViewRefused};
 use mdmp_lister::{Choice, Limits, OpenFault};
 use mdmp_source::{MemoryStore, PatchyStore, Source, Store};
-use mdmp_test_support::COMMENT;
+use mdmp_test_support::{COMMENT, limits};
 use std::alloc::Global;
 use std::process::Abort;
 
@@ -17,13 +17,7 @@ const OPENED: u64 = 32 + 72 + 52 + 168;
 const NEEDED: u128 = 32 + 72 + 3 * (52 + 168) + 14;
 
 fn limits_of(budget: Option<u64>, memory: Option<u64>) -> Limits {
-    Limits {
-        window: 168,
-        name: 4096,
-        budget,
-        memory,
-        aside: None,
-    }
+    limits!(168, 4096, budget, memory)
 }
 
 /// What comes of opening a view of some streams: what a copy of these needs, or why they are not opened, and

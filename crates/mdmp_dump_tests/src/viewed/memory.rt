@@ -7,18 +7,12 @@ use linked_list_allocator::LocalHeap;
 use mdmp_dump::{FileView, ReadFault, ViewRefused};
 use mdmp_lister::{Choice, Limits};
 use mdmp_source::{MemoryStore, PatchyStore, Source, Store};
-use mdmp_test_support::{MODULE, MeteredHeap, OVERLAPPING, Refusal};
+use mdmp_test_support::{MODULE, MeteredHeap, OVERLAPPING, Refusal, limits};
 use std::alloc::{Allocator, Global};
 use std::process::Abort;
 
 /// A window of 176 bytes, a multiple of 16 as a heap's blocks are. No name is read.
-const LIMITS: Limits = Limits {
-    window: 176,
-    name: 4096,
-    budget: None,
-    memory: None,
-    aside: None,
-};
+const LIMITS: Limits = limits!(176, 4096);
 
 /// What comes of opening a view of the thread and the exception in a heap: why it is not opened, what was
 /// fetched by then, what the view tells that it holds, and what the heap holds.

@@ -1,21 +1,12 @@
 //! Names through a view.
 use super::{Through, ViewOutcome, write_sample};
 use crate::dump::built::fault_of;
-use crate::files::{Sample, file_of};
+use crate::files::{EIGHT, Sample, file_of};
 use crate::same::assert_same_at;
 use mdmp_dump::ReadFault;
-use mdmp_lister::{FaultKind, Limits, ListFault};
+use mdmp_lister::{FaultKind, ListFault};
 use std::alloc::Global;
 use std::process::Abort;
-
-/// Names of at most 8 bytes.
-const EIGHT: Limits = Limits {
-    window: 168,
-    name: 8,
-    budget: None,
-    memory: None,
-    aside: None,
-};
 
 /// An unloaded module, and the size of the file that it is written as, zeros behind what it is, or why it is refused, as
 /// it gives no value for the same reason.

@@ -1,6 +1,10 @@
 //! Files that give no view, and the source that comes back.
 use super::view_fault_of;
 use crate::dump::built::fault_of;
+use crate::faults::{
+    COMMENT_OUTSIDE, CONTEXT_OUTSIDE, DIRECTORY_FAILS, EXCEPTION_FAILS, HEADER_FAILS, NAME_OUTSIDE,
+    RANGE_OUTSIDE, THREADS_FAIL,
+};
 use crate::files::{CRASH_FILE, LEAST, Sample, file_of};
 use crate::same::assert_same_at;
 use mdmp_dump::{FileView, PartName, ReadFault, ViewRefused};
@@ -51,25 +55,13 @@ const REFUSED: &[NoViewRow] = &[
     NoViewRow {
         name: "a name outside",
         sample: Sample::Numbers(3, &FAULTY),
-        fault: ReadFault::List(ListFault {
-            entry: 1,
-            index: Some(0),
-            kind: FaultKind::NameLengthOutside,
-            offset: 4294967295,
-            size: 4,
-        }),
+        fault: NAME_OUTSIDE,
         fetched: 32 + 36 + 56 + 112,
     },
     NoViewRow {
         name: "a stream outside",
         sample: Sample::Cut(1, &COMMENT, 48),
-        fault: ReadFault::List(ListFault {
-            entry: 0,
-            index: None,
-            kind: FaultKind::StreamOutside,
-            offset: 44,
-            size: 5,
-        }),
+        fault: COMMENT_OUTSIDE,
         fetched: 32 + 12,
     },
     // Its head is read, and the window is filled behind it.
@@ -88,25 +80,13 @@ const REFUSED: &[NoViewRow] = &[
     NoViewRow {
         name: "a context outside",
         sample: Sample::Cut(1, &ABSENT_STACK, 96),
-        fault: ReadFault::PartOutside {
-            entry: 0,
-            index: 0,
-            part: PartName::Context,
-            offset: 96,
-            size: 1,
-        },
+        fault: CONTEXT_OUTSIDE,
         fetched: 32 + 12 + 52,
     },
     NoViewRow {
         name: "a range of memory outside",
         sample: Sample::Parts(&[&MEMORY64], 98),
-        fault: ReadFault::PartOutside {
-            entry: 0,
-            index: 1,
-            part: PartName::Memory,
-            offset: 96,
-            size: 4,
-        },
+        fault: RANGE_OUTSIDE,
         fetched: 32 + 12 + 48,
     },
     // The units are not fetched.
@@ -137,22 +117,10 @@ fn file_that_gives_no_view_gives_no_value_and_its_source_comes_back(rt: HostRunt
 /// Why the thread and the exception give no view over a store of which a call fails: this one of them, by their number.
 const FAILING: [Option<ReadFault>; 5] = [
     // The header, the directory, and both streams, each by one read.
-    Some(ReadFault::Opening(OpenFault::Source(SourceFault::Failed { at: 0 }))),
-    Some(ReadFault::Opening(OpenFault::Source(SourceFault::Failed { at: 32 }))),
-    Some(ReadFault::List(ListFault {
-        entry: 0,
-        index: None,
-        kind: FaultKind::Source(SourceFault::Failed { at: 56 }),
-        offset: 56,
-        size: 0,
-    })),
-    Some(ReadFault::List(ListFault {
-        entry: 1,
-        index: None,
-        kind: FaultKind::Source(SourceFault::Failed { at: 120 }),
-        offset: 120,
-        size: 0,
-    })),
+    Some(HEADER_FAILS),
+    Some(DIRECTORY_FAILS),
+    Some(THREADS_FAIL),
+    Some(EXCEPTION_FAILS),
     // No read of a part is made.
     None,
 ];

@@ -8,7 +8,7 @@ use crate::same::{assert_same, assert_same_at, assert_that};
 use linked_list_allocator::LocalHeap;
 use mdmp_dump::{Dump, ReadFault, Stream};
 use mdmp_lister::{Choice, FaultKind, Limits, ListFault};
-use mdmp_test_support::large_file;
+use mdmp_test_support::{large_file, limits};
 use mdmp_writer::{LayoutFault, RoundTripFault, ToMemoryFault, to_memory, write_and_read};
 use std::alloc::Global;
 use std::process::Abort;
@@ -23,19 +23,6 @@ struct BackRow {
     fault: Option<RoundTripFault>,
 }
 
-/// The least window, names of at most so many bytes, a read limit and a limit of memory.
-macro_rules! within {
-    ($name:expr, $budget:expr, $memory:expr) => {
-        Limits {
-            window: 168,
-            name: $name,
-            budget: $budget,
-            memory: $memory,
-            aside: None,
-        }
-    };
-}
-
 const BACK: [BackRow; 8] = [
     BackRow {
         name: "six streams",
@@ -47,14 +34,14 @@ const BACK: [BackRow; 8] = [
     BackRow {
         name: "a name of the limit",
         reading: SYSTEM_READING,
-        limits: within!(28, None, None),
+        limits: limits!(168, 28),
         parts: 0,
         fault: None,
     },
     BackRow {
         name: "a name past the limit",
         reading: SYSTEM_READING,
-        limits: within!(27, None, None),
+        limits: limits!(168, 27),
         parts: 0,
         fault: Some(RoundTripFault::Read(ReadFault::NameTooLong {
             entry: 0,
@@ -73,14 +60,14 @@ const BACK: [BackRow; 8] = [
     BackRow {
         name: "a limit of memory that suffices",
         reading: SYSTEM_READING,
-        limits: within!(28, None, Some(208)),
+        limits: limits!(168, 28, None, Some(208)),
         parts: 0,
         fault: None,
     },
     BackRow {
         name: "a limit of memory that does not",
         reading: SYSTEM_READING,
-        limits: within!(28, None, Some(207)),
+        limits: limits!(168, 28, None, Some(207)),
         parts: 0,
         fault: Some(RoundTripFault::Memory),
     },
@@ -88,14 +75,14 @@ const BACK: [BackRow; 8] = [
     BackRow {
         name: "a read limit that suffices",
         reading: SYSTEM_READING,
-        limits: within!(28, Some(132), None),
+        limits: limits!(168, 28, Some(132), None),
         parts: 0,
         fault: None,
     },
     BackRow {
         name: "a read limit that does not",
         reading: SYSTEM_READING,
-        limits: within!(28, Some(99), None),
+        limits: limits!(168, 28, Some(99), None),
         parts: 0,
         fault: Some(RoundTripFault::Read(ReadFault::List(ListFault {
             entry: 0,

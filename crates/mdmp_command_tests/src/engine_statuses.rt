@@ -1,0 +1,117 @@
+//! The status of a command over a store.
+use crate::commands::Shown;
+use mdmp_source::{PatchyOut, PatchyStore, Source};
+use mdmp_test_support::{MeteredHeap, limits};
+use mdmp_tool::{
+    CheckEngine, Engine, HexEngine, LINE_ROOM, Limits, LineForm, LineOut, ListEngine, TypeSet,
+    copy_and_report, print_and_report,
+};
+use std::alloc::Global;
+use std::process::Abort;
+
+/// The status of an engine that prints, in the smallest blocks.
+fn engine_status<E: Engine>(
+    rt: &impl Abort,
+    alloc: Global,
+    heap: &MeteredHeap<Global>,
+    engine: E,
+    store: PatchyStore<'_>,
+    limits: Limits,
+    out: &mut PatchyOut<Global>,
+    err: &mut PatchyOut<Global>,
+) -> u8
+    requires { E.can_print engine }
+{
+    let mut buffer = vec![in alloc; 0; LINE_ROOM].expect(rt, "memory for a block");
+    let mut blocks = LineOut::over(&mut buffer, out);
+    let source = Source::new(store);
+    print_and_report(engine, heap, source, limits, &mut blocks, err).answer
+}
+
+/// The status of a check whose lines have this form.
+fn check_status(
+    rt: &impl Abort,
+    alloc: Global,
+    heap: &MeteredHeap<Global>,
+    form: LineForm,
+    store: PatchyStore<'_>,
+    limits: Limits,
+    out: &mut PatchyOut<Global>,
+    err: &mut PatchyOut<Global>,
+) -> u8 {
+    let engine = CheckEngine { form };
+    engine_status(rt, alloc, heap, engine, store, limits, out, err)
+}
+
+/// The status of a list whose lines have this form.
+fn list_status(
+    rt: &impl Abort,
+    alloc: Global,
+    heap: &MeteredHeap<Global>,
+    form: LineForm,
+    pdb: bool,
+    store: PatchyStore<'_>,
+    limits: Limits,
+    out: &mut PatchyOut<Global>,
+    err: &mut PatchyOut<Global>,
+) -> u8 {
+    let aside = limits.aside;
+    let engine = ListEngine { form, pdb, aside };
+    engine_status(rt, alloc, heap, engine, store, limits, out, err)
+}
+
+/// The status of a command that prints two bytes from the address 16 on.
+fn hex_status(
+    rt: &impl Abort,
+    alloc: Global,
+    heap: &MeteredHeap<Global>,
+    store: PatchyStore<'_>,
+    limits: Limits,
+    out: &mut PatchyOut<Global>,
+    err: &mut PatchyOut<Global>,
+) -> u8 {
+    let engine = HexEngine {
+        alloc: heap,
+        address: 16,
+        length: 2,
+    };
+    engine_status(rt, alloc, heap, engine, store, limits, out, err)
+}
+
+/// The status of a command that prints.
+pub fn print_status(
+    rt: &impl Abort,
+    alloc: Global,
+    heap: &MeteredHeap<Global>,
+    shown: Shown,
+    store: PatchyStore<'_>,
+    limits: Limits,
+    out: &mut PatchyOut<Global>,
+    err: &mut PatchyOut<Global>,
+) -> u8 {
+    let (text, json) = (LineForm::Text, LineForm::Json);
+    match shown {
+        Shown::Verdicts => check_status(rt, alloc, heap, text, store, limits, out, err),
+        Shown::Items => list_status(rt, alloc, heap, text, false, store, limits, out, err),
+        Shown::ItemsAndSymbols => {
+            list_status(rt, alloc, heap, text, true, store, limits, out, err)
+        }
+        Shown::VerdictObjects => check_status(rt, alloc, heap, json, store, limits, out, err),
+        Shown::Objects => list_status(rt, alloc, heap, json, true, store, limits, out, err),
+        Shown::Memory => hex_status(rt, alloc, heap, store, limits, out, err),
+    }
+}
+
+/// The status of a copy.
+pub fn copy_status(
+    rt: &impl Abort,
+    heap: &MeteredHeap<Global>,
+    types: &[u32],
+    store: PatchyStore<'_>,
+    limits: Limits,
+    out: &mut PatchyOut<Global>,
+    err: &mut PatchyOut<Global>,
+) -> u8 {
+    let types = TypeSet::new(types).expect(rt, "types");
+    copy_and_report(heap, types, Source::new(store), limits, out, err).answer
+}
