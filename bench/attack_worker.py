@@ -14,7 +14,7 @@ import mmap
 import os
 import resource
 import sys
-from ctypes import POINTER, Array, Structure, byref, c_bool, c_uint8, c_uint32, c_uint64, cast, sizeof
+from ctypes import POINTER, Array, byref, c_bool, c_uint8, c_uint32, c_uint64, cast, sizeof
 from typing import Any, Callable
 
 import mdmp
@@ -25,15 +25,6 @@ from mdmp._library import Filled, fill, library
 ROOM = 64 << 20  # bytes of the buffer that a call gets; of it only what is written to takes memory
 LENGTH = 64 << 10  # addresses of memory that are asked for
 TYPES = (4, 5, 6, 16, 24)
-TABLES = ["threads", "modules", "exceptions", "systems", "unloaded", "regions", "thread_names", "ranges"]
-PLAIN = {"exceptions": "ExceptionRecord", "unloaded": "UnloadedModule"}  # whose structure is not of their own name
-
-
-def structure_of(table: str) -> type[Structure]:
-    """The structure of the rows of a table."""
-    name = PLAIN.get(table, "".join(word.capitalize() for word in table.removesuffix("s").split("_")))
-    found: type[Structure] = getattr(_structures, name)
-    return found
 
 
 class Calls:
@@ -58,7 +49,7 @@ class Calls:
 
     def rows(self, table: str) -> tuple[int, Array[Any]]:
         """How many rows a table has, as far as there is room, and the rows."""
-        item = structure_of(table)
+        item = _structures.TABLES[table].row
         _, given = self.fill(getattr(library, f"mdmp_{table}_"), item, self.limits)
         return given // sizeof(item), (item * (ROOM // sizeof(item))).from_buffer(self.buffer)
 
@@ -173,8 +164,8 @@ class Calls:
             "mdmp_ids of each module": self.ids,
             "mdmp_summary": self.summary,
         }
-        for table in TABLES:
-            call, item = getattr(library, f"mdmp_{table}_"), structure_of(table)
+        for table, (item, *_) in _structures.TABLES.items():
+            call = getattr(library, f"mdmp_{table}_")
             calls[f"mdmp_{table}"] = lambda call=call, item=item: fill(call, item, limits)  # type: ignore[misc]
         return calls
 
@@ -192,7 +183,7 @@ def opened(path: str, is_strangers: bool, name: int) -> mdmp.Dump:
 
 def properties(dump: mdmp.Dump, address: int) -> dict[str, Callable[[], Any]]:
     """Each property and method of a dump."""
-    names = ["header", "streams", "verdicts", "parts_outside", *TABLES, "memory", "summary"]
+    names = ["header", "streams", "verdicts", "parts_outside", *_structures.TABLES, "memory", "summary"]
     asked: dict[str, Callable[[], Any]] = {name: lambda name=name: getattr(dump, name) for name in names}  # type: ignore[misc]
     asked["memory.read"] = lambda: dump.memory.read(address, LENGTH).data
     asked["where, 1,000 times"] = lambda: [dump.where((1 << 64) - number) for number in range(1, 1001)]

@@ -4,6 +4,8 @@ from __future__ import annotations
 
 import textwrap
 
+from lib.generated import Stretches, filled
+
 from .interface import Argument, Call, Enum, Interface, Structure
 from .lines import WIDTH, wrapped
 
@@ -120,6 +122,15 @@ def header_text(interface: Interface) -> str:
         "#endif",
     ]
     return "\n\n".join(parts) + "\n"
+
+
+def put_page(files: Stretches, interface: Interface) -> None:
+    """The calls that give records, in a list of what there is, and among the calls whose surroundings fail in tests."""
+    names = ", ".join(f"`{table.call}`" for _, table in interface.tables)
+    files.put("docs/c.md", "| records, as an array | ", " |", names)
+    symbols = filled([f'"{table.call}_",' for _, table in interface.tables], " ", 120, "    ")
+    text = "".join(f"{line}\n" for line in symbols)
+    files.put("docs/reference/surroundings.toml", '"mdmp_list_part_", "mdmp_copy_",\n', '    "mdmp_name_", "mdmp_memory_"', text)
 
 
 def map_text(interface: Interface) -> str:

@@ -6,12 +6,12 @@ import os
 import tomllib
 from dataclasses import dataclass
 
+from lib.generated import Mistake
+
 HERE = os.path.dirname(os.path.dirname(os.path.abspath(__file__)))
+# The order in which pages have the tables. Others come before the ranges.
+ORDER = ["thread", "module", "unloaded", "exception", "system", "region", "thread_name"]
 NUMBERS = {"bool": 1, "u8": 1, "u32": 4, "u64": 8}
-
-
-class Mistake(Exception):
-    """Something in interface.toml that can't be."""
 
 
 @dataclass(frozen=True)
@@ -45,6 +45,27 @@ class Field:
 
 
 @dataclass(frozen=True)
+class Table:
+    """The call that gives an array of a structure, and what the records of it point at."""
+
+    call: str
+    doc: str
+    types: list[int]  # of the streams that have these records
+    parts: list[tuple[str, str]]  # a field, and the number of the part that is there
+    row: str  # what the structure is called in Rattle, in words with _
+    item: str  # the variant of Item that has such a record
+    of: dict[str, str]  # the field of the record that a field is, if that has another name
+    is_row_alone: bool
+    face_doc: str  # what Python and Rust say of it
+    is_python_own: bool  # whether Python's property is written by hand
+    words: str  # what the records are called
+
+    @property
+    def name(self) -> str:
+        return self.call.removeprefix("mdmp_")
+
+
+@dataclass(frozen=True)
 class Structure:
     name: str
     face: str  # what Python and Rust call it, and its record
@@ -52,8 +73,7 @@ class Structure:
     size: int
     alignment: int
     fields: list[Field]
-    table: str | None
-    table_doc: str | None
+    table: Table | None
     is_public: bool
     python_also: list[tuple[str, str, str, str]]
 
@@ -61,6 +81,20 @@ class Structure:
     def shown(self) -> list[Field]:
         """The fields that are members of its record: none that is reserved, or the upper half of another."""
         return [field for field in self.fields if not field.is_reserved and not field.name.endswith("_high")]
+
+    @property
+    def names(self) -> list[str]:
+        """The fields that are the place of a name."""
+        return [field.name for field in self.fields if field.base == "mdmp_name_place"]
+
+    @property
+    def places(self) -> list[str]:
+        """The fields that say where a part of the record is: a place, or the extent of the record's own bytes."""
+        return [
+            field.name
+            for field in self.fields
+            if field.base == "mdmp_place" or (field.enum is not None and field.enum.name == "mdmp_extent")
+        ]
 
     def is_halved(self, field: Field) -> bool:
         """Whether another field has the upper half of this one."""
@@ -120,6 +154,18 @@ class Interface:
         return [structure for structure in self.structures.values() if structure.has_record]
 
     @property
+    def tables(self) -> list[tuple[Structure, Table]]:
+        """The structures that a call gives an array of, with that call."""
+        return [(structure, structure.table) for structure in self.structures.values() if structure.table is not None]
+
+    @property
+    def listed(self) -> list[tuple[Structure, Table]]:
+        """The same in the order of the pages and of Rattle's definitions. A file of definitions in another order is proved anew."""
+        last = len(ORDER) + 1
+        rank = {row: at for at, row in enumerate(ORDER)} | {"range": last}
+        return sorted(self.tables, key=lambda one: rank.get(one[1].row, last - 1))
+
+    @property
     def soname(self) -> str:
         """The SONAME of the shared library, which is also the name of its file."""
         return f"libmdmp.so.{self.abi}"
@@ -152,19 +198,43 @@ class Interface:
         if at != entry["size"] or at % widest:
             raise Mistake(f"{name} has {at} bytes, aligned to {widest}, and not {entry['size']}")
         face = entry.get("face", camel(name))
-        table, table_doc = entry.get("table"), entry.get("table_doc")
         also = [tuple(words) for words in entry.get("python_also", [])]
-        return Structure(
-            name, face, entry["doc"], at, widest, fields, table, table_doc, entry.get("public", False), also
+        table = self._table(entry) if "table" in entry else None
+        made = Structure(name, face, entry["doc"], at, widest, fields, table, entry.get("public", False), also)
+        if table and [field for field, _ in table.parts] != made.places:
+            raise Mistake(f"{name}: `parts` names not each place of the record, in the order of the fields")
+        return made
+
+    def _table(self, entry: dict) -> Table:
+        known = [name for name, _, _ in self.enums["mdmp_part"].values]
+        row, what = entry.get("row", entry["name"].removeprefix("mdmp_")), entry["table_doc"].partition(":")[0]
+        table = Table(
+            entry["table"],
+            entry["table_doc"],
+            entry["types"],
+            [(field, part) for field, part in entry.get("parts", [])],
+            row,
+            entry.get("item", camel(row)),
+            entry.get("of", {}),
+            entry.get("row_alone", False),
+            entry.get("rust_doc", f"{what}."),
+            entry.get("python_own", False),
+            entry.get("words", what.removeprefix("The ")),
         )
+        for _, part in table.parts:
+            if part not in known:
+                raise Mistake(f"{entry['name']}: mdmp_part has no {part}")
+        for structure, other in self.tables:
+            if set(other.types) & set(table.types):
+                raise Mistake(f"{entry['name']} and {structure.name} have one type of stream")
+        return table
 
     def _calls(self, entry: dict) -> list[Call]:
         if not entry.get("tables"):
             return [self._call(entry["name"], entry["doc"], entry["arguments"], "")]
         return [
-            self._call(kind.table, f"{kind.table_doc} {entry['doc']}", entry["arguments"], kind.name)
-            for kind in self.structures.values()
-            if kind.table
+            self._call(table.call, f"{table.doc} {entry['doc']}", entry["arguments"], structure.name)
+            for structure, table in self.tables
         ]
 
     def _call(self, name: str, doc: str, arguments: list[list[str]], record: str) -> Call:

@@ -14,3 +14,17 @@ def wrapped(before: str, words: list[str], after: str, indent: str = "") -> str:
         else:
             line += piece if line.endswith("(") else " " + piece
     return text + line + ("" if words else ")" + after)
+
+
+def used(before: str, names: list[str]) -> str:
+    """A `use` of names, as `rt fmt` lays it out."""
+    line = f"{before}::{{{', '.join(names)}}};\n"
+    if len(line) <= 101:
+        return line
+    lines = [""]
+    for name in names:
+        if lines[-1] and len(lines[-1]) + len(name) + 6 < 100:
+            lines[-1] += f" {name},"
+        else:
+            lines.append(f"{name},")
+    return f"{before}::{{\n" + "".join(f"    {line}\n" for line in lines if line) + "};\n"

@@ -7,7 +7,9 @@ import tomllib
 from dataclasses import dataclass
 from typing import Any
 
-from .interface import HERE, Mistake
+from lib.generated import Mistake
+
+from .interface import HERE
 
 
 def number_text(number: int, digits: int) -> str:
@@ -55,6 +57,12 @@ class Group:
         """All rows, by number."""
         return sorted(((row, part) for part in self.parts for row in part.rows), key=lambda one: one[0].number)
 
+    def name_of(self, number: int) -> str:
+        found = [row.name for row, _ in self.rows if row.number == number]
+        if not found:
+            raise Mistake(f"{self.name} has no {number}")
+        return found[0]
+
     def number_of(self, name: str) -> int:
         found = [row.number for row, _ in self.rows if row.name == name]
         if not found:
@@ -90,6 +98,8 @@ class Names:
         with open(os.path.join(HERE, "names.toml"), "rb") as file:
             data = tomllib.load(file)
         self.groups = [self._group(entry) for entry in data["group"]]
+        self.copied: list[tuple[int, str, str]] = [(number, word, how) for number, word, how in data["copied"]]
+        check_rises("the types that are copied", [number for number, _, _ in self.copied])
         by_name = {group.name: group for group in self.groups}
         self.codes = [
             Codes(

@@ -5,7 +5,10 @@ from __future__ import annotations
 import re
 import textwrap
 
-from .interface import Argument, Call, Enum, Field, Interface, Structure
+from lib.generated import Mistake, Stretches
+
+from .interface import Argument, Call, Enum, Field, Interface, Structure, Table
+from .kind_rows import record_sizes
 from .lines import wrapped
 
 MADE = "Made by bindings/generate from bindings/interface.toml."
@@ -54,13 +57,22 @@ def declare_text(interface: Interface, call: Call) -> str:
     return f"    {types}\n    library.{call.symbol}.restype = c_uint32"
 
 
+def table_text(structure: Structure, table: Table) -> str:
+    """A row of TABLES."""
+    places = [(field, part.removeprefix("MDMP_PART_").lower()) for field, part in table.parts if field != "extent"]
+    return f'    "{table.name}": Table({structure.face}, "{table.words}", {tuple(table.types)}, {tuple(structure.names)}, {tuple(places)}),'.replace("'", '"')
+
+
 def structures_text(interface: Interface) -> str:
     structures = interface.structures.values()
+    known, sizes = {kind for _, table in interface.tables for kind in table.types}, record_sizes()
+    if known != {*sizes}:
+        raise Mistake(f"the tables have the types {sorted(known)}, and the kinds {sorted(sizes)}")
     return (
         f'"""The plain structures of mdmp.h, and the types of its calls. {MADE}"""\n\n'
         "from __future__ import annotations\n\n"
         "from ctypes import (\n    CDLL,\n    POINTER,\n    Array,\n    Structure,\n    c_bool,\n    c_size_t,\n    c_uint8,\n"
-        "    c_uint32,\n    c_uint64,\n    c_void_p,\n)\n\n"
+        "    c_uint32,\n    c_uint64,\n    c_void_p,\n)\nfrom typing import NamedTuple\n\n"
         f"ABI = {interface.abi}\nSONAME = \"{interface.soname}\"\n\n"
         f"WINDOW, NAME = {interface.limits['window']}, {interface.limits['name']}\n"
         f"UNTRUSTED = {interface.limits['untrusted']}  # each limit of MDMP_LIMITS_UNTRUSTED\n"
@@ -69,11 +81,26 @@ def structures_text(interface: Interface) -> str:
         + "\n\n\n# For each structure its size, and the offset of each field.\n"
         + "LAYOUT: dict[type[Structure], tuple[int, dict[str, int]]] = {\n"
         + "\n".join(layout_text(structure) for structure in structures)
-        + "\n}\n\n\ndef declare(library: CDLL) -> None:\n"
+        + f"\n}}\n\n\n{TABLE}\n\n\n"
+        "# The tables, by their names.\nTABLES = {\n"
+        + "\n".join(table_text(structure, table) for structure, table in interface.tables)
+        + "\n}\n\n# How many bytes a record in a stream has at least, by the type of the stream.\n"
+        f"RECORD_SIZES = {sizes}\n\n\ndef declare(library: CDLL) -> None:\n"
         + '    """Sets the types of the arguments and the result of each call of a library."""\n'
         + "\n".join(declare_text(interface, call) for call in interface.calls)
         + "\n"
     )
+
+
+TABLE = """\
+class Table(NamedTuple):
+    \"""A call that gives an array of records.\"""
+
+    row: type[Structure]
+    words: str  # what the records are called
+    types: tuple[int, ...]  # of the streams that have them
+    names: tuple[str, ...]  # the fields that are places of names
+    places: tuple[tuple[str, str], ...]  # the fields that are places of parts, and which part"""
 
 
 # ---- records
@@ -145,3 +172,41 @@ def records_text(interface: Interface) -> str:
         + "\n\n\n".join(record_text(interface, structure) for structure in interface.records)
         + "\n"
     )
+
+
+# ---- stretches of files that are written by hand
+
+
+PACKAGE = "bindings/python/mdmp"
+
+
+def names_on_lines(names: set[str]) -> str:
+    return "".join(f"    {name},\n" for name in sorted(names))
+
+
+def property_text(structure: Structure, table: Table) -> str:
+    face = structure.face
+    return (
+        f'    @property\n    def {table.name}(self) -> tuple[{face}, ...]:\n        """{table.face_doc}"""\n'
+        f"        rows: tuple[{face}, ...] = self._rows(library.{table.call}_, {face})\n        return rows\n\n"
+    )
+
+
+def put_package(files: Stretches, interface: Interface) -> None:
+    """What the package imports and shows, and the properties of `Dump` that give records."""
+    faces = {structure.face for structure, _ in interface.tables}
+    shown = {enum.face for enum in interface.enums.values()} | {structure.face for structure in interface.records}
+    imported = "from ._records import (\n"
+    files.put(f"{PACKAGE}/_dump.py", imported, ")", names_on_lines(faces | {"Header", "Status", "Stream"}))
+    properties = [property_text(structure, table) for structure, table in interface.listed if not table.is_python_own]
+    files.put(f"{PACKAGE}/_dump.py", "    # ---- records of other kinds\n\n", "    # ---- memory", "".join(properties))
+    files.put(f"{PACKAGE}/__init__.py", imported, ")", names_on_lines(shown))
+    given = re.findall(r"^from \._\w+ import (?:(\w[\w, ]*)$|\(\n(.*?)\))", files.text(f"{PACKAGE}/__init__.py"), re.M | re.S)
+    every = {name for line, lines in given for name in re.findall(r"\w+", line + lines) if " as " not in line} | {"__version__"}
+    files.put(f"{PACKAGE}/__init__.py", "\n__all__ = [\n", "]", "".join(f'    "{name}",\n' for name in sorted(every)))
+
+
+def put_page(files: Stretches, interface: Interface) -> None:
+    """The properties, in a list of what there is."""
+    names = ", ".join(f"`{table.name}`" for _, table in interface.listed)
+    files.put("docs/python.md", "| records, as a tuple | ", " |", names)

@@ -2,7 +2,10 @@
 
 from __future__ import annotations
 
+from lib.generated import Stretches
+
 from .interface import Argument, Call, Enum, Field, Interface, Structure
+from .lines import used
 
 MADE = "Made by bindings/generate from bindings/interface.toml."
 
@@ -171,4 +174,42 @@ def records_text(interface: Interface) -> str:
         + "\n\n"
         + "\n\n".join(record_text(interface, structure) for structure in interface.records)
         + "\n"
+    )
+
+
+# ---- stretches of files that are written by hand, and what tests know of each table
+
+
+def used_names(before: str, names: set[str]) -> str:
+    """What follows `before::` in a `use` of these names, up to its end."""
+    return used(before, sorted(names)).removeprefix(f"{before}::").removesuffix(";\n")
+
+
+def put_crate(files: Stretches, interface: Interface) -> None:
+    """What the crate uses and gives out, and the methods of `Dump` that give records."""
+    faces = {structure.face for structure, _ in interface.tables}
+    others = {"Extent", "FaultKind", "Header", "NamePlace", "NameState", "Place", "Stream", "SymbolKind"}
+    files.put("bindings/rust/src/dump.rs", "\nuse crate::records::", ";\n", used_names("use crate::records", faces | others))
+    rows = [f"    /// {table.face_doc}\n    {table.name}: {table.call} gives {structure.face};\n" for structure, table in interface.listed]
+    files.put("bindings/rust/src/dump.rs", "\ntables! {\n", "}", "".join(rows))
+    shown = {enum.face for enum in interface.enums.values()} | {structure.face for structure in interface.records}
+    files.put("bindings/rust/src/lib.rs", "\npub use records::", ";\n", used_names("pub use records", shown - {"Status"}))
+
+
+def put_page(files: Stretches, interface: Interface) -> None:
+    """The methods, in a list of what there is."""
+    names = ", ".join(f"`{table.name}()`" for _, table in interface.listed)
+    files.put("docs/rust.md", "\n| records | ", " |", names)
+
+
+def tables_text(interface: Interface) -> str:
+    """A macro for the tests."""
+    rows = []
+    for structure, table in interface.tables:
+        symbols = [field for field, part in table.parts if part == "MDMP_PART_CODEVIEW"]
+        rows.append(f"        $put!($($given)*, {table.name}, [{' '.join(structure.names)}], [{' '.join(symbols)}]);\n")
+    return (
+        f"// {MADE}\n\n"
+        "// Hands each table to a macro: its method, the members of its records that are names, and those that are CodeView records.\n"
+        "macro_rules! each_table {\n    ($put:ident, $($given:tt)*) => {\n" + "".join(rows) + "    };\n}\n"
     )

@@ -10,6 +10,8 @@ from dataclasses import dataclass
 from pathlib import Path
 from typing import Any
 
+from lib.generated import Mistake
+
 ROOT = Path(__file__).resolve().parent.parent.parent
 CRATES = ROOT / "crates"
 
@@ -19,10 +21,6 @@ Expression = str | tuple[Any, ...]
 TOKEN = re.compile(r'\s+|(?P<text>"(?:[^"\\]|\\.)*")|(?P<word>[\w.⟦⟧-]*[\w])|(?P<sign>\[\]|\+\+|[∷()+*/%-])')
 OPERATORS = {"∷": 1, "++": 1, "+": 2, "-": 2, "*": 3, "/": 3, "%": 3}
 ESCAPES = {"\\n": "\n", '\\"': '"', "\\\\": "\\"}
-
-
-class Mistake(Exception):
-    """Something in the repository that does not read as these pages need it."""
 
 
 def found(pattern: str, text: str, what: str) -> re.Match[str]:

@@ -8,7 +8,9 @@ import tomllib
 from dataclasses import dataclass
 from typing import Any
 
-from .definitions import CRATES, ROOT, Clause, Expression, Mistake, definitions, found, items, text_of
+from lib.generated import Mistake
+
+from .definitions import CRATES, ROOT, Clause, Expression, definitions, found, items, text_of
 from .objects import SPECS, Line, Object, fault_object, lines, part_forms, Scope
 from .sources import all_structures
 
@@ -103,6 +105,17 @@ def pdb_forms() -> list[str]:
     return [form.clause(clause) for clause in form.specs["pdb_line"].clauses]
 
 
+def part_names() -> list[str]:
+    """What the parts of records are called."""
+    return [text_of(clause.expression) for clause in Form("PartLines").specs["part_words"].clauses]
+
+
+def parts_text() -> str:
+    """These names as code."""
+    *others, last = [f"`{name}`" for name in part_names()]
+    return f"{', '.join(others)} or {last}"
+
+
 def hex_form() -> str:
     form = Form("HexText")
     none, byte = (form.clause(clause) for clause in form.specs["cell_text"].clauses)
@@ -179,7 +192,7 @@ class Table:
             data = tomllib.load(file)
         self.lines = {entry["name"]: (entry["of"], rows(entry)) for entry in data["line"]}
         self.objects = {entry["name"]: rows(entry) for entry in data["object"]}
-        self.messages = {entry["form"]: entry["says"] for entry in data["message"]}
+        self.messages = {entry["form"]: entry["says"].replace("{parts}", parts_text()) for entry in data["message"]}
 
     def compare(self, printed: list[Line], told: list[Message]) -> None:
         same("the lines", list(self.lines), [line.name for line in printed])
@@ -292,7 +305,7 @@ def lines_text() -> str:
     parts = [INTRO.strip("\n"), block(list_forms()), PLACEHOLDERS.strip("\n"), block(pdb_forms()), PDB.strip("\n")]
     verdicts = block([Form("VerdictLines", "<e>").of("judged_text"), "<fault>"])
     parts += [verdicts, LOST.strip("\n"), block([Form("PartLines", "<e>").of("part_text")])]
-    parts += [CHECK.strip("\n"), block([hex_form()]), HEX.strip("\n"), OBJECTS.strip("\n")]
+    parts += [CHECK.strip("\n").format(parts=parts_text()), block([hex_form()]), HEX.strip("\n"), OBJECTS.strip("\n")]
     for line in printed:
         of, says = table.lines[line.name]
         parts.append(f"### `{line.name}`\n\n{of}{heading(line)}\n\n{key_table(line.objects, says)}")
@@ -347,7 +360,7 @@ With `--parts`, one of these lines comes before the line of an entry for each pa
 """
 
 CHECK = """
-`<what>` is `stack`, `context`, `codeview`, `misc` or `memory`.
+`<what>` is {parts}.
 
 `hex` prints 16 bytes per line. The last line has the bytes that are left, and LENGTH 0 prints nothing. `??` is a byte that no memory list has.
 """

@@ -6,7 +6,9 @@ import re
 from dataclasses import dataclass, field, replace
 from typing import Any
 
-from .definitions import CRATES, Clause, Expression, Mistake, definitions, items, text_of
+from lib.generated import Mistake
+
+from .definitions import CRATES, Clause, Expression, definitions, items, text_of
 from .sources import Structure, all_structures
 
 SPECS = CRATES / "mdmp_print/specs"

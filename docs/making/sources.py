@@ -6,7 +6,9 @@ import re
 from dataclasses import dataclass
 from pathlib import Path
 
-from .definitions import CRATES, Mistake
+from lib.generated import Mistake
+
+from .definitions import CRATES
 
 STRUCT = re.compile(r"((?:^///.*\n)+)(?:#\[.*\n)*pub struct (\w+)(?:<'a>)? \{\n((?:(?!\}).*\n)*)\}", re.M)
 FIELD = re.compile(r"((?:^    ///.*\n)+)    pub (\w+): ([^,\n]+),", re.M)

@@ -6,7 +6,9 @@ import re
 from dataclasses import dataclass
 from pathlib import Path
 
-from .definitions import CRATES, Mistake, definitions, found
+from lib.generated import Mistake
+
+from .definitions import CRATES, definitions, found
 from .sources import Structure, all_structures, offsets_in_code
 
 WIRE = CRATES / "mdmp_wire"

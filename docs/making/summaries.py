@@ -7,7 +7,9 @@ import tomllib
 from dataclasses import dataclass
 from typing import Any
 
-from .definitions import CRATES, ROOT, Mistake, definitions, text_of
+from lib.generated import Mistake
+
+from .definitions import CRATES, ROOT, definitions, text_of
 from .lines import plain, pretty
 from .objects import BUILD_ID, DIGITS, NUMBER, SPECS, STAMP_ID, STREAM_NAME, WORDS, constant, hexadecimal, number, wide
 

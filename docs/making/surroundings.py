@@ -8,7 +8,9 @@ import tomllib
 from dataclasses import dataclass
 from typing import Any
 
-from .definitions import CRATES, ROOT, Mistake
+from lib.generated import Mistake
+
+from .definitions import CRATES, ROOT
 
 TABLE = ROOT / "docs/reference/surroundings.toml"
 

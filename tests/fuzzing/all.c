@@ -1,4 +1,5 @@
 /* All oracles over one file. */
+#include "heap.h"
 #include "oracles.h"
 
 /* The library reads and writes structures as whole numbers: a buffer has to be aligned as their numbers are. */
@@ -6,14 +7,8 @@
 IS_ALIGNED(mdmp_limits);
 IS_ALIGNED(mdmp_fault);
 IS_ALIGNED(mdmp_header_record);
-IS_ALIGNED(mdmp_thread);
-IS_ALIGNED(mdmp_module);
-IS_ALIGNED(mdmp_exception);
-IS_ALIGNED(mdmp_system);
-IS_ALIGNED(mdmp_unloaded_module);
-IS_ALIGNED(mdmp_region);
-IS_ALIGNED(mdmp_thread_name);
-IS_ALIGNED(mdmp_range);
+#define IS_ROW_ALIGNED(name, NAME, row) IS_ALIGNED(row);
+EACH_TABLE(IS_ROW_ALIGNED)
 IS_ALIGNED(mdmp_slot);
 IS_ALIGNED(mdmp_symbol_file);
 IS_ALIGNED(mdmp_summary_record);
@@ -23,7 +18,7 @@ void test_file(blob file, uint64_t seed) {
         test_names, test_chosen_name, test_symbols, test_counts, test_parts, test_crash, test_memory, test_lengths, test_index, test_where, test_copy, test_window,
         test_name_limit, test_budget, test_memory_limit, test_aside, test_copy_budget, test_bad_limits, test_mapped,
         test_refused};
-    const long live = live_blocks();
+    const long live = heap.live;
     reading given = {.file = file};
     ASSERT(mdmp_abi() == MDMP_ABI && mdmp_version() == MDMP_VERSION);
     choose_by(seed);
@@ -40,5 +35,5 @@ void test_file(blob file, uint64_t seed) {
     for (size_t i = 0; i < FILLERS_COUNT; i++) {
         free(given.of[i].bytes);
     }
-    ASSERT(live_blocks() == live);
+    ASSERT(heap.live == live); /* the library keeps nothing after its calls */
 }

@@ -23,9 +23,20 @@ uint64_t below(uint64_t bound) {
     return next_number() % bound;
 }
 
+/* Whether records of streams of this type are listed. */
+bool has_records(uint32_t type) {
+    static const uint32_t TYPES[] = {TYPES_OF_TABLES};
+    for (size_t i = 0; i < sizeof TYPES / sizeof *TYPES; i++) {
+        if (TYPES[i] == type) {
+            return true;
+        }
+    }
+    return false;
+}
+
 /* Up to 16 types of streams to copy: mostly types that the file has. */
 static void choose_types(blob file) {
-    static const uint32_t KNOWN[] = {3, 4, 5, 6, 7, 9, 14, 16, 24, 0x12345, 12};
+    static const uint32_t KNOWN[] = {TYPES_OF_TABLES, 0x12345, 12};
     mdmp_stream streams[64];
     mdmp_fault fault;
     uint64_t count, most = 1 + below(16);
@@ -33,7 +44,7 @@ static void choose_types(blob file) {
     copied_count = 0;
     for (uint64_t i = 0; i < count && i < 64 && copied_count < most; i++) {
         uint32_t type = streams[i].stream_type;
-        if (below(4) != 0 && (type < 8 || type == 9 || type == 14 || type == 16 || type == 24 || type > 24 || below(8) == 0)) {
+        if (below(4) != 0 && (type < 8 || type > 24 || has_records(type) || below(8) == 0)) {
             copied_types[copied_count++] = type;
         }
     }

@@ -42,47 +42,38 @@ static void compare_range(both_files files, mdmp_range *from, mdmp_range *to) {
 }
 
 /* The records of one kind: those of the chosen entries, one after the other, the same in all but where things are. */
-#define COMPARE(number, type, comparisons)                                                                 \
-    static void compare_##type(both_files files, const reading *given, const filled *copy, const uint32_t *places) { \
-        const type *rows = ROWS_OF(given, number, type), *copied = (const type *)(const void *)copy->bytes;           \
+#define COMPARE_PLACE(field, part) compare_place(files, &from.field, &to.field);
+#define COMPARE_NAME(field) compare_name(files, &from.field, &to.field);
+#define COMPARE_BYTES(part) compare_range(files, &from, &to);
+#define COMPARE(name, NAME, row)                                                                           \
+    static void compare_##name(both_files files, const reading *given, const filled *copy, const uint32_t *places) { \
+        const row *rows = ROWS_OF(given, FILL_##NAME, row), *copied = (const row *)(const void *)copy->bytes; \
         uint64_t at = 0;                                                                                   \
-        for (uint64_t i = 0; i < given->of[number].count; i++) {                                           \
+        for (uint64_t i = 0; i < given->of[FILL_##NAME].count; i++) {                                      \
             if (places[rows[i].entry] == UINT32_MAX) {                                                     \
                 continue;                                                                                  \
             }                                                                                              \
             ASSERT(at < copy->count && copied[at].entry == places[rows[i].entry]);                         \
-            type from = rows[i], to = copied[at++];                                                        \
+            row from = rows[i], to = copied[at++];                                                         \
             from.entry = to.entry;                                                                         \
-            comparisons;                                                                                   \
+            PLACES_OF_##NAME(COMPARE_PLACE) NAMES_OF_##NAME(COMPARE_NAME) BYTES_OF_##NAME(COMPARE_BYTES)   \
             ASSERT(memcmp(&from, &to, sizeof to) == 0);                                                    \
         }                                                                                                  \
         ASSERT(at == copy->count);                                                                         \
         (void)files;                                                                                       \
     }
 
-COMPARE(FILL_THREADS, mdmp_thread, compare_place(files, &from.stack, &to.stack);
-        compare_place(files, &from.context, &to.context))
-COMPARE(FILL_MODULES, mdmp_module, compare_place(files, &from.codeview, &to.codeview);
-        compare_place(files, &from.misc, &to.misc); compare_name(files, &from.name, &to.name))
-COMPARE(FILL_EXCEPTIONS, mdmp_exception, compare_place(files, &from.context, &to.context))
-COMPARE(FILL_SYSTEMS, mdmp_system, compare_name(files, &from.csd_version, &to.csd_version))
-COMPARE(FILL_UNLOADED, mdmp_unloaded_module, compare_name(files, &from.name, &to.name))
-COMPARE(FILL_REGIONS, mdmp_region, )
-COMPARE(FILL_THREAD_NAMES, mdmp_thread_name, compare_name(files, &from.name, &to.name))
-COMPARE(FILL_RANGES, mdmp_range, compare_range(files, &from, &to))
+EACH_TABLE(COMPARE)
 
 typedef void comparison(both_files files, const reading *given, const filled *copy, const uint32_t *places);
-static comparison *const COMPARISONS[] = {compare_mdmp_thread, compare_mdmp_module, compare_mdmp_exception,
-    compare_mdmp_system, compare_mdmp_unloaded_module, compare_mdmp_region, compare_mdmp_thread_name, compare_mdmp_range};
+#define COMPARISON(name, NAME, row) compare_##name,
+static comparison *const COMPARISONS[TABLES_COUNT] = {EACH_TABLE(COMPARISON)};
 
 /* An entry of a type with no known records has its bytes. An unused entry has none. */
 static void compare_entry(both_files files, const mdmp_stream *from, const mdmp_stream *to) {
-    static const uint32_t KNOWN[] = {3, 4, 5, 6, 7, 9, 14, 16, 24};
     ASSERT(from->stream_type == to->stream_type);
-    for (size_t i = 0; i < sizeof KNOWN / sizeof *KNOWN; i++) {
-        if (from->stream_type == KNOWN[i]) {
-            return;
-        }
+    if (has_records(from->stream_type)) {
+        return;
     }
     if (from->stream_type == 0) {
         ASSERT(to->size == 0 && to->rva == 0);
@@ -117,7 +108,7 @@ static void compare_entries(both_files files, const reading *given, uint32_t *pl
 
 void test_copy(const reading *given) {
     const filled *copy = &given->of[FILL_COPY];
-    for (size_t i = FILL_STREAMS; i <= FILL_RANGES; i++) {
+    for (size_t i = FILL_STREAMS; i < FILL_TABLES + TABLES_COUNT; i++) {
         if (given->of[i].bytes == NULL) {
             return;
         }
@@ -129,10 +120,10 @@ void test_copy(const reading *given) {
     const both_files files = {given->file, {copy->bytes, (size_t)copy->count}};
     uint32_t *places = malloc(((size_t)given->of[FILL_STREAMS].count + 1) * sizeof *places);
     compare_entries(files, given, places);
-    for (size_t i = 0; i < sizeof COMPARISONS / sizeof *COMPARISONS; i++) {
-        filled rows = fill_whole(&FILLERS[FILL_THREADS + i], files.to);
+    for (size_t i = 0; i < TABLES_COUNT; i++) {
+        filled rows = fill_whole(&FILLERS[FILL_TABLES + i], files.to);
         ASSERT(rows.fault.kind == MDMP_FAULT_NONE);
-        if (given->of[FILL_THREADS + i].fault.kind == MDMP_FAULT_NONE) {
+        if (given->of[FILL_TABLES + i].fault.kind == MDMP_FAULT_NONE) {
             COMPARISONS[i](files, given, &rows, places);
         }
         free(rows.bytes);

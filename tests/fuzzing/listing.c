@@ -48,17 +48,10 @@ static void test_list_of_rows(const reading *given, const filled *list, bool pdb
     size_t capacity = (size_t)list->count + 64;
     char *text = malloc(capacity);
     FILE *out = fmemopen(text, capacity, "w");
-    given_rows rows = {.streams = ROWS_OF(given, FILL_STREAMS, mdmp_stream),
-        .threads = ROWS_OF(given, FILL_THREADS, mdmp_thread),
-        .modules = ROWS_OF(given, FILL_MODULES, mdmp_module),
-        .exceptions = ROWS_OF(given, FILL_EXCEPTIONS, mdmp_exception),
-        .systems = ROWS_OF(given, FILL_SYSTEMS, mdmp_system),
-        .unloaded = ROWS_OF(given, FILL_UNLOADED, mdmp_unloaded_module),
-        .regions = ROWS_OF(given, FILL_REGIONS, mdmp_region),
-        .names = ROWS_OF(given, FILL_THREAD_NAMES, mdmp_thread_name),
-        .ranges = ROWS_OF(given, FILL_RANGES, mdmp_range)};
-    for (size_t i = 0; i < 8; i++) {
-        rows.counts[i] = given->of[FILL_THREADS + i].count;
+#define MEMBER(name, NAME, row) .name = ROWS_OF(given, FILL_##NAME, row),
+    given_rows rows = {.streams = ROWS_OF(given, FILL_STREAMS, mdmp_stream), EACH_TABLE(MEMBER)};
+    for (size_t i = 0; i < TABLES_COUNT; i++) {
+        rows.counts[i] = given->of[FILL_TABLES + i].count;
     }
     mdmp_fault fault;
     ASSERT(out != NULL && mdmp_header(given->file.bytes, given->file.size, &rows.header, &fault) == MDMP_OK);
@@ -71,7 +64,7 @@ static void test_list_of_rows(const reading *given, const filled *list, bool pdb
 void test_list(const reading *given) {
     const filled *list = &given->of[FILL_LIST], *plain = &given->of[FILL_LIST_PART];
     ASSERT(is_same_fault(&list->fault, &plain->fault));
-    for (size_t i = FILL_STREAMS; i <= FILL_RANGES; i++) {
+    for (size_t i = FILL_STREAMS; i < FILL_TABLES + TABLES_COUNT; i++) {
         if (given->of[i].bytes == NULL) {
             return;
         }

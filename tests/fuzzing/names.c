@@ -99,16 +99,16 @@ static void test_name(blob file, const mdmp_name_place *place) {
     ASSERT(size == length && memcmp(out, text, length) == 0);
 }
 
-#define NAMES(number, type, name)                                                                  \
-    for (uint64_t i = 0; given->of[number].bytes != NULL && i < given->of[number].count && i < MOST_ROWS; i++) { \
-        test_name(given->file, &ROWS_OF(given, number, type)[i].name);                             \
+#define TEST_NAME(field) test_name(given->file, &at->field);
+#define NAMES(name, NAME, row)                                                                     \
+    for (uint64_t i = 0; given->of[FILL_##NAME].bytes != NULL && i < given->of[FILL_##NAME].count && i < MOST_ROWS; i++) { \
+        const row *at = ROWS_OF(given, FILL_##NAME, row) + i;                                      \
+        NAMES_OF_##NAME(TEST_NAME)                                                                 \
+        (void)at;                                                                                  \
     }
 
 void test_names(const reading *given) {
-    NAMES(FILL_MODULES, mdmp_module, name)
-    NAMES(FILL_UNLOADED, mdmp_unloaded_module, name)
-    NAMES(FILL_THREAD_NAMES, mdmp_thread_name, name)
-    NAMES(FILL_SYSTEMS, mdmp_system, csd_version)
+    EACH_TABLE(NAMES)
 }
 
 /* The GUID of bytes as it is in memory: its first three numbers have their lower bytes first. */

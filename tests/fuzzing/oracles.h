@@ -33,6 +33,7 @@ void choose_by(uint64_t seed);
 uint64_t next_number(void);
 uint64_t below(uint64_t bound);
 void choose_arguments(blob file);
+bool has_records(uint32_t type);
 
 /* ---- errors.c */
 uint32_t status_of(const mdmp_fault *fault);
@@ -92,6 +93,5 @@ void test_mapped(const reading *given);
 
 /* ---- refusals.c */
 void test_refused(const reading *given);
-long live_blocks(void);
 
 #endif

@@ -2,8 +2,17 @@
  * system are. */
 #include "oracles.h"
 
-/* Whether no entry of these two types has an error, so that the rows of its kind are all that there are. */
-static bool is_good(const reading *given, size_t number, uint32_t type, uint32_t other) {
+static bool is_among(uint32_t type, const uint32_t *types, size_t count) {
+    for (size_t i = 0; i < count; i++) {
+        if (types[i] == type) {
+            return true;
+        }
+    }
+    return false;
+}
+
+/* Whether no entry of these types has an error, so that the rows of its kind are all that there are. */
+static bool is_good(const reading *given, size_t number, const uint32_t *types, size_t count) {
     const mdmp_fault *verdicts = ROWS_OF(given, FILL_VERDICTS, mdmp_fault);
     const mdmp_stream *streams = ROWS_OF(given, FILL_STREAMS, mdmp_stream);
     if (verdicts == NULL || streams == NULL || given->of[number].bytes == NULL ||
@@ -11,19 +20,20 @@ static bool is_good(const reading *given, size_t number, uint32_t type, uint32_t
         return false;
     }
     for (uint64_t i = 0; i < given->of[FILL_STREAMS].count; i++) {
-        if ((streams[i].stream_type == type || streams[i].stream_type == other) && verdicts[i].kind != MDMP_FAULT_NONE) {
+        if (is_among(streams[i].stream_type, types, count) && verdicts[i].kind != MDMP_FAULT_NONE) {
             return false;
         }
     }
     return given->of[number].fault.kind == MDMP_FAULT_NONE;
 }
 
-static bool has_threads(const reading *given) { return is_good(given, FILL_THREADS, 3, 3); }
-static bool has_modules(const reading *given) { return is_good(given, FILL_MODULES, 4, 4); }
-static bool has_exceptions(const reading *given) { return is_good(given, FILL_EXCEPTIONS, 6, 6); }
-static bool has_systems(const reading *given) { return is_good(given, FILL_SYSTEMS, 7, 7); }
-static bool has_names(const reading *given) { return is_good(given, FILL_THREAD_NAMES, 24, 24); }
-static bool has_ranges(const reading *given) { return is_good(given, FILL_RANGES, 5, 9); }
+/* has_threads and the like, for each table. */
+#define HAS(name, NAME, row)                                                        \
+    static bool has_##name(const reading *given) {                                  \
+        static const uint32_t TYPES[] = {TYPES_OF_##NAME};                          \
+        return is_good(given, FILL_##NAME, TYPES, sizeof TYPES / sizeof *TYPES);    \
+    }
+EACH_TABLE(HAS)
 
 /* The bad entries are those of the verdicts, and so is the first. */
 static void test_bad_entries(const reading *given, const mdmp_summary_record *summary) {
@@ -61,31 +71,39 @@ static void count_place(outside_parts *parts, uint32_t entry, uint64_t index, ui
     }
 }
 
-#define EACH(number, type, row) \
-    for (const type *row = ROWS_OF(given, number, type); row < ROWS_OF(given, number, type) + given->of[number].count; row++) \
-        if (row->entry == entry)
+static void count_bytes(outside_parts *parts, uint32_t entry, uint32_t part, const mdmp_range *row) {
+    if (row->extent == MDMP_EXTENT_OUTSIDE) {
+        const mdmp_fault at = {.entry = entry, .index = row->index, .high = row->offset_high};
+        count_part(parts, at, part, row->offset, row->size);
+    }
+}
+
+/* Whether a record of this table has a part. */
+#define ONE_PLACE(field, part) || true
+#define OWN_BYTES(part) || true
+#define HAS_PARTS(NAME) (false PLACES_OF_##NAME(ONE_PLACE) BYTES_OF_##NAME(OWN_BYTES))
+
+/* Whether the rows of all tables that have parts are all that there are. */
+static bool has_all_parts(const reading *given) {
+#define AND_ALL(name, NAME, row) &&(!HAS_PARTS(NAME) || has_##name(given))
+    return true EACH_TABLE(AND_ALL);
+}
+
+#define COUNT_PLACE(field, part) count_place(&parts, entry, at->index, part, &at->field);
+#define COUNT_BYTES(part) count_bytes(&parts, entry, part, at);
+#define COUNT(name, NAME, row)                                                                                \
+    for (uint64_t i = 0; HAS_PARTS(NAME) && i < given->of[FILL_##NAME].count; i++) {                          \
+        const row *at = ROWS_OF(given, FILL_##NAME, row) + i;                                                 \
+        if (at->entry == entry) {                                                                             \
+            PLACES_OF_##NAME(COUNT_PLACE) BYTES_OF_##NAME(COUNT_BYTES)                                        \
+        }                                                                                                     \
+    }
 
 /* The parts outside the file, an entry after the other. */
 static outside_parts parts_of_rows(const reading *given) {
     outside_parts parts = {0, {.kind = MDMP_FAULT_NONE}};
     for (uint32_t entry = 0; entry < given->of[FILL_STREAMS].count; entry++) {
-        EACH(FILL_THREADS, mdmp_thread, row) {
-            count_place(&parts, entry, row->index, MDMP_PART_STACK, &row->stack);
-            count_place(&parts, entry, row->index, MDMP_PART_CONTEXT, &row->context);
-        }
-        EACH(FILL_MODULES, mdmp_module, row) {
-            count_place(&parts, entry, row->index, MDMP_PART_CODEVIEW, &row->codeview);
-            count_place(&parts, entry, row->index, MDMP_PART_MISC, &row->misc);
-        }
-        EACH(FILL_EXCEPTIONS, mdmp_exception, row) {
-            count_place(&parts, entry, row->index, MDMP_PART_CONTEXT, &row->context);
-        }
-        EACH(FILL_RANGES, mdmp_range, row) {
-            if (row->extent == MDMP_EXTENT_OUTSIDE) {
-                const mdmp_fault at = {.entry = entry, .index = row->index, .high = row->offset_high};
-                count_part(&parts, at, MDMP_PART_MEMORY, row->offset, row->size);
-            }
-        }
+        EACH_TABLE(COUNT)
     }
     return parts;
 }
@@ -111,7 +129,7 @@ void test_counts(const reading *given) {
         }
         ASSERT(summary->counts.ranges == given->of[FILL_RANGES].count);
         ASSERT(summary->counts.memory == memory && summary->counts.memory_high == 0);
-        if (has_threads(given) && has_modules(given) && has_exceptions(given) && given->of[FILL_STREAMS].count < 256) {
+        if (has_all_parts(given) && given->of[FILL_STREAMS].count < 256) {
             const outside_parts parts = parts_of_rows(given);
             ASSERT(summary->parts_outside == parts.count && is_same_fault(&summary->first_outside, &parts.first));
         }
@@ -256,7 +274,7 @@ void test_crash(const reading *given) {
         if (has_modules(given)) {
             test_module(given, &summary->crash);
         }
-        if (has_names(given)) {
+        if (has_thread_names(given)) {
             test_thread_name(given, &summary->crash);
         }
     }

@@ -220,12 +220,6 @@ class Dump(Calls):
         return rows
 
     @property
-    def unloaded(self) -> tuple[UnloadedModule, ...]:
-        """The unloaded modules."""
-        rows: tuple[UnloadedModule, ...] = self._rows(library.mdmp_unloaded_, UnloadedModule)
-        return rows
-
-    @property
     def exceptions(self) -> tuple[ExceptionRecord, ...]:
         """The exceptions. Most dumps of a crash have one."""
         rows: tuple[ExceptionRecord, ...] = self._rows(library.mdmp_exceptions_, ExceptionRecord)
@@ -243,12 +237,6 @@ class Dump(Calls):
         return next(iter(self.systems), None)
 
     @property
-    def regions(self) -> tuple[Region, ...]:
-        """The regions of memory."""
-        rows: tuple[Region, ...] = self._rows(library.mdmp_regions_, Region)
-        return rows
-
-    @property
     def thread_names(self) -> tuple[ThreadName, ...]:
         """The names of threads, each with the id of its thread. A thread has its own name in `name`.
 
@@ -260,11 +248,27 @@ class Dump(Calls):
         rows: tuple[ThreadName, ...] = self._rows(library.mdmp_thread_names_, ThreadName)
         return rows
 
+    # ---- records of other kinds
+
+    @property
+    def unloaded(self) -> tuple[UnloadedModule, ...]:
+        """The unloaded modules."""
+        rows: tuple[UnloadedModule, ...] = self._rows(library.mdmp_unloaded_, UnloadedModule)
+        return rows
+
+    @property
+    def regions(self) -> tuple[Region, ...]:
+        """The regions of memory."""
+        rows: tuple[Region, ...] = self._rows(library.mdmp_regions_, Region)
+        return rows
+
     @property
     def ranges(self) -> tuple[Range, ...]:
         """The ranges of memory whose bytes the file may have."""
         rows: tuple[Range, ...] = self._rows(library.mdmp_ranges_, Range)
         return rows
+
+    # ---- memory
 
     @property
     def memory(self) -> Memory:

@@ -14,6 +14,7 @@ from ctypes import (
     c_uint64,
     c_void_p,
 )
+from typing import NamedTuple
 
 ABI = 2
 SONAME = "libmdmp.so.2"
@@ -732,6 +733,32 @@ LAYOUT: dict[type[Structure], tuple[int, dict[str, int]]] = {
             "has_program": 828, "has_system": 832, "reserved": 836},
     ),
 }
+
+
+class Table(NamedTuple):
+    """A call that gives an array of records."""
+
+    row: type[Structure]
+    words: str  # what the records are called
+    types: tuple[int, ...]  # of the streams that have them
+    names: tuple[str, ...]  # the fields that are places of names
+    places: tuple[tuple[str, str], ...]  # the fields that are places of parts, and which part
+
+
+# The tables, by their names.
+TABLES = {
+    "threads": Table(Thread, "threads", (3,), (), (("stack", "stack"), ("context", "context"))),
+    "modules": Table(Module, "modules", (4,), ("name",), (("codeview", "codeview"), ("misc", "misc"))),
+    "exceptions": Table(ExceptionRecord, "exceptions", (6,), (), (("context", "context"),)),
+    "systems": Table(System, "systems", (7,), ("csd_version",), ()),
+    "unloaded": Table(UnloadedModule, "unloaded modules", (14,), ("name",), ()),
+    "regions": Table(Region, "regions of memory", (16,), (), ()),
+    "thread_names": Table(ThreadName, "names of threads", (24,), ("name",), ()),
+    "ranges": Table(Range, "ranges", (5, 9), (), ()),
+}
+
+# How many bytes a record in a stream has at least, by the type of the stream.
+RECORD_SIZES = {3: 48, 4: 108, 5: 16, 6: 168, 7: 56, 9: 16, 14: 24, 16: 48, 24: 12}
 
 
 def declare(library: CDLL) -> None:

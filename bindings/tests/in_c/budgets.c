@@ -1,4 +1,5 @@
 /* The last budget that does not suffice and the first that does, for each call that takes limits. */
+#include "each_table.h"
 #include "small.h"
 #include "support.h"
 
@@ -75,14 +76,8 @@ static void test_tables_of_system(void) {
         ASSERT(count == ((edge_of).budget == last.budget && at == 1 ? 1u : 0u));             \
     }
         EDGE(mdmp_verdicts, mdmp_fault, last)
-        EDGE(mdmp_systems, mdmp_system, last)
-        EDGE(mdmp_threads, mdmp_thread, none)
-        EDGE(mdmp_modules, mdmp_module, none)
-        EDGE(mdmp_exceptions, mdmp_exception, none)
-        EDGE(mdmp_unloaded, mdmp_unloaded_module, none)
-        EDGE(mdmp_regions, mdmp_region, none)
-        EDGE(mdmp_thread_names, mdmp_thread_name, none)
-        EDGE(mdmp_ranges, mdmp_range, none)
+#define TABLE_EDGE(name, NAME, row) EDGE(mdmp_##name, row, TABLE_##NAME == TABLE_SYSTEMS ? last : none)
+        EACH_TABLE(TABLE_EDGE)
     }
 }
 

@@ -80,6 +80,31 @@ static void test_arguments(void) {
         mdmp_list_part(FILE_OF(SYSTEM), &LIMITS, false, UINT64_MAX, NULL, 0, &size, &fault) == MDMP_OK && size == 0);
 }
 
+/* Of 1 to 16 types each is looked at, wherever it is, and none after them: their array ends where a page begins that can't be
+ * touched, or a type follows that is not copied. */
+static void test_types(void) {
+    uint8_t out[512];
+    uint64_t size;
+    fenced pages = fenced_new(16 * sizeof(uint32_t));
+    for (size_t count = 1; count <= 16; count++) {
+        uint32_t *types = fenced_last(&pages, count * sizeof *types), more[17];
+        for (size_t i = 0; i < count; i++) {
+            types[i] = more[i] = 7;
+        }
+        ASSERT(mdmp_copy(FILE_OF(SYSTEM), &LIMITS, types, count, out, sizeof out, &size, &fault) == MDMP_OK && size == 136);
+        more[count] = 12;
+        ASSERT(mdmp_copy(FILE_OF(SYSTEM), &LIMITS, more, count, out, sizeof out, &size, &fault) == MDMP_OK && size == 136);
+        for (size_t i = 0; i < count; i++) {
+            types[i] = 12;
+            ASSERT(
+                mdmp_copy(FILE_OF(SYSTEM), &LIMITS, types, count, out, sizeof out, &size, &fault) == MDMP_BAD_ARGUMENT);
+            ASSERT(fault.kind == MDMP_FAULT_NOT_COPIED && fault.size == 12 && size == 0);
+            types[i] = 7;
+        }
+    }
+    fenced_free(&pages);
+}
+
 /* Ranges that overlap, that end at the last address, and that nobody gave. */
 static const mdmp_range RANGES[] = {
     {.start = 0, .size = 8, .offset = 0, .extent = MDMP_EXTENT_INSIDE},
@@ -244,6 +269,7 @@ int main(void) {
     test_small_dump();
     test_bad_entry();
     test_arguments();
+    test_types();
     test_read();
     test_index();
     test_where();

@@ -1,8 +1,9 @@
 #include "fillers.h"
 
 _Thread_local uint64_t name_rva = 0, list_skip = 40;
-_Thread_local uint32_t copied_types[16] = {0, 3, 4, 5, 6, 7, 9, 10, 11, 14, 15, 16, 24, 0x12345, 1197932553};
-_Thread_local size_t copied_count = 15;
+#define COPIED {TYPES_OF_TABLES, 0, 10, 11, 15, 0x12345, 1197932553}
+_Thread_local uint32_t copied_types[16] = COPIED;
+_Thread_local size_t copied_count = sizeof (uint32_t[])COPIED / sizeof(uint32_t);
 _Thread_local mdmp_limits filler_limits = MDMP_LIMITS_DEFAULT;
 
 #define FILLER(name, type, ...)                                                                          \
@@ -19,16 +20,20 @@ FILLER(parts_outside, mdmp_fault, WITH_LIMITS)
 FILLER(list, uint8_t, WITH_LIMITS true, )
 FILLER(list_json, uint8_t, WITH_LIMITS true, )
 FILLER(list_part, uint8_t, WITH_LIMITS false, list_skip, )
-FILLER(copy, uint8_t, WITH_LIMITS copied_types, copied_count, )
-FILLER(threads, mdmp_thread, WITH_LIMITS)
-FILLER(modules, mdmp_module, WITH_LIMITS)
-FILLER(exceptions, mdmp_exception, WITH_LIMITS)
-FILLER(systems, mdmp_system, WITH_LIMITS)
-FILLER(unloaded, mdmp_unloaded_module, WITH_LIMITS)
-FILLER(regions, mdmp_region, WITH_LIMITS)
-FILLER(thread_names, mdmp_thread_name, WITH_LIMITS)
-FILLER(ranges, mdmp_range, WITH_LIMITS)
+#define TABLE_FILLER(name, NAME, row) FILLER(name, row, WITH_LIMITS)
+EACH_TABLE(TABLE_FILLER)
 FILLER(name, uint8_t, name_rva, filler_limits.name, )
+
+/* The types end where a page begins that can't be touched. */
+static uint32_t fill_copy(blob file, void *out, size_t room, uint64_t *count, mdmp_fault *fault) {
+    static _Thread_local fenced pages;
+    if (pages.start == NULL) {
+        pages = fenced_new(sizeof copied_types);
+    }
+    uint32_t *types = fenced_last(&pages, copied_count * sizeof *types);
+    memcpy(types, copied_types, copied_count * sizeof *types);
+    return mdmp_copy(file.bytes, file.size, &filler_limits, types, copied_count, out, room, count, fault);
+}
 
 /* A summary is one structure: it fills a buffer of one. */
 static uint32_t fill_summary(blob file, void *out, size_t room, uint64_t *count, mdmp_fault *fault) {
@@ -40,6 +45,7 @@ static uint32_t fill_summary(blob file, void *out, size_t room, uint64_t *count,
 
 #define ROW(name, type, takes_memory) \
     { "mdmp_" #name, sizeof(type), fill_##name, takes_memory }
+#define TABLE_ROW(name, NAME, row) [FILL_##NAME] = ROW(name, row, true),
 
 const filler FILLERS[FILLERS_COUNT] = {
     [FILL_STREAMS] = ROW(streams, mdmp_stream, false),
@@ -51,14 +57,7 @@ const filler FILLERS[FILLERS_COUNT] = {
     [FILL_LIST_JSON] = ROW(list_json, uint8_t, true),
     [FILL_LIST_PART] = ROW(list_part, uint8_t, true),
     [FILL_COPY] = ROW(copy, uint8_t, true),
-    [FILL_THREADS] = ROW(threads, mdmp_thread, true),
-    [FILL_MODULES] = ROW(modules, mdmp_module, true),
-    [FILL_EXCEPTIONS] = ROW(exceptions, mdmp_exception, true),
-    [FILL_SYSTEMS] = ROW(systems, mdmp_system, true),
-    [FILL_UNLOADED] = ROW(unloaded, mdmp_unloaded_module, true),
-    [FILL_REGIONS] = ROW(regions, mdmp_region, true),
-    [FILL_THREAD_NAMES] = ROW(thread_names, mdmp_thread_name, true),
-    [FILL_RANGES] = ROW(ranges, mdmp_range, true),
+    EACH_TABLE(TABLE_ROW)
     [FILL_NAME] = ROW(name, uint8_t, true),
     [FILL_SUMMARY] = ROW(summary, mdmp_summary_record, true),
 };

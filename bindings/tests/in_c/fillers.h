@@ -2,6 +2,7 @@
 #ifndef FILLERS_H
 #define FILLERS_H
 
+#include "each_table.h"
 #include "support.h"
 
 typedef struct {
@@ -11,7 +12,8 @@ typedef struct {
     bool takes_memory;
 } filler;
 
-/* The number of each. Those from FILL_THREADS to FILL_RANGES give records. */
+/* The number of each. TABLES_COUNT of them give records, from FILL_TABLES on, in the order of EACH_TABLE. */
+#define FILL_NUMBER(name, NAME, row) FILL_##NAME,
 enum {
     FILL_STREAMS,
     FILL_CHECK,
@@ -22,18 +24,13 @@ enum {
     FILL_LIST_JSON,
     FILL_LIST_PART,
     FILL_COPY,
-    FILL_THREADS,
-    FILL_MODULES,
-    FILL_EXCEPTIONS,
-    FILL_SYSTEMS,
-    FILL_UNLOADED,
-    FILL_REGIONS,
-    FILL_THREAD_NAMES,
-    FILL_RANGES,
+    EACH_TABLE(FILL_NUMBER)
     FILL_NAME,
     FILL_SUMMARY,
-    FILLERS_COUNT
+    FILLERS_COUNT,
+    FILL_TABLES = FILL_COPY + 1
 };
+#undef FILL_NUMBER
 extern const filler FILLERS[FILLERS_COUNT];
 
 /* What they take besides: where `mdmp_name` reads, how much `mdmp_list_part` skips, the types that are copied, and limits. */

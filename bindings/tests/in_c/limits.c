@@ -1,4 +1,5 @@
 /* What each limit refuses at its edge, with which numbers, and what precedes it. */
+#include "each_table.h"
 #include "small.h"
 #include "support.h"
 
@@ -13,11 +14,11 @@ static void test_refusals(const mdmp_limits *limits, uint32_t status, mdmp_fault
 #define REFUSED(call)                                         \
     ASSERT((call) == status && count == 0 && out[0] == 0xaa); \
     ASSERT(memcmp(&fault, &reason, sizeof fault) == 0)
-#define TABLE(call, type)                                                \
+#define ROWS(call, type)                                                 \
     count = 1;                                                           \
     {                                                                    \
-        static type row;                                                 \
-        REFUSED(call(FILE_OF(SYSTEM), limits, &row, 1, &count, &fault)); \
+        static type one;                                                 \
+        REFUSED(call(FILE_OF(SYSTEM), limits, &one, 1, &count, &fault)); \
     }
     count = 1;
     REFUSED(mdmp_check(FILE_OF(SYSTEM), limits, out, sizeof out, &count, &fault));
@@ -25,16 +26,10 @@ static void test_refusals(const mdmp_limits *limits, uint32_t status, mdmp_fault
     REFUSED(mdmp_list(FILE_OF(SYSTEM), limits, false, out, sizeof out, &count, &fault));
     count = 1;
     REFUSED(mdmp_list_part(FILE_OF(SYSTEM), limits, false, 0, out, sizeof out, &count, &fault));
-    TABLE(mdmp_verdicts, mdmp_fault)
-    TABLE(mdmp_parts_outside, mdmp_fault)
-    TABLE(mdmp_threads, mdmp_thread)
-    TABLE(mdmp_modules, mdmp_module)
-    TABLE(mdmp_exceptions, mdmp_exception)
-    TABLE(mdmp_systems, mdmp_system)
-    TABLE(mdmp_unloaded, mdmp_unloaded_module)
-    TABLE(mdmp_regions, mdmp_region)
-    TABLE(mdmp_thread_names, mdmp_thread_name)
-    TABLE(mdmp_ranges, mdmp_range)
+    ROWS(mdmp_verdicts, mdmp_fault)
+    ROWS(mdmp_parts_outside, mdmp_fault)
+#define TABLE_ROWS(name, NAME, row) ROWS(mdmp_##name, row)
+    EACH_TABLE(TABLE_ROWS)
     static mdmp_summary_record summary;
     memset(&summary, 0xaa, sizeof summary);
     count = 0;

@@ -109,7 +109,7 @@ static void show_symbols(blob file, const mdmp_place *place) {
     ASSERT(mdmp_symbols(file.bytes, file.size, &LIMITS, place, &found, &fault) == MDMP_OK);
     printf("\n");
     begin(NULL, "SymbolFile");
-    show_symbol_kind("kind", found.kind);
+    show_mdmp_symbol_kind("kind", found.kind);
     show_bytes("guid", found.guid, sizeof found.guid);
     show_number("age", found.age);
     show_bytes("name", file.bytes + found.name_offset, found.name_size);
@@ -119,30 +119,36 @@ static void show_symbols(blob file, const mdmp_place *place) {
     end();
 }
 
+/* What a record names: its names, and the symbol file of a module. */
+#define SHOW_NAME(field) show_name(file, &at->field);
+#define SHOW_PLACE(field, part)                 \
+    if ((part) == MDMP_PART_CODEVIEW) {         \
+        show_symbols(file, &at->field);         \
+    }
+
 /* The records of a table, each with what it names. */
-#define SHOW(all, type, show, more)                   \
-    do {                                              \
-        uint64_t count;                               \
-        type *rows = all(file, &count);               \
-        for (const type *row = rows; count > 0; row++, count--) { \
-            show(NULL, row);                          \
-            more;                                     \
-            printf("\n");                             \
-        }                                             \
-        free(rows);                                   \
-    } while (0)
+#define SHOW_TABLE(name, NAME, row)                          \
+    {                                                        \
+        row *rows = all_##name(file, &count);                \
+        for (const row *at = rows; count > 0; at++, count--) { \
+            show_##row(NULL, at);                            \
+            NAMES_OF_##NAME(SHOW_NAME)                       \
+            PLACES_OF_##NAME(SHOW_PLACE)                     \
+            printf("\n");                                    \
+        }                                                    \
+        free(rows);                                          \
+    }
 
 void print_records(blob file) {
+    uint64_t count;
     mdmp_header_record header = header_of(file);
-    show_header_record(NULL, &header);
+    show_mdmp_header_record(NULL, &header);
     printf("\n");
-    SHOW(all_streams, mdmp_stream, show_stream, (void)0);
-    SHOW(all_threads, mdmp_thread, show_thread, (void)0);
-    SHOW(all_modules, mdmp_module, show_module, (show_name(file, &row->name), show_symbols(file, &row->codeview)));
-    SHOW(all_exceptions, mdmp_exception, show_exception, (void)0);
-    SHOW(all_systems, mdmp_system, show_system, show_name(file, &row->csd_version));
-    SHOW(all_unloaded, mdmp_unloaded_module, show_unloaded_module, show_name(file, &row->name));
-    SHOW(all_regions, mdmp_region, show_region, (void)0);
-    SHOW(all_thread_names, mdmp_thread_name, show_thread_name, show_name(file, &row->name));
-    SHOW(all_ranges, mdmp_range, show_range, (void)0);
+    mdmp_stream *streams = all_streams(file, &count);
+    for (const mdmp_stream *at = streams; count > 0; at++, count--) {
+        show_mdmp_stream(NULL, at);
+        printf("\n");
+    }
+    free(streams);
+    EACH_TABLE(SHOW_TABLE)
 }

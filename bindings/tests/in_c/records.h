@@ -1,6 +1,6 @@
 /* Prints each record by its members; inline, as a file may have none of some. Made by bindings/generate from bindings/interface.toml. */
 
-static inline void show_extent(const char *key, uint32_t number) {
+static inline void show_mdmp_extent(const char *key, uint32_t number) {
     static const named NAMES[] = {
         {0, "Empty"},
         {1, "Absent"},
@@ -10,7 +10,7 @@ static inline void show_extent(const char *key, uint32_t number) {
     show_named(key, number, NAMES, sizeof NAMES / sizeof *NAMES);
 }
 
-static inline void show_name_state(const char *key, uint32_t number) {
+static inline void show_mdmp_name_state(const char *key, uint32_t number) {
     static const named NAMES[] = {
         {0, "None"},
         {1, "Given"},
@@ -19,7 +19,7 @@ static inline void show_name_state(const char *key, uint32_t number) {
     show_named(key, number, NAMES, sizeof NAMES / sizeof *NAMES);
 }
 
-static inline void show_symbol_kind(const char *key, uint32_t number) {
+static inline void show_mdmp_symbol_kind(const char *key, uint32_t number) {
     static const named NAMES[] = {
         {0, "Rsds"},
         {1, "Other"},
@@ -28,23 +28,23 @@ static inline void show_symbol_kind(const char *key, uint32_t number) {
     show_named(key, number, NAMES, sizeof NAMES / sizeof *NAMES);
 }
 
-static inline void show_place(const char *key, const mdmp_place *row) {
+static inline void show_mdmp_place(const char *key, const mdmp_place *row) {
     begin(key, "Place");
     show_number("size", row->size);
     show_number("rva", row->rva);
-    show_extent("extent", row->extent);
+    show_mdmp_extent("extent", row->extent);
     end();
 }
 
-static inline void show_name_place(const char *key, const mdmp_name_place *row) {
+static inline void show_mdmp_name_place(const char *key, const mdmp_name_place *row) {
     begin(key, "NamePlace");
     show_number("rva", row->rva);
     show_number("size", row->size);
-    show_name_state("state", row->state);
+    show_mdmp_name_state("state", row->state);
     end();
 }
 
-static inline void show_header_record(const char *key, const mdmp_header_record *row) {
+static inline void show_mdmp_header_record(const char *key, const mdmp_header_record *row) {
     begin(key, "Header");
     show_number("flags", row->flags);
     show_number("signature", row->signature);
@@ -56,7 +56,7 @@ static inline void show_header_record(const char *key, const mdmp_header_record 
     end();
 }
 
-static inline void show_stream(const char *key, const mdmp_stream *row) {
+static inline void show_mdmp_stream(const char *key, const mdmp_stream *row) {
     begin(key, "Stream");
     show_number("entry", row->entry);
     show_number("stream_type", row->stream_type);
@@ -65,7 +65,7 @@ static inline void show_stream(const char *key, const mdmp_stream *row) {
     end();
 }
 
-static inline void show_thread(const char *key, const mdmp_thread *row) {
+static inline void show_mdmp_thread(const char *key, const mdmp_thread *row) {
     begin(key, "Thread");
     show_number("index", row->index);
     show_number("teb", row->teb);
@@ -75,12 +75,12 @@ static inline void show_thread(const char *key, const mdmp_thread *row) {
     show_number("suspend_count", row->suspend_count);
     show_number("priority_class", row->priority_class);
     show_number("priority", row->priority);
-    show_place("stack", &row->stack);
-    show_place("context", &row->context);
+    show_mdmp_place("stack", &row->stack);
+    show_mdmp_place("context", &row->context);
     end();
 }
 
-static inline void show_module(const char *key, const mdmp_module *row) {
+static inline void show_mdmp_module(const char *key, const mdmp_module *row) {
     begin(key, "Module");
     show_number("index", row->index);
     show_number("base_of_image", row->base_of_image);
@@ -92,13 +92,13 @@ static inline void show_module(const char *key, const mdmp_module *row) {
     show_number("file_version_ls", row->file_version_ls);
     show_number("product_version_ms", row->product_version_ms);
     show_number("product_version_ls", row->product_version_ls);
-    show_name_place("name", &row->name);
-    show_place("codeview", &row->codeview);
-    show_place("misc", &row->misc);
+    show_mdmp_name_place("name", &row->name);
+    show_mdmp_place("codeview", &row->codeview);
+    show_mdmp_place("misc", &row->misc);
     end();
 }
 
-static inline void show_exception(const char *key, const mdmp_exception *row) {
+static inline void show_mdmp_exception(const char *key, const mdmp_exception *row) {
     begin(key, "ExceptionRecord");
     show_number("index", row->index);
     show_number("exception_record", row->exception_record);
@@ -109,14 +109,14 @@ static inline void show_exception(const char *key, const mdmp_exception *row) {
     show_number("exception_code", row->exception_code);
     show_number("exception_flags", row->exception_flags);
     show_number("number_parameters", row->number_parameters);
-    show_place("context", &row->context);
+    show_mdmp_place("context", &row->context);
     end();
 }
 
-static inline void show_system(const char *key, const mdmp_system *row) {
+static inline void show_mdmp_system(const char *key, const mdmp_system *row) {
     begin(key, "System");
     show_number("index", row->index);
-    show_name_place("csd_version", &row->csd_version);
+    show_mdmp_name_place("csd_version", &row->csd_version);
     show_number("entry", row->entry);
     show_number("processor_architecture", row->processor_architecture);
     show_number("processor_level", row->processor_level);
@@ -132,7 +132,7 @@ static inline void show_system(const char *key, const mdmp_system *row) {
     end();
 }
 
-static inline void show_unloaded_module(const char *key, const mdmp_unloaded_module *row) {
+static inline void show_mdmp_unloaded_module(const char *key, const mdmp_unloaded_module *row) {
     begin(key, "UnloadedModule");
     show_number("index", row->index);
     show_number("base_of_image", row->base_of_image);
@@ -140,11 +140,11 @@ static inline void show_unloaded_module(const char *key, const mdmp_unloaded_mod
     show_number("size_of_image", row->size_of_image);
     show_number("checksum", row->checksum);
     show_number("time_date_stamp", row->time_date_stamp);
-    show_name_place("name", &row->name);
+    show_mdmp_name_place("name", &row->name);
     end();
 }
 
-static inline void show_region(const char *key, const mdmp_region *row) {
+static inline void show_mdmp_region(const char *key, const mdmp_region *row) {
     begin(key, "Region");
     show_number("index", row->index);
     show_number("base_address", row->base_address);
@@ -158,27 +158,27 @@ static inline void show_region(const char *key, const mdmp_region *row) {
     end();
 }
 
-static inline void show_thread_name(const char *key, const mdmp_thread_name *row) {
+static inline void show_mdmp_thread_name(const char *key, const mdmp_thread_name *row) {
     begin(key, "ThreadName");
     show_number("index", row->index);
     show_number("entry", row->entry);
     show_number("thread_id", row->thread_id);
-    show_name_place("name", &row->name);
+    show_mdmp_name_place("name", &row->name);
     end();
 }
 
-static inline void show_range(const char *key, const mdmp_range *row) {
+static inline void show_mdmp_range(const char *key, const mdmp_range *row) {
     begin(key, "Range");
     show_number("index", row->index);
     show_number("start", row->start);
     show_number("size", row->size);
     show_wide("offset", row->offset_high, row->offset);
     show_number("entry", row->entry);
-    show_extent("extent", row->extent);
+    show_mdmp_extent("extent", row->extent);
     end();
 }
 
-static inline void show_registers(const char *key, const mdmp_registers *row) {
+static inline void show_mdmp_registers(const char *key, const mdmp_registers *row) {
     begin(key, "Registers");
     show_number("instruction", row->instruction);
     show_number("stack", row->stack);
@@ -186,10 +186,10 @@ static inline void show_registers(const char *key, const mdmp_registers *row) {
     end();
 }
 
-static inline void show_summary_module(const char *key, const mdmp_summary_module *row) {
+static inline void show_mdmp_summary_module(const char *key, const mdmp_summary_module *row) {
     begin(key, "SummaryModule");
     show_number("base_of_image", row->base_of_image);
-    show_name_place("name", &row->name);
+    show_mdmp_name_place("name", &row->name);
     show_number("size_of_image", row->size_of_image);
     show_number("checksum", row->checksum);
     show_number("time_date_stamp", row->time_date_stamp);
@@ -197,11 +197,11 @@ static inline void show_summary_module(const char *key, const mdmp_summary_modul
     show_number("file_version_ls", row->file_version_ls);
     show_number("product_version_ms", row->product_version_ms);
     show_number("product_version_ls", row->product_version_ls);
-    show_place("codeview", &row->codeview);
+    show_mdmp_place("codeview", &row->codeview);
     end();
 }
 
-static inline void show_counts(const char *key, const mdmp_counts *row) {
+static inline void show_mdmp_counts(const char *key, const mdmp_counts *row) {
     begin(key, "Counts");
     show_number("streams", row->streams);
     show_number("threads", row->threads);

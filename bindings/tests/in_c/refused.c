@@ -1,49 +1,10 @@
-/* Each allocation refused in turn: want of memory is told, the buffers are as they were, and nothing is kept. Linked
- * with
- * --wrap=malloc --wrap=realloc --wrap=free: refused DUMP.. */
+/* Each allocation refused in turn: the call reports that memory ran out, leaves the buffers as they were and keeps nothing.
+ * Linked with heap.c: refused DUMP.. */
 #include "fillers.h"
+#include "heap.h"
 #include "small.h"
 
 #include <sys/resource.h>
-
-void *__real_malloc(size_t size);
-void *__real_realloc(void *block, size_t size);
-void __real_free(void *block);
-void *__wrap_malloc(size_t size);
-void *__wrap_realloc(void *block, size_t size);
-void __wrap_free(void *block);
-
-static long allowed = -1; /* how many are still granted, or -1 for all */
-static long asked, live;
-static size_t largest; /* the greatest block that was asked for */
-static uint64_t total; /* and all of them together */
-
-static bool refuses(size_t size) {
-    asked++;
-    largest = size > largest ? size : largest;
-    total += size;
-    if (allowed < 0) {
-        return false;
-    }
-    return allowed-- == 0 ? (allowed = 0, true) : false;
-}
-
-void *__wrap_malloc(size_t size) {
-    void *block = refuses(size) ? NULL : __real_malloc(size);
-    live += block != NULL;
-    return block;
-}
-
-void *__wrap_realloc(void *block, size_t size) {
-    void *grown = refuses(size) ? NULL : __real_realloc(block, size);
-    live += block == NULL && grown != NULL;
-    return grown;
-}
-
-void __wrap_free(void *block) {
-    live -= block != NULL;
-    __real_free(block);
-}
 
 static bool is_untouched(const uint8_t *out, size_t size) {
     for (size_t i = 0; i < size; i++) {
@@ -59,17 +20,17 @@ static long test_filler(const filler *tried, blob file, uint8_t *out, size_t roo
     for (long granted = 0;; granted++) {
         uint64_t count = 1;
         mdmp_fault fault;
-        long kept = live;
+        long kept = heap.live;
         memset(out, 0xaa, room * tried->item);
-        allowed = granted;
-        asked = 0;
+        heap.allowed = granted;
+        heap.asked = 0;
         uint32_t status = tried->call(file, out, room, &count, &fault);
-        allowed = -1;
-        ASSERT(live == kept);
+        heap.allowed = -1;
+        ASSERT(heap.live == kept);
         if (status != MDMP_NO_MEMORY) {
             /* a part of the dump that was made lies outside: it is not copied, and its entry is bad */
             bool is_outside = fault.kind == MDMP_FAULT_PART_OUTSIDE || fault.kind == MDMP_FAULT_BAD_ENTRIES;
-            ASSERT((status == MDMP_OK || is_outside) && asked == granted);
+            ASSERT((status == MDMP_OK || is_outside) && heap.asked == granted);
             return granted;
         }
         ASSERT(fault.kind == MDMP_FAULT_NO_MEMORY && count == 0 && is_untouched(out, room * tried->item));
@@ -81,13 +42,13 @@ static long test_memory(blob file) {
         uint8_t out[16];
         bool known[16];
         mdmp_fault fault;
-        long kept = live;
+        long kept = heap.live;
         memset(out, 0xaa, sizeof out);
         memset(known, 0, sizeof known);
-        allowed = granted;
+        heap.allowed = granted;
         uint32_t status = mdmp_memory(file.bytes, file.size, &LIMITS, 0x1000, out, 16, known, 16, &fault);
-        allowed = -1;
-        ASSERT(live == kept);
+        heap.allowed = -1;
+        ASSERT(heap.live == kept);
         if (status != MDMP_NO_MEMORY) {
             ASSERT(status == MDMP_OK);
             return granted;
@@ -101,12 +62,12 @@ static void test_fault_text(void) {
     for (long granted = 0;; granted++) {
         uint8_t out[200];
         uint64_t size = 1;
-        long kept = live;
+        long kept = heap.live;
         memset(out, 0xaa, sizeof out);
-        allowed = granted;
+        heap.allowed = granted;
         uint32_t status = mdmp_fault_text(&fault, out, sizeof out, &size);
-        allowed = -1;
-        ASSERT(live == kept);
+        heap.allowed = -1;
+        ASSERT(heap.live == kept);
         if (status != MDMP_NO_MEMORY) {
             ASSERT(status == MDMP_OK && size > 0);
             return;
@@ -134,8 +95,8 @@ static void test_none(blob file) {
     mdmp_slot places[2];
     uint64_t indexed, owner;
     ASSERT(ranges != NULL && slots != NULL);
-    allowed = 0;
-    asked = 0;
+    heap.allowed = 0;
+    heap.asked = 0;
     ASSERT(mdmp_header(file.bytes, file.size, &header, &fault) == MDMP_OK);
     ASSERT(mdmp_symbols(file.bytes, file.size, &LIMITS, &place, &symbols, &fault) == MDMP_OK);
     mdmp_module_ids ids;
@@ -148,8 +109,8 @@ static void test_none(blob file) {
     ASSERT(mdmp_read_index(file.bytes, file.size, slots, (size_t)indexed, start, out, 16, known, 16, &fault) == MDMP_OK);
     ASSERT(mdmp_index_modules(&module, 1, places, 2, &indexed, &fault) == MDMP_OK && indexed == 1);
     ASSERT(mdmp_where(places, 1, 9, &owner) == MDMP_OK && owner == 0);
-    allowed = -1;
-    ASSERT(asked == 0);
+    heap.allowed = -1;
+    ASSERT(heap.asked == 0);
     free(slots);
     free(ranges);
 }
@@ -164,11 +125,11 @@ static void test_held(const filler *tried, blob file, uint8_t *out, size_t room)
         mdmp_ranges(file.bytes, file.size, &LIMITS, NULL, 0, &ranges, &fault) == MDMP_FAULT) {
         return;
     }
-    asked = 0;
-    total = 0;
+    heap.asked = 0;
+    heap.total = 0;
     tried->call(file, out, room, &count, &fault);
-    ASSERT(asked <= 4);
-    ASSERT(total <= LIMITS.window + 12 * (uint64_t)header.number_of_streams + 24 * ranges + LIMITS.name);
+    ASSERT(heap.asked <= 4);
+    ASSERT(heap.total <= LIMITS.window + 12 * (uint64_t)header.number_of_streams + 24 * ranges + LIMITS.name);
 }
 
 /* A window that is far larger than the file is taken whole, and touched no further than it is filled. */
@@ -178,11 +139,11 @@ static void test_touched(blob file) {
     mdmp_fault fault;
     uint64_t count;
     wide.window = 1 << 30;
-    largest = 0;
+    heap.largest = 0;
     ASSERT(getrusage(RUSAGE_SELF, &before) == 0);
     ASSERT(mdmp_modules(file.bytes, file.size, &wide, NULL, 0, &count, &fault) != MDMP_BAD_ARGUMENT);
     ASSERT(getrusage(RUSAGE_SELF, &after) == 0);
-    ASSERT(file.size == 32 || largest == 1 << 30);
+    ASSERT(file.size == 32 || heap.largest == 1 << 30);
     /* of 1,048,576 KiB, an eighth of which may be touched by a sanitizer */
     ASSERT(after.ru_maxrss - before.ru_maxrss < 256 * 1024);
 }
@@ -192,16 +153,16 @@ static void test_part(blob file) {
     uint8_t out[64];
     uint64_t size, left;
     mdmp_fault fault;
-    largest = 0;
+    heap.largest = 0;
     ASSERT(mdmp_list(file.bytes, file.size, &LIMITS, false, NULL, 0, &size, &fault) == MDMP_BUFFER_TOO_SHORT);
-    ASSERT(size < 1 << 18 || largest < size);
-    largest = 0;
+    ASSERT(size < 1 << 18 || heap.largest < size);
+    heap.largest = 0;
     ASSERT(mdmp_list_json(file.bytes, file.size, &LIMITS, false, out, sizeof out, &left, &fault) == MDMP_BUFFER_TOO_SHORT);
-    ASSERT(left < 1 << 18 || largest < left);
-    largest = 0;
+    ASSERT(left < 1 << 18 || heap.largest < left);
+    heap.largest = 0;
     ASSERT(
         mdmp_list_part(file.bytes, file.size, &LIMITS, false, 0, out, sizeof out, &left, &fault) == MDMP_BUFFER_TOO_SHORT);
-    ASSERT(left == size && (size < 1 << 18 || largest < size));
+    ASSERT(left == size && (size < 1 << 18 || heap.largest < size));
 }
 
 static uint32_t list_within(const mdmp_limits *limits, uint8_t *out, size_t room, uint64_t *size, mdmp_fault *fault) {
@@ -221,18 +182,18 @@ static void test_limited(uint32_t (*call)(const mdmp_limits *, uint8_t *, size_t
         uint8_t out[512];
         uint64_t size = 1;
         mdmp_fault fault;
-        long kept = live;
+        long kept = heap.live;
         memset(out, 0xaa, sizeof out);
-        allowed = granted;
-        asked = 0;
+        heap.allowed = granted;
+        heap.asked = 0;
         uint32_t status = call(&limits, out, sizeof out, &size, &fault);
-        allowed = -1;
-        ASSERT(live == kept && size == 0 && is_untouched(out, sizeof out));
+        heap.allowed = -1;
+        ASSERT(heap.live == kept && size == 0 && is_untouched(out, sizeof out));
         if (status == MDMP_LIMIT) {
-            ASSERT(fault.kind == kind && asked == granted);
+            ASSERT(fault.kind == kind && heap.asked == granted);
             return;
         }
-        ASSERT(status == MDMP_NO_MEMORY && fault.kind == MDMP_FAULT_NO_MEMORY && asked == granted + 1);
+        ASSERT(status == MDMP_NO_MEMORY && fault.kind == MDMP_FAULT_NO_MEMORY && heap.asked == granted + 1);
     }
 }
 
@@ -280,6 +241,6 @@ int main(int argc, char **argv) {
     test_fault_text();
     test_limits();
     free(out);
-    ASSERT(live == 0);
+    ASSERT(heap.live == 0);
     return 0;
 }

@@ -2,29 +2,23 @@
 #ifndef TABLES_H
 #define TABLES_H
 
+#include "each_table.h"
 #include "support.h"
 
 /* All records of one kind: call again with the room that is asked for. */
-#define ALL(call, type, name)                                                                               \
-    static type *name(blob file, uint64_t *count) {                                                         \
+#define ALL(name, NAME, row)                                                                                \
+    static row *all_##name(blob file, uint64_t *count) {                                                    \
         mdmp_fault fault;                                                                                   \
-        uint32_t status = call(file.bytes, file.size, &LIMITS, NULL, 0, count, &fault);                     \
+        uint32_t status = mdmp_##name(file.bytes, file.size, &LIMITS, NULL, 0, count, &fault);              \
         ASSERT(status == (*count == 0 ? MDMP_OK : MDMP_BUFFER_TOO_SHORT) && fault.kind == MDMP_FAULT_NONE); \
-        type *rows = calloc((size_t)*count + 1, sizeof *rows);                                              \
+        row *rows = calloc((size_t)*count + 1, sizeof *rows);                                               \
         ASSERT(rows != NULL);                                                                               \
-        status = call(file.bytes, file.size, &LIMITS, rows, (size_t)*count, count, &fault);                 \
+        status = mdmp_##name(file.bytes, file.size, &LIMITS, rows, (size_t)*count, count, &fault);          \
         ASSERT(status == MDMP_OK && fault.kind == MDMP_FAULT_NONE);                                         \
         return rows;                                                                                        \
     }
 
-ALL(mdmp_threads, mdmp_thread, all_threads)
-ALL(mdmp_modules, mdmp_module, all_modules)
-ALL(mdmp_exceptions, mdmp_exception, all_exceptions)
-ALL(mdmp_systems, mdmp_system, all_systems)
-ALL(mdmp_unloaded, mdmp_unloaded_module, all_unloaded)
-ALL(mdmp_regions, mdmp_region, all_regions)
-ALL(mdmp_thread_names, mdmp_thread_name, all_thread_names)
-ALL(mdmp_ranges, mdmp_range, all_ranges)
+EACH_TABLE(ALL)
 
 static mdmp_header_record header_of(blob file) {
     mdmp_fault fault;

@@ -49,7 +49,15 @@ static void print_name(FILE *out, blob file, const mdmp_name_place *place) {
     fprintf(out, "\"");
 }
 
-static void print_thread(FILE *out, const mdmp_thread *row) {
+/* Where the records of a file are printed, and whether with their CodeView records. */
+typedef struct {
+    FILE *out;
+    blob file;
+    bool pdb;
+} printing;
+
+static void print_threads(const printing *to, const mdmp_thread *row) {
+    FILE *out = to->out;
     ASSERT_RESERVED(row)
     fprintf(out, "thread %" PRIu64 " id %" PRIu32 " suspend %" PRIu32 " class %" PRIu32 " priority %" PRIu32, row->index,
         row->thread_id, row->suspend_count, row->priority_class, row->priority);
@@ -57,20 +65,6 @@ static void print_thread(FILE *out, const mdmp_thread *row) {
     print_place(out, &row->stack);
     fprintf(out, " context ");
     print_place(out, &row->context);
-    fprintf(out, "\n");
-}
-
-static void print_module(FILE *out, blob file, const mdmp_module *row) {
-    ASSERT_RESERVED(row)
-    fprintf(out, "module %" PRIu64 " base 0x%016" PRIx64 " size %" PRIu32 " checksum %" PRIu32 " time %" PRIu32, row->index,
-        row->base_of_image, row->size_of_image, row->checksum, row->time_date_stamp);
-    fprintf(out, " version %" PRIu32 ".%" PRIu32 ".%" PRIu32 ".%" PRIu32 " cv ", row->file_version_ms >> 16,
-        row->file_version_ms & 0xffff, row->file_version_ls >> 16, row->file_version_ls & 0xffff);
-    print_place(out, &row->codeview);
-    fprintf(out, " misc ");
-    print_place(out, &row->misc);
-    fprintf(out, " name ");
-    print_name(out, file, &row->name);
     fprintf(out, "\n");
 }
 
@@ -105,15 +99,35 @@ static void print_symbols(FILE *out, blob file, const mdmp_place *place) {
     fprintf(out, "\"%s\n", symbols.name_ended == 1 ? "" : " cut");
 }
 
-static void print_unloaded(FILE *out, blob file, const mdmp_unloaded_module *row) {
+static void print_modules(const printing *to, const mdmp_module *row) {
+    FILE *out = to->out;
+    ASSERT_RESERVED(row)
+    fprintf(out, "module %" PRIu64 " base 0x%016" PRIx64 " size %" PRIu32 " checksum %" PRIu32 " time %" PRIu32, row->index,
+        row->base_of_image, row->size_of_image, row->checksum, row->time_date_stamp);
+    fprintf(out, " version %" PRIu32 ".%" PRIu32 ".%" PRIu32 ".%" PRIu32 " cv ", row->file_version_ms >> 16,
+        row->file_version_ms & 0xffff, row->file_version_ls >> 16, row->file_version_ls & 0xffff);
+    print_place(out, &row->codeview);
+    fprintf(out, " misc ");
+    print_place(out, &row->misc);
+    fprintf(out, " name ");
+    print_name(out, to->file, &row->name);
+    fprintf(out, "\n");
+    if (to->pdb) {
+        print_symbols(out, to->file, &row->codeview);
+    }
+}
+
+static void print_unloaded(const printing *to, const mdmp_unloaded_module *row) {
+    FILE *out = to->out;
     ASSERT_RESERVED(row)
     fprintf(out, "unloaded %" PRIu64 " base 0x%016" PRIx64 " size %" PRIu32 " checksum %" PRIu32 " time %" PRIu32 " name ",
         row->index, row->base_of_image, row->size_of_image, row->checksum, row->time_date_stamp);
-    print_name(out, file, &row->name);
+    print_name(out, to->file, &row->name);
     fprintf(out, "\n");
 }
 
-static void print_exception(FILE *out, const mdmp_exception *row) {
+static void print_exceptions(const printing *to, const mdmp_exception *row) {
+    FILE *out = to->out;
     ASSERT_RESERVED(row)
     fprintf(out, "exception thread %" PRIu32 " code 0x%08" PRIx32 " flags %" PRIu32, row->thread_id, row->exception_code,
         row->exception_flags);
@@ -127,7 +141,8 @@ static void print_exception(FILE *out, const mdmp_exception *row) {
     fprintf(out, "\n");
 }
 
-static void print_system(FILE *out, blob file, const mdmp_system *row) {
+static void print_systems(const printing *to, const mdmp_system *row) {
+    FILE *out = to->out;
     ASSERT_RESERVED(row)
     fprintf(out, "system architecture %" PRIu32 " level %" PRIu32 " revision %" PRIu32 " processors %" PRIu32
            " product %" PRIu32,
@@ -135,21 +150,23 @@ static void print_system(FILE *out, blob file, const mdmp_system *row) {
         row->product_type);
     fprintf(out, " version %" PRIu32 ".%" PRIu32 ".%" PRIu32 " platform %" PRIu32 " suite %" PRIu32 " csd ",
         row->major_version, row->minor_version, row->build_number, row->platform_id, row->suite_mask);
-    print_name(out, file, &row->csd_version);
+    print_name(out, to->file, &row->csd_version);
     fprintf(out, "\n");
 }
 
-static void print_region(FILE *out, const mdmp_region *row) {
+static void print_regions(const printing *to, const mdmp_region *row) {
+    FILE *out = to->out;
     ASSERT_RESERVED(row)
     fprintf(out, "region %" PRIu64 " base 0x%016" PRIx64 " allocation 0x%016" PRIx64 " initial %" PRIu32 " size %" PRIu64,
         row->index, row->base_address, row->allocation_base, row->allocation_protect, row->region_size);
     fprintf(out, " state %" PRIu32 " protect %" PRIu32 " type %" PRIu32 "\n", row->state, row->protect, row->memory_type);
 }
 
-static void print_thread_name(FILE *out, blob file, const mdmp_thread_name *row) {
+static void print_thread_names(const printing *to, const mdmp_thread_name *row) {
+    FILE *out = to->out;
     ASSERT_RESERVED(row)
     fprintf(out, "threadname %" PRIu64 " id %" PRIu32 " name ", row->index, row->thread_id);
-    print_name(out, file, &row->name);
+    print_name(out, to->file, &row->name);
     fprintf(out, "\n");
 }
 
@@ -171,7 +188,8 @@ void print_wide(FILE *out, uint64_t upper, uint64_t lower) {
     fprintf(out, "%s", at);
 }
 
-static void print_range(FILE *out, const mdmp_range *row) {
+static void print_ranges(const printing *to, const mdmp_range *row) {
+    FILE *out = to->out;
     ASSERT_RESERVED(row)
     ASSERT(row->extent <= MDMP_EXTENT_OUTSIDE);
     fprintf(out, "range %" PRIu64 " start 0x%016" PRIx64 " %s", row->index, row->start, EXTENTS[row->extent]);
@@ -186,9 +204,10 @@ static void print_range(FILE *out, const mdmp_range *row) {
 }
 
 /* Prints the rows of one entry, from the first that is not yet printed. */
-#define PRINT(kind, rows, print)                                                       \
-    for (; at[kind] < given->counts[kind] && rows[at[kind]].entry == entry; at[kind]++) { \
-        print;                                                                         \
+#define PRINT(name, NAME, row)                                                                        \
+    for (uint64_t *i = &at[TABLE_##NAME];                                                             \
+         *i < given->counts[TABLE_##NAME] && given->name[*i].entry == entry; ++*i) {                  \
+        print_##name(&to, &given->name[*i]);                                                          \
     }
 
 static void print_header(FILE *out, const mdmp_header_record *header) {
@@ -200,7 +219,8 @@ static void print_header(FILE *out, const mdmp_header_record *header) {
 }
 
 void print_rows(FILE *out, blob file, const given_rows *given, uint32_t entries, bool pdb) {
-    uint64_t at[8] = {0};
+    uint64_t at[TABLES_COUNT] = {0};
+    const printing to = {out, file, pdb};
     print_header(out, &given->header);
     for (uint32_t entry = 0; entry < entries; entry++) {
         const mdmp_stream *stream = &given->streams[entry];
@@ -208,15 +228,7 @@ void print_rows(FILE *out, blob file, const given_rows *given, uint32_t entries,
         ASSERT_RESERVED(stream)
         fprintf(out, "stream %" PRIu32 " type %" PRIu32 " size %" PRIu32 " rva %" PRIu32 "\n", entry, stream->stream_type,
             stream->size, stream->rva);
-        PRINT(0, given->threads, print_thread(out, &given->threads[at[0]]))
-        PRINT(1, given->modules, print_module(out, file, &given->modules[at[1]]);
-              if (pdb) { print_symbols(out, file, &given->modules[at[1]].codeview); })
-        PRINT(2, given->exceptions, print_exception(out, &given->exceptions[at[2]]))
-        PRINT(3, given->systems, print_system(out, file, &given->systems[at[3]]))
-        PRINT(4, given->unloaded, print_unloaded(out, file, &given->unloaded[at[4]]))
-        PRINT(5, given->regions, print_region(out, &given->regions[at[5]]))
-        PRINT(6, given->names, print_thread_name(out, file, &given->names[at[6]]))
-        PRINT(7, given->ranges, print_range(out, &given->ranges[at[7]]))
+        EACH_TABLE(PRINT)
     }
 }
 
@@ -224,24 +236,12 @@ void print_fields(blob file) {
     uint64_t count;
     mdmp_stream *streams = all_streams(file, &count);
     given_rows rows = {.header = header_of(file), .streams = streams};
-    mdmp_thread *threads = all_threads(file, &rows.counts[0]);
-    mdmp_module *modules = all_modules(file, &rows.counts[1]);
-    mdmp_exception *exceptions = all_exceptions(file, &rows.counts[2]);
-    mdmp_system *systems = all_systems(file, &rows.counts[3]);
-    mdmp_unloaded_module *unloaded = all_unloaded(file, &rows.counts[4]);
-    mdmp_region *regions = all_regions(file, &rows.counts[5]);
-    mdmp_thread_name *names = all_thread_names(file, &rows.counts[6]);
-    mdmp_range *ranges = all_ranges(file, &rows.counts[7]);
-    rows.threads = threads, rows.modules = modules, rows.exceptions = exceptions, rows.systems = systems;
-    rows.unloaded = unloaded, rows.regions = regions, rows.names = names, rows.ranges = ranges;
+#define READ(name, NAME, row)                             \
+    row *name = all_##name(file, &rows.counts[TABLE_##NAME]); \
+    rows.name = name;
+    EACH_TABLE(READ)
     print_rows(stdout, file, &rows, (uint32_t)count, false);
-    free(ranges);
-    free(names);
-    free(regions);
-    free(unloaded);
-    free(systems);
-    free(exceptions);
-    free(modules);
-    free(threads);
+#define FREE(name, NAME, row) free(name);
+    EACH_TABLE(FREE)
     free(streams);
 }

@@ -2,22 +2,18 @@
 #ifndef TEXTS_H
 #define TEXTS_H
 
+#include "each_table.h"
 #include "support.h"
 
 /* The rows of a file that the calls give. */
+#define TABLE_MEMBER(name, NAME, row) const row *name;
 typedef struct {
     mdmp_header_record header;
     const mdmp_stream *streams;
-    const mdmp_thread *threads;
-    const mdmp_module *modules;
-    const mdmp_exception *exceptions;
-    const mdmp_system *systems;
-    const mdmp_unloaded_module *unloaded;
-    const mdmp_region *regions;
-    const mdmp_thread_name *names;
-    const mdmp_range *ranges;
-    uint64_t counts[8]; /* of each kind of record, in this order */
+    EACH_TABLE(TABLE_MEMBER)
+    uint64_t counts[TABLES_COUNT]; /* of each table */
 } given_rows;
+#undef TABLE_MEMBER
 
 /* Prints the list up to so many entries, of the rows alone, with names and CodeView records as the file has them. */
 void print_rows(FILE *out, blob file, const given_rows *rows, uint32_t entries, bool pdb);

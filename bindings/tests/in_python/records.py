@@ -48,17 +48,9 @@ def lines(dump: mdmp.Dump) -> Iterator[str]:
     """The header, the entries and the records of each kind; after a record its name and its symbol file."""
     yield shown(dump.header)
     yield from map(shown, dump.streams)
-    yield from map(shown, dump.threads)
-    for module in dump.modules:
-        yield from (shown(module), name(module.name))
-        if module.symbols is not None:
-            yield symbol_file(module.symbols)
-    yield from map(shown, dump.exceptions)
-    for system in dump.systems:
-        yield from (shown(system), name(system.csd_version))
-    for unloaded in dump.unloaded:
-        yield from (shown(unloaded), name(unloaded.name))
-    yield from map(shown, dump.regions)
-    for thread_name in dump.thread_names:
-        yield from (shown(thread_name), name(thread_name.name))
-    yield from map(shown, dump.ranges)
+    for kind, table in _structures.TABLES.items():
+        for record in getattr(dump, kind):
+            yield shown(record)
+            yield from (name(getattr(record, field)) for field in table.names)
+            if getattr(record, "symbols", None) is not None:
+                yield symbol_file(record.symbols)

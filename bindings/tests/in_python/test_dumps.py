@@ -13,7 +13,7 @@ from itertools import zip_longest
 from typing import Any, Iterator
 
 import mdmp
-from mdmp import Extent
+from mdmp import Extent, _structures
 
 from . import records
 
@@ -140,14 +140,8 @@ class Made(unittest.TestCase):
         dump = self.dump
         self.compare("header", (dump.header,))
         self.compare("stream", dump.streams)
-        self.compare("thread", dump.threads)
-        self.compare("module", dump.modules)
-        self.compare("exception", dump.exceptions)
-        self.compare("system", dump.systems)
-        self.compare("unloaded_module", dump.unloaded)
-        self.compare("region", dump.regions)
-        self.compare("thread_name", dump.thread_names)
-        self.compare("range", dump.ranges)
+        for name, table in _structures.TABLES.items():
+            self.compare((table.row.__doc__ or "").removeprefix("mdmp_"), getattr(dump, name))
 
     def test_entries_and_places(self) -> None:
         types = {stream.entry: stream.stream_type for stream in self.dump.streams}

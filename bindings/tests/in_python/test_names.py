@@ -28,6 +28,8 @@ from mdmp.names import (
 )
 
 FOLDER = pathlib.Path(os.environ["MDMP_STORED"])
+# The first type of streams that has no name.
+FIRST_UNNAMED = next(number for number in range(0x8000) if names.stream_type_name(number) is None)
 WINDOWS, LINUX, ANDROID = Platform.VER_PLATFORM_WIN32_NT, Platform.MD_OS_LINUX, Platform.MD_OS_ANDROID
 MACOS, IOS = Platform.MD_OS_MAC_OS_X, Platform.MD_OS_IOS
 X64, ARM64 = Architecture.PROCESSOR_ARCHITECTURE_AMD64, Architecture.PROCESSOR_ARCHITECTURE_ARM64
@@ -188,13 +190,12 @@ class Others(unittest.TestCase):
         }
         for number, name in known.items():
             self.assertEqual((names.stream_type_name(number), StreamType(number).name), (name, name))
-        self.assertEqual([number for number in range(25) if names.stream_type_name(number) is None], [])
+        self.assertGreater(FIRST_UNNAMED, 24)
         self.assertEqual([number for number in range(0x47670001, 0x4767000E) if number not in list(StreamType)], [])
 
     def test_a_number_without_a_name(self) -> None:
-        self.assertIsNone(names.stream_type_name(25))
-        number = StreamType(25)
-        self.assertEqual((number, number.name, number.is_named), (25, "NUMBER_25", False))
+        number = StreamType(FIRST_UNNAMED)
+        self.assertEqual((number, number.name, number.is_named), (FIRST_UNNAMED, f"NUMBER_{FIRST_UNNAMED}", False))
         self.assertTrue(StreamType.ThreadListStream.is_named)
         self.assertIsNone(exception_code(WINDOWS, 77))
         self.assertEqual([names.platform_name(77), names.architecture_name(77)], [None, None])

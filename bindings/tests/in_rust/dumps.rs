@@ -1,6 +1,6 @@
 //! Each dump of the folder that `MDMP_STORED` names, against what is stored of it there.
 
-use mdmp::{Dump, Error, Extent, FaultKind, NamePlace};
+use mdmp::{Dump, Error, Extent, FaultKind, NamePlace, Place};
 use std::fmt::Write as _;
 use std::path::{Path, PathBuf};
 
@@ -28,29 +28,23 @@ fn stored(path: &Path, extension: &str) -> String {
     std::fs::read_to_string(path.with_extension(extension)).unwrap()
 }
 
+include!("tables.rs");
+
+/// The records of a table, each with its names and its symbol file.
+macro_rules! put_table {
+    ($out:ident, $dump:ident, $table:ident, [$($name:ident)*], [$($codeview:ident)*]) => {
+        put(&mut $out, &$dump.$table().unwrap(), |_out, _row| {
+            $(put_name(_out, $dump, &_row.$name);)*
+            $(put_symbols(_out, $dump, &_row.$codeview);)*
+        });
+    };
+}
+
 /// The records in the lines that bindings/tests/in_c/records.c prints: each member by its name.
 fn lines(dump: &Dump) -> String {
     let mut out = format!("{:?}\n", dump.header().unwrap());
     put(&mut out, &dump.streams().unwrap(), |_, _| {});
-    put(&mut out, &dump.threads().unwrap(), |_, _| {});
-    put(&mut out, &dump.modules().unwrap(), |out, module| {
-        put_name(out, dump, &module.name);
-        if let Some(symbols) = dump.symbols(&module.codeview).unwrap() {
-            writeln!(out, "{symbols:?}").unwrap();
-        }
-    });
-    put(&mut out, &dump.exceptions().unwrap(), |_, _| {});
-    put(&mut out, &dump.systems().unwrap(), |out, system| {
-        put_name(out, dump, &system.csd_version)
-    });
-    put(&mut out, &dump.unloaded().unwrap(), |out, module| {
-        put_name(out, dump, &module.name)
-    });
-    put(&mut out, &dump.regions().unwrap(), |_, _| {});
-    put(&mut out, &dump.thread_names().unwrap(), |out, row| {
-        put_name(out, dump, &row.name)
-    });
-    put(&mut out, &dump.ranges().unwrap(), |_, _| {});
+    each_table!(put_table, out, dump);
     out
 }
 
@@ -65,6 +59,12 @@ fn put<T: std::fmt::Debug>(out: &mut String, rows: &[T], more: impl Fn(&mut Stri
 fn put_name(out: &mut String, dump: &Dump, place: &NamePlace) {
     let name = dump.name(place).unwrap();
     writeln!(out, "{:?}", name.as_ref().map(|name| name.as_bytes())).unwrap();
+}
+
+fn put_symbols(out: &mut String, dump: &Dump, place: &Place) {
+    if let Some(symbols) = dump.symbols(place).unwrap() {
+        writeln!(out, "{symbols:?}").unwrap();
+    }
 }
 
 #[test]

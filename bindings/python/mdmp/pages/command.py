@@ -117,6 +117,17 @@ def day(arguments: argparse.Namespace) -> tuple[str, int]:
     return "", 0
 
 
+def _with_limits(command: argparse.ArgumentParser, file: str) -> None:
+    """Adds the options of both commands that bound a page."""
+    command.add_argument("--rows", type=number, default=500, help="the most rows that a table shows (500)")
+    command.add_argument(
+        "--budget",
+        type=number,
+        default=reading.BUDGET,
+        help=f"the most bytes that are read for each list of {file}",
+    )
+
+
 def parser() -> argparse.ArgumentParser:
     """The command lines of both commands."""
     words = argparse.ArgumentParser(prog="python -m mdmp", description="Makes HTML pages of dumps.")
@@ -126,13 +137,7 @@ def parser() -> argparse.ArgumentParser:
     )
     one.add_argument("file", metavar="FILE", help="the dump")
     one.add_argument("-o", "--out", required=True, metavar="FILE.html", help=_OUT)
-    one.add_argument("--rows", type=number, default=500, help="the most rows that a table shows (500)")
-    one.add_argument(
-        "--budget",
-        type=number,
-        default=reading.BUDGET,
-        help="the most bytes that are read for each list of the file",
-    )
+    _with_limits(one, "the file")
     one.set_defaults(run=page)
     many = commands.add_parser(
         "day",
@@ -152,13 +157,7 @@ def parser() -> argparse.ArgumentParser:
         metavar="FOLDER",
         help="also write a page of each dump that the page names to this folder, and link to it",
     )
-    many.add_argument("--rows", type=number, default=500, help="the most rows that a table shows (500)")
-    many.add_argument(
-        "--budget",
-        type=number,
-        default=reading.BUDGET,
-        help="the most bytes that are read for each list of a file",
-    )
+    _with_limits(many, "a file")
     many.set_defaults(run=day)
     return words
 

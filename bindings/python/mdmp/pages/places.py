@@ -4,6 +4,7 @@ from __future__ import annotations
 
 from typing import Any, Iterator, NamedTuple
 
+from .. import _structures
 from .._records import Extent, NameState
 from . import names, text
 from .reading import Listing, Reading
@@ -44,6 +45,8 @@ FILE_KINDS = {
     "range": (1, "range of memory", "ranges of memory"),
     "name": (2, "name", "names"),
 }
+# Other parts have their own word.
+FILE_KINDS |= {word: (1, word, f"{word}s") for table in _structures.TABLES.values() for _, word in table.places if word not in FILE_KINDS}
 ADDRESS_KINDS = {
     "module": (0, "module", "modules"),
     "unloaded": (0, "unloaded module", "unloaded modules"),
@@ -58,16 +61,10 @@ _THERE, _INSIDE, _NO_NAME = frozenset(map(int, (Extent.INSIDE, Extent.OUTSIDE)))
 
 def _lists(reading: Reading) -> dict[str, Listing]:
     """The lists whose rows are drawn, with their words."""
-    return {
-        "entries": reading.streams,
-        "threads": reading.threads,
-        "modules": reading.modules,
-        "unloaded modules": reading.unloaded,
-        "exceptions": reading.exceptions,
-        "systems": reading.systems,
-        "names of threads": reading.thread_names,
-        "ranges": reading.ranges,
-    }
+    # modules that were unloaded are named after modules
+    kinds = sorted(_structures.TABLES.items(), key=lambda one: one[0] not in ("threads", "modules", "unloaded"))
+    drawn = [(name, table) for name, table in kinds if table.names or table.places or name == "ranges"]
+    return {"entries": reading.streams} | {table.words: reading.tables[name] for name, table in drawn}
 
 
 def most_drawn(reading: Reading) -> int:
@@ -110,16 +107,12 @@ def in_file(reading: Reading) -> Iterator[Span]:
     for entry, stream_type, size, rva in reading.streams.members("entry", "stream_type", "size", "rva", most=most):
         if stream_type and size:
             yield Span(rva, rva + size, "stream", entry)
-    yield from _parts(reading.threads, "stack", "stack", most)
-    yield from _parts(reading.threads, "context", "context", most)
-    for span in _parts(reading.exceptions, "context", "context", most):
-        yield span._replace(which=-1)
-    yield from _names(reading.modules, "name", most)
-    yield from _parts(reading.modules, "codeview", "codeview", most)
-    yield from _parts(reading.modules, "misc", "misc", most)
-    yield from _names(reading.unloaded, "name", most)
-    yield from _names(reading.systems, "csd_version", most)
-    yield from _names(reading.thread_names, "name", most)
+    for kind, table in _structures.TABLES.items():
+        for part, word in table.places:
+            for span in _parts(reading.tables[kind], part, word, most):
+                yield span._replace(which=-1) if kind == "exceptions" else span
+        for name in table.names:
+            yield from _names(reading.tables[kind], name, most)
     ranges = reading.ranges.members("size", "offset", "offset_high", "extent", most=most)
     for at, (size, lower, upper, extent) in enumerate(ranges):
         if extent in _THERE and size:
@@ -200,8 +193,6 @@ def next_raw(listing: Any, at: int) -> Any:
 
 
 def _name_text(reading: Reading, span: Span) -> str:
-    from .. import _structures
-
     state = NameState.GIVEN if span.end - span.start - 4 <= reading.dump._limits.name else NameState.LONG
     name = reading.dump._name_at(_structures.NamePlace(rva=span.which, size=span.end - span.start - 4, state=state))
     return "too long" if name is None else text.visible(text.last_part(name)[:200])

@@ -9,27 +9,14 @@ from functools import cached_property, lru_cache
 from itertools import islice
 from typing import Any, Iterator
 
-from .. import _structures
+from .. import _records, _structures
 from .._buffer import bytes_at
 from .._dump import Dump
 from .._fault import Fault, LimitReached, OutputLimit, expect_good, fault_of, output_limit
 from .._images import Images
 from .._library import Filled, array_of, library
 from .._limits import UNTRUSTED, Limits
-from .._records import (
-    ExceptionRecord,
-    FaultKind,
-    Header,
-    Module,
-    Range,
-    Region,
-    Status,
-    Stream,
-    System,
-    Thread,
-    ThreadName,
-    UnloadedModule,
-)
+from .._records import FaultKind, Header, Status, Stream
 from .._summary import Crash, Summary
 from ..names import StreamType
 
@@ -38,17 +25,7 @@ BUDGET = _structures.UNTRUSTED
 
 # The types of streams that have records, and the least bytes of a record. They give the most rows of a list, so that the
 # first buffer is not too short.
-_LEAST = {
-    StreamType.ThreadListStream: 48,
-    StreamType.ModuleListStream: 108,
-    StreamType.MemoryListStream: 16,
-    StreamType.ExceptionStream: 168,
-    StreamType.SystemInfoStream: 56,
-    StreamType.Memory64ListStream: 16,
-    StreamType.UnloadedModuleListStream: 24,
-    StreamType.MemoryInfoListStream: 48,
-    StreamType.ThreadNamesStream: 12,
-}
+_LEAST = _structures.RECORD_SIZES
 
 
 def page_limits(budget: int) -> Limits:
@@ -83,7 +60,7 @@ class Listing:
     """The records of one kind, as the library returned them: the first `count` of `items`. `raw` and `members` go over
     them, and `record` makes one."""
 
-    def __init__(self, reading: Reading, call: Any, record: Any, *types: StreamType) -> None:
+    def __init__(self, reading: Reading, call: Any, record: Any, *types: int) -> None:
         """The records of the streams of these types, or the entries of the directory if no type is given."""
         self._reading, self._record = reading, record
         self.fault: Fault | None = None
@@ -148,36 +125,46 @@ class Reading:
         self._rows: dict[int, int] = {}
         self.streams = Listing(self, library.mdmp_streams_, Stream)
         self._count_rows()
-        self.modules = Listing(self, library.mdmp_modules_, Module, StreamType.ModuleListStream)
+        self.tables: dict[str, Listing] = {}
+        self.modules = self._table("modules")
         self._images: Images | None = None
-        self.exceptions = Listing(self, library.mdmp_exceptions_, ExceptionRecord, StreamType.ExceptionStream)
+        self.exceptions = self._table("exceptions")
         self._verdicts: Any = ()
         self.verdict_count = self.bad_count = 0
         if not self.is_too_long:
             self._read_verdicts()
-        self.threads = Listing(self, library.mdmp_threads_, Thread, StreamType.ThreadListStream)
-        self.systems = Listing(self, library.mdmp_systems_, System, StreamType.SystemInfoStream)
-        self.unloaded = Listing(self, library.mdmp_unloaded_, UnloadedModule, StreamType.UnloadedModuleListStream)
-        self.regions = Listing(self, library.mdmp_regions_, Region, StreamType.MemoryInfoListStream)
-        self.thread_names = Listing(self, library.mdmp_thread_names_, ThreadName, StreamType.ThreadNamesStream)
-        memory = (StreamType.MemoryListStream, StreamType.Memory64ListStream)
-        self.ranges = Listing(self, library.mdmp_ranges_, Range, *memory)
+        self.threads = self._table("threads")
+        self.systems = self._table("systems")
+        self.unloaded = self._table("unloaded")
+        self.regions = self._table("regions")
+        self.thread_names = self._table("thread_names")
+        self.ranges = self._table("ranges")
+        for name in _structures.TABLES:
+            if name not in self.tables:
+                self._table(name)
         self._name_threads()
+
+    def _table(self, name: str) -> Listing:
+        """Reads the records of one kind, by the name of the call."""
+        table = _structures.TABLES[name]
+        record = getattr(_records, table.row.__name__)
+        self.tables[name] = Listing(self, getattr(library, f"mdmp_{name}_"), record, *table.types)
+        return self.tables[name]
 
     def _count_rows(self) -> None:
         """The most records that the streams of each type have, by their sizes. A stream outside the file has none."""
         rows = dict.fromkeys((stream_type for (stream_type,) in self.streams.members("stream_type")), 0)
-        least = {int(kind): size for kind, size in _LEAST.items() if kind in rows}
+        least = {kind: size for kind, size in _LEAST.items() if kind in rows}
         for stream_type, size, rva in self.streams.members("stream_type", "size", "rva"):
             if stream_type in least and rva + size <= self.size:
                 rows[stream_type] += size // least[stream_type]
         self._rows = rows
 
-    def may_have(self, types: tuple[StreamType, ...]) -> bool:
+    def may_have(self, types: tuple[int, ...]) -> bool:
         """Whether a list of these types may have a record or an error: not if the directory names no such stream."""
         return not types or self.streams.fault is not None or any(kind in self._rows for kind in types)
 
-    def most_rows(self, types: tuple[StreamType, ...]) -> int:
+    def most_rows(self, types: tuple[int, ...]) -> int:
         """The most rows that a list of streams of these types has, or of the directory if there are none."""
         if not types:
             return min(self.header.number_of_streams, self.size // 12) if self.header else 0
