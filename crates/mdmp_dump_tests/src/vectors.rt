@@ -19,40 +19,6 @@ pub struct Vector {
     pub written: Sample<'static>,
 }
 
-/// All entries of a file, without names and parts.
-const NAMELESS: DumpReading = DumpReading {
-    name: "",
-    sample: CRASH_FILE,
-    types: ALL,
-    limits: LEAST,
-    parts: 0,
-};
-
-/// All entries of a file with names, without parts.
-const WITH_NAMES: DumpReading = DumpReading {
-    limits: NAMED,
-    ..NAMELESS
-};
-
-/// The thread and the exception of `CRASH`.
-const CRASH_VALUE: &str =
-    "Dump { version_high: 0, checksum: 0, time: 0, flags: 0, streams: [Threads([Thread { thread_id: 7, \
-suspend_count: 0, priority_class: 32, priority: 0, teb: 20480, stack_start: 28672, stack: Bytes([83, \
-84, 65, 75]), context: Bytes([1, 2, 3, 4, 5, 6]) }]), Exception(Exception { thread_id: 7, \
-exception_code: 3221225477, exception_flags: 0, exception_record: 0, exception_address: 4198400, \
-number_parameters: 2, exception_information: [1, 16, 0, 0, 0, 0, 0, 0, 0, 0, 0, 0, 0, 0, 0], \
-context: Bytes([170, 187, 204, 221]) })] }";
-
-/// The name of a thread of `THREAD_NAME`, and what is written of it.
-const THREAD_NAME_VALUE: &str =
-    "Dump { version_high: 0, checksum: 0, time: 0, flags: 0, streams: [ThreadNames([ThreadName { \
-thread_id: 7, name: Some(\"abcd\") }])] }";
-
-const THREAD_NAME_FILE: Sample<'static> = Sample::Numbers(
-    1,
-    &[24, 16, 44, 1, 7, 60, 0, 8, 0x00620061, 0x00640063, 0],
-);
-
 /// One of each kind of stream, and what its records may have.
 pub const VECTORS: [Vector; 23] = [
     Vector {
@@ -64,7 +30,9 @@ pub const VECTORS: [Vector; 23] = [
                 ],
                 32,
             ),
-            ..NAMELESS
+            types: ALL,
+            limits: LEAST,
+            parts: 0,
         },
         value: "Dump { version_high: 4778, checksum: 1, time: 2, flags: 288230376151711747, streams: [] }",
         written: Sample::Parts(
@@ -76,7 +44,9 @@ pub const VECTORS: [Vector; 23] = [
         reading: DumpReading {
             name: "an unused entry and a stream without bytes",
             sample: Sample::Numbers(2, &[0, 7, 4294967295, 10, 0, 0]),
-            ..NAMELESS
+            types: ALL,
+            limits: LEAST,
+            parts: 0,
         },
         value: "Dump { version_high: 0, checksum: 0, time: 0, flags: 0, streams: [Unused, Raw(10, [])] }",
         written: Sample::Numbers(2, &[0, 0, 0, 10, 0, 0]),
@@ -85,8 +55,9 @@ pub const VECTORS: [Vector; 23] = [
         reading: DumpReading {
             name: "a stream of another type",
             sample: Sample::Cut(1, &COMMENT, 49),
+            types: ALL,
+            limits: LEAST,
             parts: 5,
-            ..NAMELESS
         },
         value: "Dump { version_high: 0, checksum: 0, time: 0, flags: 0, streams: [Raw(10, [1, 2, 3, 4, 5])] }",
         written: Sample::Numbers(1, &COMMENT),
@@ -98,8 +69,9 @@ pub const VECTORS: [Vector; 23] = [
                 4,
                 &[10, 5, 84, 0, 0, 0, 11, 0, 0, 12, 1, 80, 6, 0x04030201, 5],
             ),
+            types: ALL,
+            limits: LEAST,
             parts: 6,
-            ..NAMELESS
         },
         value: "Dump { version_high: 0, checksum: 0, time: 0, flags: 0, streams: [Raw(10, [1, 2, 3, 4, 5]), Unused, \
 Raw(11, []), Raw(12, [6])] }",
@@ -117,14 +89,21 @@ Absent(PositiveSize { size: 256 }), context: Bytes([170]) }])] }",
     },
     Vector {
         reading: CRASH_READING,
-        value: CRASH_VALUE,
+        value: "Dump { version_high: 0, checksum: 0, time: 0, flags: 0, streams: [Threads([Thread { thread_id: 7, \
+suspend_count: 0, priority_class: 32, priority: 0, teb: 20480, stack_start: 28672, stack: Bytes([83, \
+84, 65, 75]), context: Bytes([1, 2, 3, 4, 5, 6]) }]), Exception(Exception { thread_id: 7, \
+exception_code: 3221225477, exception_flags: 0, exception_record: 0, exception_address: 4198400, \
+number_parameters: 2, exception_information: [1, 16, 0, 0, 0, 0, 0, 0, 0, 0, 0, 0, 0, 0, 0], \
+context: Bytes([170, 187, 204, 221]) })] }",
         written: CRASH_FILE,
     },
     Vector {
         reading: DumpReading {
             name: "a list of one thread that three entries name",
             sample: Sample::Numbers(3, &THRICE),
-            ..NAMELESS
+            types: ALL,
+            limits: LEAST,
+            parts: 0,
         },
         value: "Dump { version_high: 0, checksum: 0, time: 0, flags: 0, streams: [Threads([Thread { thread_id: 7, \
 suspend_count: 0, priority_class: 0, priority: 0, teb: 0, stack_start: 0, stack: Bytes([]), context: \
@@ -146,8 +125,9 @@ Bytes([]) }])] }",
         reading: DumpReading {
             name: "a module with its name and parts",
             sample: Sample::Numbers(1, &MODULE),
+            types: ALL,
+            limits: NAMED,
             parts: 6,
-            ..WITH_NAMES
         },
         value: "Dump { version_high: 0, checksum: 0, time: 0, flags: 0, streams: [Modules([Module { base_of_image: \
 8589934593, size_of_image: 3, checksum: 4, time_date_stamp: 5, name: Some(\"ab\"), version_info: \
@@ -169,8 +149,9 @@ file_type: 15, file_subtype: 16, file_date_ms: 17, file_date_ls: 18 }, codeview:
         reading: DumpReading {
             name: "ranges of memory",
             sample: Sample::Numbers(1, &OVERLAPPING),
+            types: ALL,
+            limits: LEAST,
             parts: 8,
-            ..NAMELESS
         },
         value: "Dump { version_high: 0, checksum: 0, time: 0, flags: 0, streams: [Memory([MemoryRange { start: 4096, \
 bytes: Bytes([65, 66, 67, 68]) }, MemoryRange { start: 4098, bytes: Bytes([119, 120, 121, 122]) }])] \
@@ -181,7 +162,9 @@ bytes: Bytes([65, 66, 67, 68]) }, MemoryRange { start: 4098, bytes: Bytes([119, 
         reading: DumpReading {
             name: "ranges whose bytes are absent or none",
             sample: Sample::Numbers(1, &[5, 36, 44, 2, 0x1000, 0, 4, 0, 0x2000, 0, 0, 80]),
-            ..NAMELESS
+            types: ALL,
+            limits: LEAST,
+            parts: 0,
         },
         value: "Dump { version_high: 0, checksum: 0, time: 0, flags: 0, streams: [Memory([MemoryRange { start: 4096, \
 bytes: Absent(PositiveSize { size: 4 }) }, MemoryRange { start: 8192, bytes: Bytes([]) }])] }",
@@ -207,8 +190,9 @@ bytes: Absent(PositiveSize { size: 4 }) }, MemoryRange { start: 8192, bytes: Byt
                     0x4847, 0x44434241, 0x4645,
                 ],
             ),
+            types: ALL,
+            limits: LEAST,
             parts: 9,
-            ..NAMELESS
         },
         value: "Dump { version_high: 0, checksum: 0, time: 0, flags: 0, streams: [Memory64([Memory64Range { start: \
 4096, bytes: [65, 66, 67, 68, 69] }, Memory64Range { start: 8192, bytes: [70] }]), Raw(10, [1]), \
@@ -253,7 +237,9 @@ suite_mask: 0, reserved2: 0, cpu: [0, 0, 0, 0, 0, 0, 0, 0, 0, 0, 0, 0, 0, 0, 0, 
         reading: DumpReading {
             name: "an unloaded module with its name",
             sample: Sample::Named(b"\x04\0\0\0a\0b\0"),
-            ..WITH_NAMES
+            types: ALL,
+            limits: NAMED,
+            parts: 0,
         },
         value: "Dump { version_high: 0, checksum: 0, time: 0, flags: 0, streams: [Unloaded([Unloaded { \
 base_of_image: 0, size_of_image: 0, checksum: 0, time_date_stamp: 0, name: Some(\"ab\") }])] }",
@@ -273,7 +259,9 @@ base_of_image: 0, size_of_image: 0, checksum: 0, time_date_stamp: 0, name: Some(
                     4, 0x00620061, 0, // their names
                 ],
             ),
-            ..WITH_NAMES
+            types: ALL,
+            limits: NAMED,
+            parts: 0,
         },
         value: "Dump { version_high: 0, checksum: 0, time: 0, flags: 0, streams: [Unloaded([Unloaded { \
 base_of_image: 0, size_of_image: 0, checksum: 0, time_date_stamp: 0, name: None }, Unloaded { \
@@ -297,7 +285,9 @@ base_of_image: 0, size_of_image: 0, checksum: 0, time_date_stamp: 0, name: Some(
                     14, 36, 44, 12, 24, 1, 0x1000, 0, 0x200, 1, 2, 80, 4, 0x005c0061,
                 ],
             ),
-            ..WITH_NAMES
+            types: ALL,
+            limits: NAMED,
+            parts: 0,
         },
         value: "Dump { version_high: 0, checksum: 0, time: 0, flags: 0, streams: [Unloaded([Unloaded { \
 base_of_image: 4096, size_of_image: 512, checksum: 1, time_date_stamp: 2, name: Some(\"a\\u005c\") \
@@ -313,25 +303,33 @@ base_of_image: 4096, size_of_image: 512, checksum: 1, time_date_stamp: 2, name: 
         reading: DumpReading {
             name: "a name of a thread",
             sample: Sample::Numbers(1, &THREAD_NAME),
-            ..WITH_NAMES
+            types: ALL,
+            limits: NAMED,
+            parts: 0,
         },
-        value: THREAD_NAME_VALUE,
-        written: THREAD_NAME_FILE,
+        value: "Dump { version_high: 0, checksum: 0, time: 0, flags: 0, streams: [ThreadNames([ThreadName { \
+thread_id: 7, name: Some(\"abcd\") }])] }",
+        written: Sample::Numbers(1, &[24, 16, 44, 1, 7, 60, 0, 8, 0x00620061, 0x00640063, 0]),
     },
     Vector {
         reading: DumpReading {
             name: "a name of a thread behind padding, which is not written",
             sample: Sample::Numbers(1, &[24, 20, 44, 1, 9, 7, 64, 0, 8, 0x00620061, 0x00640063]),
-            ..WITH_NAMES
+            types: ALL,
+            limits: NAMED,
+            parts: 0,
         },
-        value: THREAD_NAME_VALUE,
-        written: THREAD_NAME_FILE,
+        value: "Dump { version_high: 0, checksum: 0, time: 0, flags: 0, streams: [ThreadNames([ThreadName { \
+thread_id: 7, name: Some(\"abcd\") }])] }",
+        written: Sample::Numbers(1, &[24, 16, 44, 1, 7, 60, 0, 8, 0x00620061, 0x00640063, 0]),
     },
     Vector {
         reading: DumpReading {
             name: "a name of a thread that stands nowhere",
             sample: Sample::Numbers(1, &[24, 16, 44, 1, 7, 0, 0, 8, 0x00620061, 0x00640063]),
-            ..WITH_NAMES
+            types: ALL,
+            limits: NAMED,
+            parts: 0,
         },
         value: "Dump { version_high: 0, checksum: 0, time: 0, flags: 0, streams: [ThreadNames([ThreadName { \
 thread_id: 7, name: None }])] }",
@@ -341,7 +339,9 @@ thread_id: 7, name: None }])] }",
         reading: DumpReading {
             name: "a region of memory",
             sample: Sample::Numbers(1, &REGION),
-            ..NAMELESS
+            types: ALL,
+            limits: LEAST,
+            parts: 0,
         },
         value: "Dump { version_high: 0, checksum: 0, time: 0, flags: 0, streams: [MemoryInfo([MemoryInfoRecord { \
 base_address: 4096, allocation_base: 4096, allocation_protect: 4, region_size: 8192, state: 4096, \
@@ -370,7 +370,12 @@ context: Bytes([170, 187, 204, 221]) }), Memory([]), Raw(12, [1, 2, 3, 4])] }",
             limits: LEAST,
             parts: 14,
         },
-        value: CRASH_VALUE,
+        value: "Dump { version_high: 0, checksum: 0, time: 0, flags: 0, streams: [Threads([Thread { thread_id: 7, \
+suspend_count: 0, priority_class: 32, priority: 0, teb: 20480, stack_start: 28672, stack: Bytes([83, \
+84, 65, 75]), context: Bytes([1, 2, 3, 4, 5, 6]) }]), Exception(Exception { thread_id: 7, \
+exception_code: 3221225477, exception_flags: 0, exception_record: 0, exception_address: 4198400, \
+number_parameters: 2, exception_information: [1, 16, 0, 0, 0, 0, 0, 0, 0, 0, 0, 0, 0, 0, 0], \
+context: Bytes([170, 187, 204, 221]) })] }",
         written: CRASH_FILE,
     },
 ];
