@@ -9,15 +9,15 @@ use Rattle.mdmp_lister.specs.declared.step.Step.TheVariants as step
 use Rattle.mdmp_lister.specs.declared.walk.Walk.{Walk}
 use Rattle.mdmp_lister.specs.Following.{goes_on}
 use Rattle.mdmp_lister.specs.Format.Listing.{chosen_from, entry_of}
-use Rattle.mdmp_lister.specs.NextFetch.{nothing_taken}
 use Rattle.mdmp_lister.specs.Opening.{IsNextChosen}
 use Rattle.mdmp_lister.specs.Walk.{IsSound, IsThrough, cursor_of}
 use Rattle.mdmp_lister.specs.Walk.Checking.{EntryBegun}
 use Rattle.mdmp_lister.specs.Walk.Paying.{stream_calls}
-use Rattle.mdmp_lister.specs.Walk.Requests.{Answered, EntryTaken, StepTaken}
+use Rattle.mdmp_lister.specs.Walk.Requests.{Answered, EntryTaken, StepTaken, standpoint_of}
 use Rattle.mdmp_lister.proofs.Bodies.{listing_from-first}
 use Rattle.mdmp_lister.proofs.Entries.{ranges-first}
 use Rattle.mdmp_lister.proofs.Fetches.{FetchesAtMost-none, FetchesAtMost-within}
+use Rattle.mdmp_lister.proofs.NextWalks.{past_paid, through-unbegun}
 use Rattle.mdmp_lister.proofs.Requests.{Moves-none, goes_through, through-going, through-left, through-none}
 
 module _ {S A : Type 0} (w : Walk S A) (at : ℕ) (e : Entry) where
@@ -60,7 +60,7 @@ module _ {S A : Type 0} (w : Walk S A) (at : ℕ) (e : Entry) where
           counts = Moves-none 1 w.meter;
           spent = λ few. (omega arith, omega arith);
           named = omega arith;
-          costs = nothing_taken refl;
+          costs = past_paid (standpoint_of w) (through-unbegun w.stage through);
           paid = λ allowed before paid.
               let costs = rw (read e) at (next.costs (λ d. d) w.meter.source.size e) in
               let calls = rw (read e) at (next.costs (stream_calls w.window.room) w.meter.source.size e) in

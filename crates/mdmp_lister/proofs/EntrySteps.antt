@@ -18,12 +18,12 @@ use Rattle.mdmp_lister.specs.Fetching.{IsHeadOf, IsRecordTried, ReadsRecord, Tak
 use Rattle.mdmp_lister.specs.Following.{IsRecordFault, IsSomeRecord, IsSomeShape}
 use Rattle.mdmp_lister.specs.Following as following
 use Rattle.mdmp_lister.specs.Format.Item.{item_at, range_offset}
-use Rattle.mdmp_lister.specs.Format.Kind.{HasNoNames, form_of, greatest_record, has_names, kind_of}
+use Rattle.mdmp_lister.specs.Format.Kind.{HasNoNames, form_of, greatest_record, has_names, kind_of, record_size}
 use Rattle.mdmp_lister.specs.Format.Listing.{entry_body, only_fault}
 use Rattle.mdmp_lister.specs.Format.Shape.{head_cost, location_fault, shape_of}
 use Rattle.mdmp_lister.specs.Holding.{ComesTo, fills, started, unfetched}
 use Rattle.mdmp_lister.specs.Meter.{Books}
-use Rattle.mdmp_lister.specs.NextFetch.{head_takes, nothing_taken, window_takes}
+use Rattle.mdmp_lister.specs.NextFetch.{head_takes, nothing_taken, window_leaves, window_takes}
 use Rattle.mdmp_lister.specs.Stage.{fault_stage}
 use Rattle.mdmp_lister.specs.Step.{bytes_behind, step_item}
 use Rattle.mdmp_lister.specs.Walk.{IsHolding, IsReading, IsSound, SameEntry}
@@ -35,7 +35,7 @@ use Rattle.mdmp_lister.proofs.Bodies.{body-shaped, records-faulted, records-give
 use Rattle.mdmp_lister.proofs.Fetches.{FetchesAtMost-none, not_of_source, told_in_caused}
 use Rattle.mdmp_lister.proofs.Heads.{listed-inside}
 use Rattle.mdmp_lister.proofs.Metering.{Books-within, Books_none}
-use Rattle.mdmp_lister.proofs.NextWalks.{record_next, record_paid}
+use Rattle.mdmp_lister.proofs.NextWalks.{record_next, record_passed}
 use Rattle.mdmp_lister.proofs.Offsets.{range-next}
 use Rattle.mdmp_lister.proofs.Paying.{entry_cost-listed, paid_headed}
 use Rattle.mdmp_lister.proofs.Requests.{Spends-booked, answered_fault, answered_step, fault_meets}
@@ -184,8 +184,9 @@ module _ {S A : Type 0} (old new : Walk S A) (kind : StreamKind) (shape : Shape)
       → item_at file old.name.limit (old.next - 1) k old.current.location.rva place kind ≡ Ok (step_item old.meter.source.size new.name.items step))
       → IsSomeRecord old.meter.source.size old.name.limit kind (old.next - 1) k offset step
       → TakesNamed kind place old.meter old.window (step_cost step) new.meter
+      → unfetched new.window ≡ window_leaves old.window.room old.window.end (unfetched old.window) place (record_size kind)
       → Answered old (Ok (Some step)) new
-  answered_record spent step next on behind bound reads tells comes bytes called item some took =
+  answered_record spent step next on behind bound reads tells comes bytes called item some took leaves =
       let z = old.meter.source.size in
       let e = old.current in
       answered_step _ (min 1 spent) spent old new step
@@ -207,7 +208,7 @@ module _ {S A : Type 0} (old new : Walk S A) (kind : StreamKind) (shape : Shape)
       reads.fetches (omega arith)
       reads.spends (rw (on, at) (omega (arith, bytes))) (rw (on, at) (omega (arith, called)))
       reads.named
-      (rw tells.begins (record_paid old new kind shape k offset place at left sound stands (step_cost step) took))
+      (rw tells.begins (record_passed old new kind shape k offset place at left sound stands (step_cost step) took (rw on leaves)))
       (given_record step next on item).left
       (following.goes_on (rw at (
         λ none. absurd (omega (arith, none, left)),

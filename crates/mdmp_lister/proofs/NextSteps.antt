@@ -24,7 +24,7 @@ use Rattle.mdmp_lister.specs.Format.Numbers.{maybe_name}
 use Rattle.mdmp_lister.specs.Format.Shape.{head_cost}
 use Rattle.mdmp_lister.specs.Holding.{IsAhead, needed, reached, started, unfetched}
 use Rattle.mdmp_lister.specs.Meter.{MeterState, TriesFetch}
-use Rattle.mdmp_lister.specs.NextFetch.{IsNamedAt, IsNextFetch, IsNextRecord, IsWindowFetch, TellsNextFetch, head_takes, record_takes, while_begun, window_takes}
+use Rattle.mdmp_lister.specs.NextFetch.{IsNamedAt, IsNextFetch, IsNextRecord, IsWindowFetch, TellsNextFetch, head_takes, record_takes, while_begun, window_leaves, window_takes}
 use Rattle.mdmp_lister.specs.NextFetch as next
 
 -- ---- what a window takes
@@ -96,6 +96,14 @@ module _ (limit : ℕ) (kind : StreamKind) (at : ℕ) (was mid : MeterState) (w 
   held_takes ahead tried =
       let taken = needed_takes at (record_size kind) w ahead.from (omega (arith, ahead.inside)) in
       subst (λ n. mid.fetched ≡ raised was.fetched n) (taken ∙ sym (add_zero _)) tried.tries
+
+  -- and what it left is unread
+  pub held_leaves : IsAhead was.source at (record_size kind) w → new.end ≡ w.end → TriesHold at (record_size kind) w (Ok tt) new was mid
+      → unfetched new ≡ window_leaves w.room w.end (unfetched w) at (record_size kind)
+  held_leaves ahead end tried =
+      let taken = needed_takes at (record_size kind) w ahead.from (omega (arith, ahead.inside)) in
+      let left : length (drop (at - w.place) w.held) ≡ length w.held - (at - w.place) = length-drop (at - w.place) w.held in
+      subst (λ n. unfetched new ≡ min (unfetched w) (w.end - at) - n) taken (omega (arith, tried.behind, end, left, ahead.from))
 
   -- and then so many bytes for its name, or none
   pub name_takes : (named : ℕ) (now : MeterState) → IsAhead was.source at (record_size kind) w → TriesHold at (record_size kind) w (Ok tt) new was mid

@@ -21,10 +21,10 @@ use Rattle.mdmp_lister.specs.Following as following
 use Rattle.mdmp_lister.specs.Format.Kind.{form_of, kind_of, record_size}
 use Rattle.mdmp_lister.specs.Format.Shape.{head_cost, location_fault}
 use Rattle.mdmp_lister.specs.Holding.{unfetched}
-use Rattle.mdmp_lister.specs.NextFetch.{IsHeadPaid, IsNextFetch, IsNextRecord, IsRecordPaid, IsStepPaid, IsWindowFetch, TellsNextFetch, head_takes, record_takes, while_begun, window_takes}
+use Rattle.mdmp_lister.specs.NextFetch.{IsHeadPaid, IsNextFetch, IsNextRecord, IsRecordPaid, IsRecordPassed, IsStepPaid, IsThroughPaid, IsWindowFetch, Standpoint, TellsNextFetch, head_left, head_takes, record_leaves, record_takes, while_begun, window_leaves, window_takes}
 use Rattle.mdmp_lister.specs.NextFetch as next
 use Rattle.mdmp_lister.specs.Stage.{standing_of}
-use Rattle.mdmp_lister.specs.Walk.{IsHolding, IsListing, IsReading, IsSound}
+use Rattle.mdmp_lister.specs.Walk.{IsHolding, IsListing, IsReading, IsSound, IsThrough}
 use Rattle.mdmp_lister.specs.Walk.Paying.{unread_bytes}
 use Rattle.mdmp_lister.specs.Walk.Requests.{HeadRead, standpoint_of}
 use Rattle.mdmp_lister.proofs.Heads.{listed-inside}
@@ -49,6 +49,23 @@ listing-taken stage.Between n listing = refl
 listing-taken (stage.Records kind shape index offset) n listing = refl
 listing-taken _ n listing = absurd listing
 
+pub through-unbegun : (stage : Stage) → IsThrough stage → standing_of stage ≡ following.begun → ⊥
+through-unbegun stage.Between through is = cc
+through-unbegun (stage.Records kind shape index offset) through is = cc
+through-unbegun _ through is = absurd through
+
+past_none : (standing : Standing) (n : ℕ) → (standing ≡ following.begun → ⊥) → while_begun standing n ≡ 0
+past_none following.begun n past = absurd (past refl)
+past_none _ n past = refl
+
+none_left : (s : Standpoint) (known : Option StreamKind) → (s.standing ≡ following.begun → ⊥) → head_left s known ≡ 0
+none_left s (Some kind) past = past_none s.standing _ past
+none_left s None past = refl
+
+-- where no head is to be read nothing is fetched
+pub past_paid : (s : Standpoint) → (s.standing ≡ following.begun → ⊥) → IsThroughPaid s s.fetched
+past_paid s past = sym (raised_none s.fetched) ∙ ap (raised s.fetched) (sym (none_left s (kind_of s.entry.stream_type) past))
+
 zero_add : (n : ℕ) → n ≡ 0 + n
 zero_add n = omega arith
 
@@ -60,7 +77,7 @@ given_shaped : (s : Standing) (offset : ℕ) (r : Result Shape Fault) → Ok s �
 given_shaped s offset (Ok shape) is = let same : s ≡ standing_by offset shape = cc in rw same refl
 given_shaped s offset (Err fault) is = absurd (cc)
 
-given_begun : (z : ℕ) (e : Entry) (s : Standing) → IsBegun z e (Ok s) → records_given s ≡ 0
+pub given_begun : (z : ℕ) (e : Entry) (s : Standing) → IsBegun z e (Ok s) → records_given s ≡ 0
 given_begun z e s (following.outside fault is bad) = absurd (cc)
 given_begun z e s (following.opaque whole none is) = let same : s ≡ following.through = cc in rw same refl
 given_begun z e s (following.shaped whole kind of shape some offset is) = given_shaped s offset shape is
@@ -127,6 +144,11 @@ module _ {S A : Type 0} (old new : Walk S A) where
         ap (λ n. window_takes old.window.room n (unfetched old.window) place (record_size kind)) holding.end ∙ ap (λ n. window_takes old.window.room z n place (record_size kind)) unread_is in
         record_is ∙ zero_add _ ∙ ap (λ n. n + record_takes (standpoint_of old) kind place) (sym none_taken)
 
+    both_left : window_leaves old.window.room old.window.end (unfetched old.window) place (record_size kind) ≡ record_leaves (standpoint_of old) kind place
+    both_left =
+        ap (λ n. window_leaves old.window.room n (unfetched old.window) place (record_size kind)) holding.end
+        ∙ ap (λ n. window_leaves old.window.room (old.current.location.rva + old.current.location.size) n place (record_size kind)) unread_is
+
     fetch_next : (offset size : ℕ) → IsRecordFetch old.name.limit kind place old.meter old.window new.meter.fetched offset size → IsNextFetch (standpoint_of old) new.meter.fetched offset size
     fetch_next offset size (fetching.of_bytes same taken) =
         next.of_record kind place next_record (subst (λ n. new.meter.fetched ≡ raised old.meter.fetched n) (sym none_taken) (same ∙ sym (raised_none old.meter.fetched)))
@@ -136,12 +158,21 @@ module _ {S A : Type 0} (old new : Walk S A) where
         next.of_name kind place rva before next_record named (took ∙ ap (raised old.meter.fetched) both_taken) name
 
     -- or they are, and so many bytes of its name
-    pub record_paid : (named : ℕ) → TakesNamed kind place old.meter old.window named new.meter → IsRecordPaid (standpoint_of old) named new.meter.fetched
+    record_paid : (named : ℕ) → TakesNamed kind place old.meter old.window named new.meter → IsRecordPaid (standpoint_of old) named new.meter.fetched
     record_paid named took = record {
       kind = kind;
       at = place;
       record_is = next_record;
       fetched_is = took ∙ ap (λ n. raised old.meter.fetched (n + named)) both_taken;
+    }
+
+    -- and the record is given
+    pub record_passed : (named : ℕ) → TakesNamed kind place old.meter old.window named new.meter
+        → unread_bytes new ≡ window_leaves old.window.room old.window.end (unfetched old.window) place (record_size kind)
+        → IsRecordPassed (standpoint_of old) named new.meter.fetched (unread_bytes new)
+    record_passed named took leaves = record {
+      paid = record { kind = kind; at = place; record_is = next_record; fetched_is = took ∙ ap (λ n. raised old.meter.fetched (n + named)) both_taken };
+      unread_is = leaves ∙ both_left;
     }
 
     -- nor are the bytes of the next record, or of its name
@@ -167,15 +198,25 @@ module _ {S A : Type 0} (old mid : Walk S A) (head : HeadRead old mid) (at : old
       let took = head.taken kind known in
       (ap (raised mid.meter.fetched) none ∙ raised_none mid.meter.fetched ∙ took.0, ap (λ n. unread_bytes mid - n) none ∙ sub_zero (unread_bytes mid) ∙ took.1)
 
+  -- the window goes on over the same stretch
+  window_behind : (kind : StreamKind) → kind_of old.current.stream_type ≡ Some kind → (f : (room end unread : ℕ) → ℕ)
+      → f mid.window.room (mid.current.location.rva + mid.current.location.size) (unread_bytes mid - head_takes (standpoint_of mid) kind)
+      ≡ f old.window.room (old.current.location.rva + old.current.location.size) (unread_bytes old - head_takes (standpoint_of old) kind)
+  window_behind kind known f =
+      ap (f mid.window.room (mid.current.location.rva + mid.current.location.size)) (behind_head kind 0 known).1
+      ∙ ap (λ room. f room (mid.current.location.rva + mid.current.location.size) (unread_bytes old - head_takes (standpoint_of old) kind)) head.same.room.window
+      ∙ ap (λ (d : Entry). f old.window.room (d.location.rva + d.location.size) (unread_bytes old - head_takes (standpoint_of old) kind)) head.same.current
+
+  left_behind : (kind : StreamKind) (place : ℕ) → kind_of old.current.stream_type ≡ Some kind → record_leaves (standpoint_of mid) kind place ≡ record_leaves (standpoint_of old) kind place
+  left_behind kind place known = window_behind kind known (λ room end unread. window_leaves room end unread place (record_size kind))
+
   record_behind : (kind : StreamKind) (place : ℕ) → kind_of old.current.stream_type ≡ Some kind
       → raised mid.meter.fetched (head_takes (standpoint_of mid) kind + record_takes (standpoint_of mid) kind place)
       ≡ raised old.meter.fetched (head_takes (standpoint_of old) kind + record_takes (standpoint_of old) kind place)
   record_behind kind place known =
       let t = behind_head kind place known in
       let takes : record_takes (standpoint_of mid) kind place ≡ record_takes (standpoint_of old) kind place =
-      ap (λ n. window_takes mid.window.room (mid.current.location.rva + mid.current.location.size) n place (record_size kind)) t.1
-      ∙ ap (λ room. window_takes room (mid.current.location.rva + mid.current.location.size) (unread_bytes old - head_takes (standpoint_of old) kind) place (record_size kind)) head.same.room.window
-      ∙ ap (λ (d : Entry). window_takes old.window.room (d.location.rva + d.location.size) (unread_bytes old - head_takes (standpoint_of old) kind) place (record_size kind)) head.same.current in
+      window_behind kind known (λ room end unread. window_takes room end unread place (record_size kind)) in
       sym (raised_both mid.meter.fetched (head_takes (standpoint_of mid) kind) _)
       ∙ ap (λ n. raised n (record_takes (standpoint_of mid) kind place)) t.0
       ∙ ap (raised (raised old.meter.fetched (head_takes (standpoint_of old) kind))) takes
@@ -205,34 +246,52 @@ module _ {S A : Type 0} (old mid : Walk S A) (head : HeadRead old mid) (at : old
       (rw (head.books.fetches.same_size, head.books.fetches.same_content, head.same.room.name) at name)
 
   -- what was fetched for a record behind it
-  paid_then : (named fetched : ℕ) → IsRecordPaid (standpoint_of mid) named fetched → IsRecordPaid (standpoint_of old) named fetched
-  paid_then named fetched r =
+  fetched_then : (named fetched : ℕ) (r : IsRecordPaid (standpoint_of mid) named fetched)
+      → fetched ≡ raised old.meter.fetched (head_takes (standpoint_of old) r.kind + record_takes (standpoint_of old) r.kind r.at + named)
+  fetched_then named fetched r =
       let took = record_behind r.kind r.at (rw head.same.current at r.record_is.kind_is) in
+      r.fetched_is ∙ sym (raised_both mid.meter.fetched _ named) ∙ ap (λ n. raised n named) took ∙ raised_both old.meter.fetched _ named
+
+  paid_then : (named fetched : ℕ) → IsRecordPaid (standpoint_of mid) named fetched → IsRecordPaid (standpoint_of old) named fetched
+  paid_then named fetched r = record { kind = r.kind; at = r.at; record_is = record_then r.kind r.at r.record_is; fetched_is = fetched_then named fetched r }
+
+  passed_then : (named fetched unread : ℕ) → IsRecordPassed (standpoint_of mid) named fetched unread → IsRecordPassed (standpoint_of old) named fetched unread
+  passed_then named fetched unread r =
+      let p = r.paid in
       record {
-        kind = r.kind;
-        at = r.at;
-        record_is = record_then r.kind r.at r.record_is;
-        fetched_is = r.fetched_is ∙ sym (raised_both mid.meter.fetched _ named) ∙ ap (λ n. raised n named) took ∙ raised_both old.meter.fetched _ named;
+        paid = record { kind = p.kind; at = p.at; record_is = record_then p.kind p.at p.record_is; fetched_is = fetched_then named fetched p };
+        unread_is = r.unread_is ∙ left_behind p.kind p.at (rw head.same.current at p.record_is.kind_is);
       }
 
   -- and where none was read
-  taken_then : (known : Option StreamKind) → kind_of old.current.stream_type ≡ known → IsHeadPaid (standpoint_of old) mid.meter.fetched
-  taken_then (Some kind) known = next.head_taken kind known (head.taken kind known).0
+  taken_then : (known : Option StreamKind) → kind_of old.current.stream_type ≡ known → mid.meter.fetched ≡ raised old.meter.fetched (head_left (standpoint_of old) known)
+  taken_then (Some kind) known = (head.taken kind known).0
   taken_then None known =
       let none : unread_bytes old ≡ 0 = rw at (entry_cost-unknown old.meter.source.size old.current known) in
-      next.nothing_taken (omega (arith, none, head.books.more, head.books.most))
+      let same : mid.meter.fetched ≡ old.meter.fetched = omega (arith, none, head.books.more, head.books.most) in
+      same ∙ sym (raised_none old.meter.fetched)
+
+  through_then : (fetched : ℕ) → IsThroughPaid (standpoint_of mid) fetched → IsThroughPaid (standpoint_of old) fetched
+  through_then fetched paid =
+      paid ∙ ap (raised mid.meter.fetched) (none_left (standpoint_of mid) (kind_of mid.current.stream_type) (listing-unbegun mid.stage head.stage)) ∙ raised_none mid.meter.fetched
+      ∙ taken_then (kind_of old.current.stream_type) refl
+
+  -- and where a fault stands in their place
+  behind_then : (known : Option StreamKind) → kind_of old.current.stream_type ≡ known → IsHeadPaid (standpoint_of old) mid.meter.fetched
+  behind_then (Some kind) known = next.head_taken kind known (taken_then (Some kind) known)
+  behind_then None known = next.nothing_taken (taken_then None known ∙ raised_none old.meter.fetched)
 
   head_then : (fetched : ℕ) → IsHeadPaid (standpoint_of mid) fetched → IsHeadPaid (standpoint_of old) fetched
-  head_then fetched (next.nothing_taken same) = subst (λ n. IsHeadPaid (standpoint_of old) n) (sym same) (taken_then (kind_of old.current.stream_type) refl)
+  head_then fetched (next.nothing_taken same) = subst (λ n. IsHeadPaid (standpoint_of old) n) (sym same) (behind_then (kind_of old.current.stream_type) refl)
   head_then fetched (next.head_taken kind known took) =
       let here = rw head.same.current at known in
       next.head_taken kind here (took ∙ (behind_head kind 0 here).0)
 
   -- what was fetched for an item or the end
-  pub step_then : (given : Option Step) (fetched : ℕ) → IsStepPaid (standpoint_of mid) given fetched → IsStepPaid (standpoint_of old) given fetched
-  step_then None fetched paid = head_then fetched paid
-  step_then (Some (step.Stream x)) fetched paid = head_then fetched paid
-  step_then (Some (step.Record r)) fetched paid = paid_then (read_cost r.name) fetched paid
+  pub step_then : (given : Option Step) (fetched unread : ℕ) → IsStepPaid (standpoint_of mid) given fetched unread → IsStepPaid (standpoint_of old) given fetched unread
+  step_then None fetched unread paid = through_then fetched paid
+  step_then (Some (step.Stream x)) fetched unread paid = through_then fetched paid
+  step_then (Some (step.Record r)) fetched unread paid = passed_then (read_cost r.name) fetched unread paid
 
   -- behind a head that was read it is the next fetch before it, too
   pub next_then : (fault : FaultKind) (offset size fetched : ℕ) → TellsNextFetch (standpoint_of mid) fault offset size fetched → TellsNextFetch (standpoint_of old) fault offset size fetched

@@ -15,7 +15,7 @@ use Rattle.mdmp_lister.specs.declared.walk.Walk.{Walk}
 use Rattle.mdmp_lister.specs.Costs.{IsUnreadBy, bad_name_cost, begun_at, given_spent, step_cost, stream_begun}
 use Rattle.mdmp_lister.specs.Format.Listing.{Run, joined, nothing, only_fault, with_item}
 use Rattle.mdmp_lister.specs.Meter.{Books, MeterState, Moves, Spends, counts_of}
-use Rattle.mdmp_lister.specs.NextFetch.{IsStepPaid, nothing_taken}
+use Rattle.mdmp_lister.specs.NextFetch.{IsStepPaid}
 use Rattle.mdmp_lister.specs.Walk.Paying.{calls_owed, owed_of, unread_bytes}
 use Rattle.mdmp_lister.specs.Walk.Reaching.{Reaches, given_once, told_once}
 use Rattle.mdmp_lister.specs.Fault.{IsListFaultOf, IsOfStore, IsUnobtained}
@@ -34,7 +34,7 @@ use Rattle.mdmp_lister.proofs.Costs.{stopped-unread, unread-within}
 use Rattle.mdmp_lister.proofs.Ending.{left_of-ended, left_of-fault}
 use Rattle.mdmp_lister.proofs.Fetches.{FetchesAtMost-none, FetchesAtMost-within, told_in_later}
 use Rattle.mdmp_lister.proofs.Budgets.{fault_stage-over}
-use Rattle.mdmp_lister.proofs.NextWalks.{next_then, step_then}
+use Rattle.mdmp_lister.proofs.NextWalks.{next_then, past_paid, step_then}
 use Rattle.mdmp_lister.proofs.Paying.{fault_stage-calls, fault_stage-owed, fault_stage-work, paid_named, within_named}
 use Rattle.mdmp_lister.proofs.Soundness.{IsGood-after, IsSound-after, fault_stage-going, fault_stage-headed, fault_stage-staged, fault_stage-unfailed, fault_stage-windowed}
 
@@ -194,7 +194,7 @@ module _ {S A : Type 0} (n calls spent : ℕ) (old new : Walk S A) (step : Step)
       → owed_of old.meter.source.size old.current new.window new.stage + spent ≤ owed_of old.meter.source.size old.current old.window old.stage
       → calls_owed old.meter.source.size old.current new.window new.stage + calls ≤ calls_owed old.meter.source.size old.current old.window old.stage
       → Reaches (told_once step) old.meter new.meter
-      → IsStepPaid (standpoint_of old) (Some step) new.meter.fetched
+      → IsStepPaid (standpoint_of old) (Some step) new.meter.fetched (unread_bytes new)
       → ((file : List ℕ) → old.meter.source.store.content ≡ Some file → current_of old file ≡ with_item (step_item old.meter.source.size new.name.items step) (current_of new file))
       → Follows old.choice old.entries.items old.meter.source.size old.name.limit (cursor_of old) (Ok (Some step)) (cursor_of new)
       → Answered old (Ok (Some step)) new
@@ -287,7 +287,7 @@ module _ {S A : Type 0} (w : Walk S A) (sound : IsSound w) where
         counts = Moves-none 1 w.meter;
         spent = λ few. (omega arith, omega arith);
         named = omega arith;
-        costs = nothing_taken refl;
+        costs = past_paid (standpoint_of w) (rw at (λ is. cc));
         paid = λ allowed before paid. paid;
         repeats = λ stop same. (refl, sym stopped ∙ same);
         good = λ file good. tt;
@@ -356,9 +356,9 @@ module _ {S A : Type 0} (old mid new : Walk S A) (head : HeadRead old mid) where
   named_then (Ok given) named = rw head.books.same_names at named
   named_then (Err f) named = tt
 
-  costs_then : (result : Result (Option Step) ListFault) → old.stage ≡ Head → IfOk result (λ given. IsStepPaid (standpoint_of mid) given new.meter.fetched)
-      → IfOk result (λ given. IsStepPaid (standpoint_of old) given new.meter.fetched)
-  costs_then (Ok given) at paid = step_then old mid head at given new.meter.fetched paid
+  costs_then : (result : Result (Option Step) ListFault) → old.stage ≡ Head → IfOk result (λ given. IsStepPaid (standpoint_of mid) given new.meter.fetched (unread_bytes new))
+      → IfOk result (λ given. IsStepPaid (standpoint_of old) given new.meter.fetched (unread_bytes new))
+  costs_then (Ok given) at paid = step_then old mid head at given new.meter.fetched (unread_bytes new) paid
   costs_then (Err f) at paid = tt
 
   -- no more is unread behind it than behind the head, and the stream that it begins

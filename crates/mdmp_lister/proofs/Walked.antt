@@ -29,9 +29,8 @@ use Rattle.mdmp_lister.specs.Format.Item.{plain}
 use Rattle.mdmp_lister.specs.Format.Kind.{HasNoNames, kind_of}
 use Rattle.mdmp_lister.specs.Format.Listing.{Run, entry_body, entry_of, joined, listing_from, listing_sought, records_told, stream_item, with_item}
 use Rattle.mdmp_lister.specs.Format.Summary.{entry_begun}
-use Rattle.mdmp_lister.specs.Lister.{AnswersNext, Gives, NextLeaves, ListerState, ReadsAside, tail}
+use Rattle.mdmp_lister.specs.Lister.{AnswersNext, Gives, NextLeaves, ListerState, ReadsAside, standpoint_in, tail}
 use Rattle.mdmp_lister.specs.Meter.{BooksAside, MeterState, counts_of, IsUnmade}
-use Rattle.mdmp_lister.specs.NextFetch.{nothing_taken}
 use Rattle.mdmp_lister.specs.Stage.{IsCounted, IsOverAt, IsUnended, StaysUnchanged, failure_of, records_left_in, stage_by, standing_of, stop_after, stop_of}
 use Rattle.mdmp_lister.specs.Step.{CurrentAfter, IsNameHeld, IsStepOf, step_item, stream_told}
 use Rattle.mdmp_lister.specs.Walk.{IsListing, IsPastHead, IsSound, IsStageCounted, IsStaged, left_of}
@@ -49,6 +48,7 @@ use Rattle.mdmp_lister.proofs.Ending.{left_of-fault}
 use Rattle.mdmp_lister.proofs.Fetches.{FetchesAtMost-none, FetchesAtMost-within, good_caused, told_caused}
 use Rattle.mdmp_lister.proofs.Leaving.{follows_fault, follows_item, follows_none, gives_fault, gives_item, gives_none, leaves_fault, leaves_item, leaves_none, listed_by, records_stand}
 use Rattle.mdmp_lister.proofs.Naming.{names_raised}
+use Rattle.mdmp_lister.proofs.NextWalks.{past_paid}
 use Rattle.mdmp_lister.proofs.Requests.{Moves-none, fault_stage-stop, listing-going}
 use Rattle.mdmp_lister.proofs.Summary.{begins_as}
 use Rattle.mdmp_lister.proofs.Unchanged.{answer-unchanged, count-unchanged}
@@ -105,7 +105,7 @@ module _ {S A : Type 0} (w : Walk S A) (at : ℕ) (e : Entry) (sound : IsSound w
         same = record { aside = refl; start = refl; budget = refl; header_is = refl; choice = refl; limit = refl; entries = refl; rooms = refl };
         spends = record {
           fetches = FetchesAtMost-within 0 _ w.meter.source w.meter.source (omega arith) (FetchesAtMost-none w.meter.source);
-          costs = rw begins (nothing_taken refl);
+          costs = rw begins (past_paid (standpoint_in (walked_by (Sought at) w)) (λ is. cc));
           counts = Moves-none 1 w.meter;
           names = names_raised z buffer None s x w.meter.names w.meter.names tt same (omega arith);
           names_at_fault = λ _. tt;

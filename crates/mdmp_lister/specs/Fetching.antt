@@ -17,7 +17,7 @@ use Rattle.mdmp_lister.specs.declared.shape.Shape.{Shape}
 use Rattle.mdmp_lister.specs.declared.step.Step.{Step}
 use Rattle.mdmp_lister.specs.Costs.{bad_name_cost, name_spent, read_cost, step_cost, step_spent}
 use Rattle.mdmp_lister.specs.Following.{mapped}
-use Rattle.mdmp_lister.specs.NextFetch.{IsNameFetch, IsNamedAt, IsWindowFetch, window_takes}
+use Rattle.mdmp_lister.specs.NextFetch.{IsNameFetch, IsNamedAt, IsWindowFetch, window_leaves, window_takes}
 use Rattle.mdmp_lister.specs.StreamHead.{head_spent}
 use Rattle.mdmp_lister.specs.Holding.{ComesTo, fills, left_behind, needed, reached, started, unfetched}
 use Rattle.mdmp_lister.specs.Meter.{Books, BooksAside, IsUnmade, MeterState, Spends, TellsBudget, TriesFetch, counts_of, store_fault_of}
@@ -140,9 +140,11 @@ IsRecordTried limit kind at was w now kinds.NameOdd offset size = TakesNamed kin
 IsRecordTried limit kind at was w now kinds.NameUnitsOutside offset size = TakesNamed kind at was w (bad_name_cost limit kinds.NameUnitsOutside) now
 IsRecordTried limit kind at was w now fault offset size = ⊥
 
-abbrev pub TriesRecord : (limit : ℕ) → StreamKind → (at : ℕ) → Result Step Fault → MeterState → WindowState → MeterState → Type 0
-TriesRecord limit kind at (Ok step) was w now = TakesNamed kind at was w (step_cost step) now
-TriesRecord limit kind at (Err fault) was w now = IsRecordTried limit kind at was w now fault.kind fault.offset fault.size
+-- and just the bytes that it left are unread behind a record that was read
+abbrev pub TriesRecord : (limit : ℕ) → StreamKind → (at : ℕ) → Result Step Fault → (was now : MeterState) → (old new : WindowState) → Type 0
+TriesRecord limit kind at (Ok step) was now old new =
+    TakesNamed kind at was old (step_cost step) now × (unfetched new ≡ window_leaves old.room old.end (unfetched old) at (record_size kind))
+TriesRecord limit kind at (Err fault) was now old new = IsRecordTried limit kind at was old now fault.kind fault.offset fault.size
 
 -- of the head of a stream; where that has a fault, nothing was fetched, or what the window took of it
 abbrev pub IsHeadTried : (room : ℕ) → Location → StreamKind → MeterState → MeterState → FaultKind → (offset size : ℕ) → Type 0

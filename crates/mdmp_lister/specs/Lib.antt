@@ -22,6 +22,7 @@ pub mod Opening
 pub mod Painting
 pub mod Refused
 pub mod Requested
+pub mod RequestedLaws
 pub mod Sink
 pub mod Stage
 pub mod Step

@@ -272,8 +272,9 @@ pub record KeepsGiven (old new : ListerState) : Type 0 where
 pub record NextSpends (old : ListerState) (result : Result (Option Item) ListFault) (new : ListerState) : Type 0 where
   -- what came off the unread bytes of the current entry's stream, and the name of the item
   pub fetches : FetchesAtMost (old.unread + stream_begun old.source.size (begun_by result) + answer_cost old.limit result - new.unread) old.source new.source
-  -- just what the window took for the record, or for a head, and the bytes of the item's name
-  pub costs : IfOk result (λ given. IsGivenPaid (standpoint_in old) given new.counts.fetched)
+  -- just what the window took for the record, or for a head, and the bytes of the item's name; just what it left is unread
+  -- behind a record
+  pub costs : IfOk result (λ given. IsGivenPaid (standpoint_in old) given new.counts.fetched new.unread)
   -- and at most one name was reached
   pub counts : Moves 1 old.counts new.counts
   -- just those that items have, where no fault stands

@@ -117,6 +117,10 @@ window_takes room end unread at wanted =
     let offset = max at (end - unread) in
     if nat_lt offset (at + wanted) then min (room - (offset - at)) (end - offset) else 0
 
+-- and how many bytes of the stretch are unread then: none before `at`, and none that it took
+abbrev pub window_leaves : (room end unread at wanted : ℕ) → ℕ
+window_leaves room end unread at wanted = min unread (end - at) - window_takes room end unread at wanted
+
 -- the length of the name at this RVA comes next, in a file of z bytes, where `before` bytes were fetched before the name; or,
 -- once its length was fetched, its units, of no more bytes than the limit
 pub data IsNameFetch (content : Option (List ℕ)) (z limit rva before fetched offset size : ℕ) : Type 0 where
@@ -173,6 +177,10 @@ head_takes s kind = while_begun s.standing (stream_takes s s.unread s.entry.loca
 abbrev pub record_takes : Standpoint → StreamKind → ℕ → ℕ
 record_takes s kind at = stream_takes s (s.unread - head_takes s kind) at (record_size kind)
 
+-- so many bytes of the stream are unread behind that record
+abbrev pub record_leaves : Standpoint → StreamKind → ℕ → ℕ
+record_leaves s kind at = window_leaves s.room (s.entry.location.rva + s.entry.location.size) (s.unread - head_takes s kind) at (record_size kind)
+
 -- the fetch that comes next where so many bytes were fetched: of the head of the current entry's stream, of its next record, or
 -- of that record's name
 pub data IsNextFetch (s : Standpoint) (fetched offset size : ℕ) : Type 0 where
@@ -193,25 +201,39 @@ pub record IsRecordPaid (s : Standpoint) (named fetched : ℕ) : Type 0 where
   pub record_is : IsNextRecord s kind at
   pub fetched_is : fetched ≡ raised s.fetched (head_takes s kind + record_takes s kind at + named)
 
--- no record was read: nothing was fetched but what the window took for the head of the current entry's stream, if it was read
+-- and it was given, so that just those bytes of the entry's stream are unread which the window left
+pub record IsRecordPassed (s : Standpoint) (named fetched unread : ℕ) : Type 0 where
+  pub paid : IsRecordPaid s named fetched
+  pub unread_is : unread ≡ record_leaves s paid.kind paid.at
+
+-- no record of the current entry is left: just what the window took for the head of its stream was fetched, where that was not
+-- read yet
+abbrev pub head_left : Standpoint → Option StreamKind → ℕ
+head_left s (Some kind) = head_takes s kind
+head_left s None = 0
+
+abbrev pub IsThroughPaid : Standpoint → ℕ → Type 0
+IsThroughPaid s fetched = fetched ≡ raised s.fetched (head_left s (kind_of s.entry.stream_type))
+
+-- so for an item, which begins this stream or is a record with so many bytes of its name
+abbrev pub IsItemPaid : Standpoint → Option StreamItem → (named fetched unread : ℕ) → Type 0
+IsItemPaid s (Some x) named fetched unread = IsThroughPaid s fetched
+IsItemPaid s None named fetched unread = IsRecordPassed s named fetched unread
+
+-- for an item or the end
+abbrev pub IsGivenPaid : Standpoint → Option Item → (fetched unread : ℕ) → Type 0
+IsGivenPaid s None fetched unread = IsThroughPaid s fetched
+IsGivenPaid s (Some item) fetched unread = IsItemPaid s (summary_of item).stream (item_cost item) fetched unread
+
+-- the same of an item whose name stands in a buffer
+abbrev pub IsStepPaid : Standpoint → Option Step → (fetched unread : ℕ) → Type 0
+IsStepPaid s None fetched unread = IsThroughPaid s fetched
+IsStepPaid s (Some step) fetched unread = IsItemPaid s (stream_told step) (step_cost step) fetched unread
+
+-- where a fault stands in the place of all records, nothing was fetched, or what the window took for the head
 pub data IsHeadPaid (s : Standpoint) (fetched : ℕ) : Type 0 where
   nothing_taken : fetched ≡ s.fetched → IsHeadPaid s fetched
   head_taken : (kind : StreamKind) → kind_of s.entry.stream_type ≡ Some kind → fetched ≡ raised s.fetched (head_takes s kind) → IsHeadPaid s fetched
-
--- so for an item, which begins this stream or is a record with so many bytes of its name
-abbrev pub IsItemPaid : Standpoint → Option StreamItem → (named fetched : ℕ) → Type 0
-IsItemPaid s (Some x) named fetched = IsHeadPaid s fetched
-IsItemPaid s None named fetched = IsRecordPaid s named fetched
-
--- for an item or the end
-abbrev pub IsGivenPaid : Standpoint → Option Item → ℕ → Type 0
-IsGivenPaid s None fetched = IsHeadPaid s fetched
-IsGivenPaid s (Some item) fetched = IsItemPaid s (summary_of item).stream (item_cost item) fetched
-
--- the same of an item whose name stands in a buffer
-abbrev pub IsStepPaid : Standpoint → Option Step → ℕ → Type 0
-IsStepPaid s None fetched = IsHeadPaid s fetched
-IsStepPaid s (Some step) fetched = IsItemPaid s (stream_told step) (step_cost step) fetched
 
 -- and for a fault: one that tells the budget is of the next fetch, one of a name stands in the place of a record, and another
 -- one of the file in that of all records of the entry

@@ -65,7 +65,7 @@ pub(crate) fn read_item<S: Store, A: Allocator>(
     ensures comes { ComesTo at meter.old.source.store.content window.old window.new }
     ensures slides { Slides at (record_size kind) window.old result window.new }
     ensures reads { ReadsRecord window.old.room (needed at (record_size kind) window.old) buffer.new.limit (read_told window.new.held result) meter.old meter.new }
-    ensures tries { TriesRecord buffer.new.limit kind at (read_told window.new.held result) meter.old window.old meter.new }
+    ensures tries { TriesRecord buffer.new.limit kind at (read_told window.new.held result) meter.old meter.new window.old window.new }
     ensures nameless { has_names kind ≡ false → meter.new.names ≡ meter.old.names }
     ensures some { MatchResult (read_told window.new.held result) (IsSomeRecord meter.old.source.size buffer.new.limit kind entry index offset) (IsRecordFault meter.old.source.size buffer.new.limit kind) }
 {

@@ -91,8 +91,8 @@ module _ {S A : Type 0} where
         old.meter.source new.meter.source
     pub counts : Moves 1 (counts_of old.meter) (counts_of new.meter)
     pub named : IfOk result (λ given. Reaches (given_once given) old.meter new.meter)
-    -- just so many bytes
-    pub costs : IfOk result (λ given. IsStepPaid (standpoint_of old) given new.meter.fetched)
+    -- just so many bytes, and just so many are unread behind a record
+    pub costs : IfOk result (λ given. IsStepPaid (standpoint_of old) given new.meter.fetched (unread_bytes new))
     -- and so it was counted, with a name and its length where one was reached
     pub spent : IsWithinSince old.meter.asked old.meter.fetched old.meter.names (unread_bytes old + stream_begun old.meter.source.size (begun_at result)) new
     pub paid : (allowed : Amount) (before : ℕ) → IsPaid allowed before old → IsPaid allowed before new

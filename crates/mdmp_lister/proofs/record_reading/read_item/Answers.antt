@@ -3,7 +3,7 @@ use Rattle.mdmp_wire.specs.AnyRecord.{name_rva}
 use Rattle.mdmp_lister.specs.Fault.{fault_of_fetch}
 use Rattle.mdmp_lister.specs.Following.{of_name}
 use Rattle.mdmp_lister.specs.Format.Item.{record_at}
-use Rattle.mdmp_lister.proofs.NextSteps.{name_refused, name_takes, nameless_takes, record_refused}
+use Rattle.mdmp_lister.proofs.NextSteps.{held_leaves, name_refused, name_takes, nameless_takes, record_refused}
 use Rattle.mdmp_lister.proofs.RecordReads.{reads_failed, reads_misnamed, reads_named, reads_nameless}
 use Rattle.mdmp_lister.proofs.record_reading.read_item.Goals as goal
 
@@ -57,10 +57,15 @@ returns-in-Err-clause-tries g c =
 pub returns-in_default-clause-tries : goal.returns-in_default-clause-tries
 returns-in_default-clause-tries g c =
     let a = c.args in
-    nameless_takes a.buffer.now.limit a.kind a.at a.meter.now c.hold_record.new.meter a.window.now c.hold_record.new.window c.requires.ahead c.in_ok-hold_record.ensures.tries
+    let held = c.in_ok-hold_record.ensures in (
+      nameless_takes a.buffer.now.limit a.kind a.at a.meter.now c.hold_record.new.meter a.window.now c.hold_record.new.window c.requires.ahead held.tries,
+      held_leaves a.buffer.now.limit a.kind a.at a.meter.now c.hold_record.new.meter a.window.now c.hold_record.new.window c.requires.ahead held.comes.end held.tries,
+    )
 
 pub returns-in-Ok-clause-tries : goal.returns-in-Ok-clause-tries
 returns-in-Ok-clause-tries g c =
     let a = c.args in
-    name_takes a.buffer.now.limit a.kind a.at a.meter.now c.hold_record.new.meter a.window.now c.hold_record.new.window _ c.read_name.new.meter
-    c.requires.ahead c.in_ok-hold_record.ensures.tries c.in-Ok.ensures.tries
+    let held = c.in_ok-hold_record.ensures in (
+      name_takes a.buffer.now.limit a.kind a.at a.meter.now c.hold_record.new.meter a.window.now c.hold_record.new.window _ c.read_name.new.meter c.requires.ahead held.tries c.in-Ok.ensures.tries,
+      held_leaves a.buffer.now.limit a.kind a.at a.meter.now c.hold_record.new.meter a.window.now c.hold_record.new.window c.requires.ahead held.comes.end held.tries,
+    )

@@ -3,13 +3,14 @@ use Rattle.std.specs.Prelude.{map}
 use Rattle.mdmp_lister.specs.Format.Listing.{all_joined, chosen_from, entry_count, entry_listing, nothing}
 use Rattle.mdmp_lister.specs.Following.{goes_on}
 use Rattle.mdmp_lister.specs.HeldStep.{step_told}
-use Rattle.mdmp_lister.specs.NextFetch.{nothing_taken}
 use Rattle.mdmp_lister.specs.Walk.{cursor_of, rest_of}
 use Rattle.mdmp_lister.specs.Walk.Paying.{stream_calls}
+use Rattle.mdmp_lister.specs.Walk.Requests.{standpoint_of}
 use Rattle.mdmp_lister.proofs.Beginning.{chosen_begun, chosen_taken}
 use Rattle.mdmp_lister.proofs.Entries.{chosen_from-end, listing_from-end}
 use Rattle.mdmp_lister.proofs.Fetches.{FetchesAtMost-none, FetchesAtMost-within}
 use Rattle.mdmp_lister.proofs.Listed.{cost_by-end}
+use Rattle.mdmp_lister.proofs.NextWalks.{past_paid, through-unbegun}
 use Rattle.mdmp_lister.proofs.Requests.{Moves-none, goes_through, through-going, through-left, through-none}
 use Rattle.mdmp_lister.proofs.walk.Walk.next_stream.Goals as goal
 
@@ -44,7 +45,7 @@ returns-in_default g c =
               counts = Moves-none 1 w.meter;
               spent = λ few. (omega arith, omega arith);
               named = omega arith;
-              costs = nothing_taken refl;
+              costs = past_paid (standpoint_of w) (through-unbegun w.stage c.requires.through);
               paid = λ allowed before paid. record {
                 bytes = rw (cost_by-end (λ d. d) w.choice w.meter.source.size c.len-self.result w.entries.items past) (omega (arith, paid.bytes));
                 calls = rw (cost_by-end (stream_calls w.window.room) w.choice w.meter.source.size c.len-self.result w.entries.items past) (omega (arith, paid.calls));

@@ -26,7 +26,7 @@ returns-in-Ok-clause-read g c =
             _ (step_told c.read_item.new.window.held c.in-Ok.held) _ stage (ap (λ n. a.offset + n) size) (omega (arith, c.bytes_behind-size.type_inv)) (rw room at of.reads) of.tells
             of.comes (omega (arith, of.slides.bytes)) (of.slides.calls greatest_record (most_record a.kind) c.requires.sound.window)
             (λ file known here. rw room at (of.item file known w.current.location.rva here))
-            (rw room at of.some) of.tries;
+            (rw room at of.some) of.tries.0 of.tries.1;
         room = room_taken w _ a.kind a.shape a.index a.offset _ (step_told c.read_item.new.window.held c.in-Ok.held) c.requires.stage stage c.requires.left of.tells.ranges (search rules) of.reads.fetches.same_content;
         unchanged = λ stays. rw stage tt;
         nameless = λ none. of.nameless (nameless_reading w a.kind a.shape a.index a.offset c.requires.stage c.requires.sound none);
