@@ -16,13 +16,14 @@ use Rattle.mdmp_lister.specs.Listed.{entry_cost, entry_cost_by}
 use Rattle.mdmp_lister.specs.Costs.{read_cost}
 use Rattle.mdmp_lister.specs.Fetching.{IsHeadTried, IsRecordFetch, IsRecordTried, TakesNamed}
 use Rattle.mdmp_lister.specs.Fetching as fetching
-use Rattle.mdmp_lister.specs.Following.{IsBegun, Standing, records_given, mapped, standing_by}
+use Rattle.mdmp_lister.specs.Following.{Standing, records_given}
 use Rattle.mdmp_lister.specs.Following as following
 use Rattle.mdmp_lister.specs.Format.Kind.{form_of, kind_of, record_size}
 use Rattle.mdmp_lister.specs.Format.Shape.{head_cost, location_fault}
 use Rattle.mdmp_lister.specs.Holding.{unfetched}
 use Rattle.mdmp_lister.specs.NextFetch.{IsHeadPaid, IsNextFetch, IsNextRecord, IsRecordPaid, IsRecordPassed, IsStepPaid, IsThroughPaid, IsWindowFetch, Standpoint, TellsNextFetch, head_left, head_takes, record_leaves, record_takes, while_begun, window_leaves, window_takes}
 use Rattle.mdmp_lister.specs.NextFetch as next
+use Rattle.mdmp_lister.specs.RequestedLaws.{given_begun}
 use Rattle.mdmp_lister.specs.Stage.{standing_of}
 use Rattle.mdmp_lister.specs.Walk.{IsHolding, IsListing, IsReading, IsSound, IsThrough}
 use Rattle.mdmp_lister.specs.Walk.Paying.{unread_bytes}
@@ -71,16 +72,6 @@ zero_add n = omega arith
 
 sub_zero : (n : ℕ) → n - 0 ≡ n
 sub_zero n = omega arith
-
--- no record was given of an entry whose head was read
-given_shaped : (s : Standing) (offset : ℕ) (r : Result Shape Fault) → Ok s ≡ mapped (standing_by offset) r → records_given s ≡ 0
-given_shaped s offset (Ok shape) is = let same : s ≡ standing_by offset shape = cc in rw same refl
-given_shaped s offset (Err fault) is = absurd (cc)
-
-pub given_begun : (z : ℕ) (e : Entry) (s : Standing) → IsBegun z e (Ok s) → records_given s ≡ 0
-given_begun z e s (following.outside fault is bad) = absurd (cc)
-given_begun z e s (following.opaque whole none is) = let same : s ≡ following.through = cc in rw same refl
-given_begun z e s (following.shaped whole kind of shape some offset is) = given_shaped s offset shape is
 
 module _ {S A : Type 0} (old new : Walk S A) where
   -- the head of the current entry was read, or needed not be

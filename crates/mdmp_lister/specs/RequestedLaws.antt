@@ -1,30 +1,55 @@
 -- What requests fetch of a known file goes by the items that they give.
 use Rattle.std.proofs.Common.{◌≡◌, ◌+◌, ◌*◌, ◌-◌, ◌∙◌, ℕ, zero, suc, List, [], ◌∷◌, Option, Some, None, Result, Ok, Err, ap, arith, refl, subst, sym}
 use Rattle.mdmp_source.specs.Count.{raised}
+use Rattle.mdmp_wire.specs.declared.any_record.AnyRecord.{AnyRecord}
+use Rattle.mdmp_wire.specs.declared.any_record.AnyRecord.TheVariants as any
 use Rattle.mdmp_wire.specs.declared.entry.Entry.{Entry}
 use Rattle.mdmp_lister.specs.declared.choice.Choice.{Choice}
+use Rattle.mdmp_lister.specs.declared.fault.Fault.{Fault}
 use Rattle.mdmp_lister.specs.declared.fault.ListFault.{ListFault}
 use Rattle.mdmp_lister.specs.declared.item.Item.{Item}
 use Rattle.mdmp_lister.specs.declared.item.Item.TheVariants as items
 use Rattle.mdmp_lister.specs.declared.item.StreamItem.{StreamItem}
 use Rattle.mdmp_lister.specs.declared.kind.StreamKind.{StreamKind}
+use Rattle.mdmp_lister.specs.declared.name.Name.{Name}
+use Rattle.mdmp_lister.specs.declared.name.Name.TheVariants as names
 use Rattle.mdmp_lister.specs.declared.shape.Shape.{Shape}
 use Rattle.mdmp_lister.specs.declared.step.Step.{Step}
 use Rattle.mdmp_lister.specs.declared.step.Step.TheVariants as step
 use Rattle.mdmp_lister.specs.Costs.{IsUnreadBy, cost_of_name, item_cost, stream_begun}
-use Rattle.mdmp_lister.specs.Following.{Cursor, Follows, GivesChosenEntry, GivesCurrentRecord, GoesOn, IsBegun, Standing, records_given}
+use Rattle.mdmp_lister.specs.Following.{Cursor, Follows, GivesChosenEntry, GivesCurrentRecord, GoesOn, IsBegun, Standing, mapped, records_given, standing_by}
 use Rattle.mdmp_lister.specs.Following as following
 use Rattle.mdmp_lister.specs.Format.Item.{item_of, plain}
 use Rattle.mdmp_lister.specs.Format.Kind.{kind_of, record_size}
+use Rattle.mdmp_lister.specs.Format.Name.{plain_name}
 use Rattle.mdmp_lister.specs.Format.Shape.{shape_of}
-use Rattle.mdmp_lister.specs.Format.Summary.{Summary, entry_begun, summary_of}
+use Rattle.mdmp_lister.specs.Format.Summary.{entry_begun, summary_of}
 use Rattle.mdmp_lister.specs.Lister.{AnswersNext, ListerState, NextLeaves, Rooms, cursor_in, standpoint_in}
 use Rattle.mdmp_lister.specs.NextFetch.{IsItemPaid, IsNextRecord, IsRecordPassed, IsThroughPaid, Standpoint, head_left, head_takes, record_leaves, record_takes, stream_takes, while_begun, window_leaves}
 use Rattle.mdmp_lister.specs.Requested.{AreRequested, IsRequested, OnlyReadsAside, RunRequests}
 use Rattle.mdmp_lister.specs.Step.{TellsAnswer, TellsItem, stream_told}
-use Rattle.mdmp_lister.proofs.Costs.{item_cost-plain}
-use Rattle.mdmp_lister.proofs.NextWalks.{given_begun}
-use Rattle.mdmp_lister.proofs.Summary.{summary_of-item_of, summary_of-plain}
+
+-- ---- items
+
+stream_plain : (x : Item) → (summary_of (plain x)).stream ≡ (summary_of x).stream
+stream_plain (items.Stream x) = refl
+stream_plain _ = refl
+
+name_plain : (name : Name) → cost_of_name (plain_name name) ≡ cost_of_name name
+name_plain names.None = refl
+name_plain (names.Units units) = refl
+name_plain (names.Long bytes) = refl
+
+cost_plain : (x : Item) → item_cost (plain x) ≡ item_cost x
+cost_plain (items.Module x) = name_plain x.name
+cost_plain (items.Unloaded x) = name_plain x.name
+cost_plain (items.System x) = name_plain x.name
+cost_plain (items.ThreadName x) = name_plain x.name
+cost_plain _ = refl
+
+stream_of : (z e k offset : ℕ) (fields : AnyRecord) (name : Name) → (summary_of (item_of z e k offset fields name)).stream ≡ None
+stream_of z e k offset (any.Memory fields) name = refl
+stream_of z e k offset _ name = refl
 
 -- ---- where a listing stands, as far as the next fetches go by it
 
@@ -123,6 +148,16 @@ module _ (F : List ℕ) (s t : Standpoint) (alike : reached s ≡ reached t) whe
 
 -- ---- how far the current entry was given behind an item
 
+given_shaped : (s : Standing) (offset : ℕ) (r : Result Shape Fault) → Ok s ≡ mapped (standing_by offset) r → records_given s ≡ 0
+given_shaped s offset (Ok shape) is = let same : s ≡ standing_by offset shape = cc in rw same refl
+given_shaped s offset (Err fault) is = absurd (cc)
+
+-- no record was given of an entry whose head was read
+pub given_begun : (z : ℕ) (e : Entry) (s : Standing) → IsBegun z e (Ok s) → records_given s ≡ 0
+given_begun z e s (following.outside fault is bad) = absurd (cc)
+given_begun z e s (following.opaque whole none is) = let same : s ≡ following.through = cc in rw same refl
+given_begun z e s (following.shaped whole kind of shape some offset is) = given_shaped s offset shape is
+
 abbrev reach_by : Option StreamItem → ℕ → Standing
 reach_by (Some x) given = following.begun
 reach_by None given = following.within (given + 1) 0 0
@@ -150,10 +185,7 @@ module _ (choice : Choice) (entries : List Entry) (z limit : ℕ) where
 tells_stream : (z : ℕ) (s : Step) (y : Item) → TellsItem z s y → (summary_of y).stream ≡ stream_told s
 tells_stream z (step.Stream x) y told = rw told refl
 tells_stream z (step.Record r) y told =
-    ap (λ (x : Item). (summary_of x).stream) told.1.1 ∙ ap (λ (u : Summary). u.stream) (summary_of-item_of z r.entry r.index r.offset r.fields told.0)
-
-stream_plain : (x : Item) → (summary_of (plain x)).stream ≡ (summary_of x).stream
-stream_plain x = ap (λ (u : Summary). u.stream) (summary_of-plain x)
+    ap (λ (x : Item). (summary_of x).stream) told.1.1 ∙ stream_of z r.entry r.index r.offset r.fields told.0
 
 answer_reach : (old : ListerState) (x : Item) (new : ListerState) → AnswersNext old (Ok (Some x)) new → reach new.standing ≡ reach_by (summary_of x).stream (records_given old.standing)
 answer_reach old x new answers = by answers.read answers.told answers.follows where
@@ -223,7 +255,7 @@ module _ (F : List ℕ) (u v : ListerState) (so_far : StandAlike F u v) (m n : L
     stream_same = sym (stream_plain y) ∙ ap (λ (i : Item). (summary_of i).stream) (sym same) ∙ stream_plain x
 
     cost_same : item_cost y ≡ item_cost x
-    cost_same = sym (item_cost-plain y) ∙ ap item_cost (sym same) ∙ item_cost-plain x
+    cost_same = sym (cost_plain y) ∙ ap item_cost (sym same) ∙ cost_plain x
 
     size_same : v.source.size ≡ u.source.size
     size_same = sym (ap (λ (p : Standpoint). p.size) so_far.alike)
