@@ -1,8 +1,7 @@
 -- What a request for the next item fetches of a walk, and the fetch that it is refused.
-use Rattle.std.proofs.Common.{◌≡◌, ◌<◌, ◌+◌, ◌-◌, ◌*◌, ◌∙◌, ℕ, Option, None, Some, Result, Ok, Err, ap, arith, inl, inr, refl, subst, sym, ◌⊎◌}
+use Rattle.std.proofs.Common.{◌≡◌, ◌<◌, ◌+◌, ◌-◌, ◌*◌, ◌∙◌, ℕ, Option, None, Some, ap, arith, inl, inr, refl, subst, sym, ◌⊎◌}
 use Rattle.mdmp_source.specs.Count.{raised}
 use Rattle.mdmp_wire.specs.declared.entry.Entry.{Entry}
-use Rattle.mdmp_lister.specs.declared.fault.Fault.{Fault}
 use Rattle.mdmp_lister.specs.declared.fault.FaultKind.{FaultKind}
 use Rattle.mdmp_lister.specs.declared.fault.FaultKind.TheVariants as kinds
 use Rattle.mdmp_lister.specs.declared.kind.StreamKind.{StreamKind}

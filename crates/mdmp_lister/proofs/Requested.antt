@@ -1,5 +1,5 @@
 -- Requests, one more.
-use Rattle.std.proofs.Common.{◌≡◌, ◌+◌, ◌∙◌, ℕ, List, [], ◌∷◌, ◌++◌, Option, None, Some, Result, Ok, Err, ap, arith, refl, slice_get, sym}
+use Rattle.std.proofs.Common.{◌≡◌, ◌+◌, ◌∙◌, ℕ, List, [], ◌∷◌, ◌++◌, None, Some, Result, Ok, Err, ap, arith, refl, slice_get, sym}
 use Rattle.std.specs.Option.{option_map}
 use Rattle.std.proofs.lemmas.List.{append-nil}
 use Rattle.mdmp_source.specs.SourceLaws.{fetches_then}
@@ -12,7 +12,7 @@ use Rattle.mdmp_lister.specs.declared.item.Item.{Item}
 use Rattle.mdmp_lister.specs.Format.Item.{plain}
 use Rattle.mdmp_lister.specs.Format.Listing.{Run, nothing, only_fault}
 use Rattle.mdmp_lister.specs.Lister.{Gives, ListerLeaves, ListerState, ReadsAside, left_after, tail}
-use Rattle.mdmp_lister.specs.Requested.{AnswersRequest, AreRequested, EndsRequests, GivesByRequests, IsRequested, OnlyReadsAside, RunRequests}
+use Rattle.mdmp_lister.specs.Requested.{AnswersRequest, AreRequested, GivesByRequests, IsRequested, OnlyReadsAside, RunRequests}
 use Rattle.mdmp_lister.specs.Requested.EndsRequests.{asks_in_vain, stops_asking}
 use Rattle.mdmp_lister.specs.Sink.{give_all}
 use Rattle.mdmp_lister.proofs.Handing.{give_all-next}
@@ -41,6 +41,27 @@ aside_none v = record {
 pub aside_read : {T : Type 0} (calls n : ℕ) (result : Result T SourceFault) (old new : ListerState) → ReadsAside calls n result old new → OnlyReadsAside old new
 aside_read calls n result old new reads = record { calls = calls; bytes = n; same = reads.same; aside = reads.aside; fetches = reads.fetches }
 
+-- and behind what was read aside
+pub aside_more : (u v w : ListerState) → OnlyReadsAside u v → OnlyReadsAside v w → OnlyReadsAside u w
+aside_more u v w first then = record {
+  calls = first.calls + then.calls;
+  bytes = first.bytes + then.bytes;
+  same = then.same ∙ ap (λ (l : ListerState). record l { source = w.source; counts = w.counts }) first.same;
+  aside = record {
+    aside = omega (arith, first.aside.aside, then.aside.aside);
+    more = omega (arith, first.aside.more, then.aside.more);
+    aside_calls = omega (arith, first.aside.aside_calls, then.aside.aside_calls);
+    more_aside_calls = omega (arith, first.aside.more_aside_calls, then.aside.more_aside_calls);
+    same_fetched = then.aside.same_fetched ∙ first.aside.same_fetched;
+    same_calls = then.aside.same_calls ∙ first.aside.same_calls;
+    same_names = then.aside.same_names ∙ first.aside.same_names;
+    same_start = then.aside.same_start ∙ first.aside.same_start;
+    same_budget = then.aside.same_budget ∙ first.aside.same_budget;
+    same_asked = then.aside.same_asked ∙ first.aside.same_asked;
+  };
+  fetches = fetches_then _ _ _ _ _ first.fetches then.fetches;
+}
+
 pub item_requested : (old : ListerState) (x : Item) (new : ListerState) → ListerLeaves old (Ok (Some x)) new → ((left : Run) → old.left ≡ Some left → Gives left (Ok (Some x)))
     → IsRequested old (plain x) new
 item_requested old x new leaves gives = record { given = x; is = refl; answers = record { leaves = leaves; gives = gives } }
@@ -50,6 +71,13 @@ pub requested_more : (u v m w : ListerState) (xs : List Item) (x : Item) → Are
 requested_more u v m w [] x aside next then = (v, (aside, (m, (next, then))))
 requested_more u v m w (y ∷ ys) x so_far next then =
     (so_far.0, (so_far.1.0, (so_far.1.1.0, (so_far.1.1.1.0, requested_more so_far.1.1.0 v m w ys x so_far.1.1.1.1 next then))))
+
+-- requests behind others
+pub requested_append : (xs ys : List Item) (u v w : ListerState) → AreRequested u xs v → AreRequested v ys w → AreRequested u (xs ++ ys) w
+requested_append [] [] u v w aside then = aside_more u v w aside then
+requested_append [] (y ∷ ys) u v w aside then = (then.0, (aside_more u v then.0 aside then.1.0, then.1.1))
+requested_append (x ∷ xs) ys u v w so_far then =
+    (so_far.0, (so_far.1.0, (so_far.1.1.0, (so_far.1.1.1.0, requested_append xs ys so_far.1.1.0 v w so_far.1.1.1.1 then))))
 
 -- ---- what was given is what was left
 
@@ -82,28 +110,6 @@ whole_fault xs u v w f left chain last not known =
 -- they are all of its items, where the rest has none
 pub all_items : (xs : List Item) (left rest : Run) → rest.items ≡ [] → left ≡ give_all xs rest → xs ≡ left.items
 all_items xs left rest none is = sym (ap (λ (run : Run). run.items) is ∙ ap (λ (ys : List Item). xs ++ ys) none ∙ append-nil xs)
-
--- ---- what is read aside behind what was read aside
-
-pub aside_more : (u v w : ListerState) → OnlyReadsAside u v → OnlyReadsAside v w → OnlyReadsAside u w
-aside_more u v w first then = record {
-  calls = first.calls + then.calls;
-  bytes = first.bytes + then.bytes;
-  same = then.same ∙ ap (λ (l : ListerState). record l { source = w.source; counts = w.counts }) first.same;
-  aside = record {
-    aside = omega (arith, first.aside.aside, then.aside.aside);
-    more = omega (arith, first.aside.more, then.aside.more);
-    aside_calls = omega (arith, first.aside.aside_calls, then.aside.aside_calls);
-    more_aside_calls = omega (arith, first.aside.more_aside_calls, then.aside.more_aside_calls);
-    same_fetched = then.aside.same_fetched ∙ first.aside.same_fetched;
-    same_calls = then.aside.same_calls ∙ first.aside.same_calls;
-    same_names = then.aside.same_names ∙ first.aside.same_names;
-    same_start = then.aside.same_start ∙ first.aside.same_start;
-    same_budget = then.aside.same_budget ∙ first.aside.same_budget;
-    same_asked = then.aside.same_asked ∙ first.aside.same_asked;
-  };
-  fetches = fetches_then _ _ _ _ _ first.fetches then.fetches;
-}
 
 -- ---- the end of a run
 

@@ -18,6 +18,7 @@ pub mod Memory
 pub mod Meter
 pub mod NameBuffer
 pub mod NextFetch
+pub mod OpenedLaws
 pub mod Opening
 pub mod Painting
 pub mod Refused

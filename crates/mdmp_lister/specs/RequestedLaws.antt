@@ -16,7 +16,7 @@ use Rattle.mdmp_lister.specs.declared.name.Name.TheVariants as names
 use Rattle.mdmp_lister.specs.declared.shape.Shape.{Shape}
 use Rattle.mdmp_lister.specs.declared.step.Step.{Step}
 use Rattle.mdmp_lister.specs.declared.step.Step.TheVariants as step
-use Rattle.mdmp_lister.specs.Costs.{IsUnreadBy, cost_of_name, item_cost, stream_begun}
+use Rattle.mdmp_lister.specs.Costs.{IsUnreadBy, cost_of_name, item_cost}
 use Rattle.mdmp_lister.specs.Following.{Cursor, Follows, GivesChosenEntry, GivesCurrentRecord, GoesOn, IsBegun, Standing, mapped, records_given, standing_by}
 use Rattle.mdmp_lister.specs.Following as following
 use Rattle.mdmp_lister.specs.Format.Item.{item_of, plain}
@@ -25,13 +25,13 @@ use Rattle.mdmp_lister.specs.Format.Name.{plain_name}
 use Rattle.mdmp_lister.specs.Format.Shape.{shape_of}
 use Rattle.mdmp_lister.specs.Format.Summary.{entry_begun, summary_of}
 use Rattle.mdmp_lister.specs.Lister.{AnswersNext, ListerState, NextLeaves, Rooms, cursor_in, standpoint_in}
-use Rattle.mdmp_lister.specs.NextFetch.{IsItemPaid, IsNextRecord, IsRecordPassed, IsThroughPaid, Standpoint, head_left, head_takes, record_leaves, record_takes, stream_takes, while_begun, window_leaves}
+use Rattle.mdmp_lister.specs.NextFetch.{IsItemPaid, IsRecordPassed, IsThroughPaid, Standpoint, head_left, head_takes, record_leaves, record_takes, stream_takes, while_begun, window_leaves}
 use Rattle.mdmp_lister.specs.Requested.{AreRequested, IsRequested, OnlyReadsAside, RunRequests}
 use Rattle.mdmp_lister.specs.Step.{TellsAnswer, TellsItem, stream_told}
 
 -- ---- items
 
-stream_plain : (x : Item) → (summary_of (plain x)).stream ≡ (summary_of x).stream
+pub stream_plain : (x : Item) → (summary_of (plain x)).stream ≡ (summary_of x).stream
 stream_plain (items.Stream x) = refl
 stream_plain _ = refl
 
@@ -54,12 +54,12 @@ stream_of z e k offset _ name = refl
 -- ---- where a listing stands, as far as the next fetches go by it
 
 -- how far the current entry was given: how many of its records, or that its head is not read
-abbrev reach : Standing → Standing
+abbrev pub reach : Standing → Standing
 reach (following.within given left offset) = following.within given 0 0
 reach following.begun = following.begun
 reach following.through = following.within 0 0 0
 
-abbrev reached : Standpoint → Standpoint
+abbrev pub reached : Standpoint → Standpoint
 reached s = record s { standing = reach s.standing }
 
 reach-begun : (t : Standing) (n : ℕ) → while_begun (reach t) n ≡ while_begun t n
@@ -158,7 +158,7 @@ given_begun z e s (following.outside fault is bad) = absurd (cc)
 given_begun z e s (following.opaque whole none is) = let same : s ≡ following.through = cc in rw same refl
 given_begun z e s (following.shaped whole kind of shape some offset is) = given_shaped s offset shape is
 
-abbrev reach_by : Option StreamItem → ℕ → Standing
+abbrev pub reach_by : Option StreamItem → ℕ → Standing
 reach_by (Some x) given = following.begun
 reach_by None given = following.within (given + 1) 0 0
 
@@ -187,16 +187,21 @@ tells_stream z (step.Stream x) y told = rw told refl
 tells_stream z (step.Record r) y told =
     ap (λ (x : Item). (summary_of x).stream) told.1.1 ∙ stream_of z r.entry r.index r.offset r.fields told.0
 
-answer_reach : (old : ListerState) (x : Item) (new : ListerState) → AnswersNext old (Ok (Some x)) new → reach new.standing ≡ reach_by (summary_of x).stream (records_given old.standing)
+-- an item begins the entry that its step does
+pub item_stream : (z : ℕ) (s : Step) (x : Item) → TellsAnswer z (Ok (Some s)) (Ok (Some (plain x))) → (summary_of x).stream ≡ stream_told s
+item_stream z s x told =
+    let is : told.0 ≡ plain x = let e = told.1.0 in cc in
+    sym (stream_plain x) ∙ sym (ap (λ (y : Item). (summary_of y).stream) is) ∙ tells_stream z s told.0 told.1.1
+
+pub answer_reach : (old : ListerState) (x : Item) (new : ListerState) → AnswersNext old (Ok (Some x)) new → reach new.standing ≡ reach_by (summary_of x).stream (records_given old.standing)
 answer_reach old x new answers = by answers.read answers.told answers.follows where
   by : (read : Result (Option Step) ListFault) → TellsAnswer old.source.size read (Ok (Some (plain x))) → Follows old.choice old.entries old.source.size old.limit (cursor_in old) read (cursor_in new)
       → reach new.standing ≡ reach_by (summary_of x).stream (records_given old.standing)
   by (Ok None) told follows = absurd (cc)
   by (Err f) told follows = absurd (cc)
   by (Ok (Some s)) told follows =
-      let is : told.0 ≡ plain x = let e = told.1.0 in cc in
-      let stream : stream_told s ≡ (summary_of x).stream = sym (tells_stream old.source.size s told.0 told.1.1) ∙ ap (λ (y : Item). (summary_of y).stream) is ∙ stream_plain x in
-      follows_reach old.choice old.entries old.source.size old.limit (cursor_in old) s (cursor_in new) follows ∙ ap (λ o. reach_by o (records_given old.standing)) stream
+      follows_reach old.choice old.entries old.source.size old.limit (cursor_in old) s (cursor_in new) follows
+      ∙ ap (λ o. reach_by o (records_given old.standing)) (sym (item_stream old.source.size s x told))
 
 given_alike_in : (u v : ListerState) → reached (standpoint_in u) ≡ reached (standpoint_in v) → records_given u.standing ≡ records_given v.standing
 given_alike_in u v alike = sym (reach-given u.standing) ∙ ap (λ (p : Standpoint). records_given p.standing) alike ∙ reach-given v.standing
@@ -204,14 +209,14 @@ given_alike_in u v alike = sym (reach-given u.standing) ∙ ap (λ (p : Standpoi
 -- ---- requests for the same items
 
 -- they stand alike, and no answer is given again
-record StandAlike (F : List ℕ) (u v : ListerState) : Type 0 where
-  known : u.source.store.content ≡ Some F
-  alike : reached (standpoint_in u) ≡ reached (standpoint_in v)
-  going : u.stop ≡ None
-  going_too : v.stop ≡ None
+pub record StandAlike (F : List ℕ) (u v : ListerState) : Type 0 where
+  pub known : u.source.store.content ≡ Some F
+  pub alike : reached (standpoint_in u) ≡ reached (standpoint_in v)
+  pub going : u.stop ≡ None
+  pub going_too : v.stop ≡ None
 
 -- two that stand alike, part by part
-alike_by : (s t : Standpoint) → s.content ≡ t.content → s.size ≡ t.size → s.room ≡ t.room → s.limit ≡ t.limit → s.entry ≡ t.entry → reach s.standing ≡ reach t.standing → s.unread ≡ t.unread
+pub alike_by : (s t : Standpoint) → s.content ≡ t.content → s.size ≡ t.size → s.room ≡ t.room → s.limit ≡ t.limit → s.entry ≡ t.entry → reach s.standing ≡ reach t.standing → s.unread ≡ t.unread
     → s.fetched ≡ t.fetched → reached s ≡ reached t
 alike_by s t contents sizes rooms limits entries standings unreads fetches =
     λ i. record { content = contents i; size = sizes i; room = rooms i; limit = limits i; entry = entries i; standing = standings i; unread = unreads i; fetched = fetches i }
@@ -285,7 +290,7 @@ module _ (F : List ℕ) (u v : ListerState) (so_far : StandAlike F u v) (m n : L
     }
 
 module _ (F : List ℕ) where
-  requested_alike : (xs : List Item) (u v m n : ListerState) → StandAlike F u v → AreRequested u xs m → AreRequested v xs n → StandAlike F m n
+  pub requested_alike : (xs : List Item) (u v m n : ListerState) → StandAlike F u v → AreRequested u xs m → AreRequested v xs n → StandAlike F m n
   requested_alike [] u v m n so_far one other = aside_alike F u v so_far m n one other
   requested_alike (x ∷ xs) u v m n so_far one other =
       let before = aside_alike F u v so_far one.0 other.0 one.1.0 other.1.0 in
