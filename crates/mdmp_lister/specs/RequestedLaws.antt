@@ -59,8 +59,8 @@ reach (following.within given left offset) = following.within given 0 0
 reach following.begun = following.begun
 reach following.through = following.within 0 0 0
 
-abbrev pub reached : Standpoint → Standpoint
-reached s = record s { standing = reach s.standing }
+abbrev pub as_reached : Standpoint → Standpoint
+as_reached s = record s { standing = reach s.standing }
 
 reach-begun : (t : Standing) (n : ℕ) → while_begun (reach t) n ≡ while_begun t n
 reach-begun following.begun n = refl
@@ -80,25 +80,25 @@ paid_through s = raised s.fetched (head_left s (kind_of s.entry.stream_type))
 abbrev paid_record : Standpoint → StreamKind → (at named : ℕ) → ℕ
 paid_record s kind at named = raised s.fetched (head_takes s kind + record_takes s kind at + named)
 
-head-reached : (s : Standpoint) (kind : StreamKind) → head_takes (reached s) kind ≡ head_takes s kind
+head-reached : (s : Standpoint) (kind : StreamKind) → head_takes (as_reached s) kind ≡ head_takes s kind
 head-reached s kind = reach-begun s.standing _
 
-left-reached : (s : Standpoint) (known : Option StreamKind) → head_left (reached s) known ≡ head_left s known
+left-reached : (s : Standpoint) (known : Option StreamKind) → head_left (as_reached s) known ≡ head_left s known
 left-reached s (Some kind) = head-reached s kind
 left-reached s None = refl
 
-through-reached : (s : Standpoint) → paid_through (reached s) ≡ paid_through s
+through-reached : (s : Standpoint) → paid_through (as_reached s) ≡ paid_through s
 through-reached s = ap (raised s.fetched) (left-reached s (kind_of s.entry.stream_type))
 
-record-reached : (s : Standpoint) (kind : StreamKind) (at named : ℕ) → paid_record (reached s) kind at named ≡ paid_record s kind at named
+record-reached : (s : Standpoint) (kind : StreamKind) (at named : ℕ) → paid_record (as_reached s) kind at named ≡ paid_record s kind at named
 record-reached s kind at named = ap (λ n. raised s.fetched (n + stream_takes s (s.unread - n) at (record_size kind) + named)) (head-reached s kind)
 
-leaves-reached : (s : Standpoint) (kind : StreamKind) (at : ℕ) → record_leaves (reached s) kind at ≡ record_leaves s kind at
+leaves-reached : (s : Standpoint) (kind : StreamKind) (at : ℕ) → record_leaves (as_reached s) kind at ≡ record_leaves s kind at
 leaves-reached s kind at = ap (λ n. window_leaves s.room (s.entry.location.rva + s.entry.location.size) (s.unread - n) at (record_size kind)) (head-reached s kind)
 
 -- ---- two listings of one file that stand alike
 
-module _ (F : List ℕ) (s t : Standpoint) (alike : reached s ≡ reached t) where
+module _ (F : List ℕ) (s t : Standpoint) (alike : as_reached s ≡ as_reached t) where
   through_alike : (m n : ℕ) → IsThroughPaid s m → IsThroughPaid t n → m ≡ n
   through_alike m n one other = one ∙ sym (through-reached s) ∙ ap paid_through alike ∙ through-reached t ∙ sym other
 
@@ -203,7 +203,7 @@ answer_reach old x new answers = by answers.read answers.told answers.follows wh
       follows_reach old.choice old.entries old.source.size old.limit (cursor_in old) s (cursor_in new) follows
       ∙ ap (λ o. reach_by o (records_given old.standing)) (sym (item_stream old.source.size s x told))
 
-given_alike_in : (u v : ListerState) → reached (standpoint_in u) ≡ reached (standpoint_in v) → records_given u.standing ≡ records_given v.standing
+given_alike_in : (u v : ListerState) → as_reached (standpoint_in u) ≡ as_reached (standpoint_in v) → records_given u.standing ≡ records_given v.standing
 given_alike_in u v alike = sym (reach-given u.standing) ∙ ap (λ (p : Standpoint). records_given p.standing) alike ∙ reach-given v.standing
 
 -- ---- requests for the same items
@@ -211,13 +211,13 @@ given_alike_in u v alike = sym (reach-given u.standing) ∙ ap (λ (p : Standpoi
 -- they stand alike, and no answer is given again
 pub record StandAlike (F : List ℕ) (u v : ListerState) : Type 0 where
   pub known : u.source.store.content ≡ Some F
-  pub alike : reached (standpoint_in u) ≡ reached (standpoint_in v)
+  pub alike : as_reached (standpoint_in u) ≡ as_reached (standpoint_in v)
   pub going : u.stop ≡ None
   pub going_too : v.stop ≡ None
 
 -- two that stand alike, part by part
 pub alike_by : (s t : Standpoint) → s.content ≡ t.content → s.size ≡ t.size → s.room ≡ t.room → s.limit ≡ t.limit → s.entry ≡ t.entry → reach s.standing ≡ reach t.standing → s.unread ≡ t.unread
-    → s.fetched ≡ t.fetched → reached s ≡ reached t
+    → s.fetched ≡ t.fetched → as_reached s ≡ as_reached t
 alike_by s t contents sizes rooms limits entries standings unreads fetches =
     λ i. record { content = contents i; size = sizes i; room = rooms i; limit = limits i; entry = entries i; standing = standings i; unread = unreads i; fetched = fetches i }
 
