@@ -1,4 +1,5 @@
 //! Stores, sources, outputs and tests of place.
+mod asked;
 mod failing;
 mod outputs;
 mod places;
