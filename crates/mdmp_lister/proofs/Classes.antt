@@ -27,7 +27,7 @@ classed-given z buffer e (step.Record r) x same of =
 
 -- ---- an item as it was read
 
-name_told : (buffer : List ℕ) (name : NameRead) → IsHeld (length buffer) name → IsNameTold name (name_read buffer name)
+pub name_told : (buffer : List ℕ) (name : NameRead) → IsHeld (length buffer) name → IsNameTold name (name_read buffer name)
 name_told buffer read.None held = refl
 name_told buffer (read.Long bytes) held = refl
 name_told buffer (read.Units bytes) held = let room : bytes ≤ length buffer = held.0 in (take bytes buffer, (rw length-take (omega (arith, room)), refl))
@@ -37,7 +37,7 @@ plain_name-read buffer read.None = refl
 plain_name-read buffer (read.Units bytes) = refl
 plain_name-read buffer (read.Long bytes) = refl
 
-plain-named : (z e k offset : ℕ) (fields : AnyRecord) (name : Name) → plain (item_of z e k offset fields name) ≡ item_of z e k offset fields (plain_name name)
+pub plain-named : (z e k offset : ℕ) (fields : AnyRecord) (name : Name) → plain (item_of z e k offset fields name) ≡ item_of z e k offset fields (plain_name name)
 plain-named z e k offset (any.Thread fields) name = refl
 plain-named z e k offset _ name = refl
 

@@ -39,6 +39,7 @@ pub mod Openings
 pub mod Owing
 pub mod Paying
 pub mod RangeRows
+pub mod ReadItems
 pub mod RecordItems
 pub mod RecordReads
 pub mod Refusals

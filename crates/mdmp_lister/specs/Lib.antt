@@ -11,6 +11,7 @@ pub mod Following
 pub mod Format
 pub mod HeldStep
 pub mod Holding
+pub mod ItemRead
 pub mod Limits
 pub mod Listed
 pub mod Lister

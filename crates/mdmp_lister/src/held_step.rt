@@ -9,7 +9,8 @@ ghost use Rattle.mdmp_lister.specs.Format.Item.{record_at};
 ghost use Rattle.mdmp_lister.specs.Format.Kind.{record_size};
 ghost use Rattle.mdmp_lister.specs.Format.Name.{plain_name};
 ghost use Rattle.mdmp_lister.specs.HeldStep.{HasItsBytes, TellsRange, step_told};
-ghost use Rattle.mdmp_lister.specs.Step.{IsHeld, IsItemOf, bytes_behind, name_read};
+ghost use Rattle.mdmp_lister.specs.ItemRead.{IsLentOf};
+ghost use Rattle.mdmp_lister.specs.Step.{IsHeld, IsItemOf, IsNameHeld, bytes_behind, name_read};
 
 use crate::fetching::NameRead;
 use crate::item::{
@@ -18,7 +19,7 @@ use crate::item::{
 };
 use crate::kind::StreamKind;
 use crate::name::Name;
-use crate::step::{RecordRead, Step};
+use crate::step::{ItemRead, RecordRead, Step};
 use mdmp_wire::{AnyRecord, Descriptor64, ModuleRecord, UnitsRef, get_at};
 
 /// A record whose bytes stand at the front of a window.
@@ -99,13 +100,36 @@ pub(crate) fn step_of(held: &HeldStep, bytes: &[u8]) -> Step
 {
     match held {
         HeldStep::Stream(stream) => Step::Stream(*stream),
-        HeldStep::Record(record) => Step::Record(RecordRead {
-            entry: record.entry,
-            index: record.index,
-            fields: record_of(record.kind, bytes),
-            offset: record.offset,
-            name: record.name,
-        }),
+        HeldStep::Record(record) => Step::Record(record_read(record, bytes)),
+    }
+}
+
+/// The record that is held in these bytes.
+fn record_read(held: &HeldRecord, bytes: &[u8]) -> RecordRead
+    requires { record_size held.now.kind ≤ length bytes.now }
+    ensures { Step.Record result ≡ step_told bytes.now (HeldStep.Record held.now) }
+{
+    RecordRead {
+        entry: held.entry,
+        index: held.index,
+        fields: record_of(held.kind, bytes),
+        offset: held.offset,
+        name: held.name,
+    }
+}
+
+/// The item that is held in these bytes, as it was read, its name lent from the buffer.
+pub(crate) fn item_read<'a>(held: &HeldStep, bytes: &[u8], buffer: &'a [u8]) -> ItemRead<'a>
+    requires whole { HasItsBytes bytes.now held.now }
+    requires name { IsNameHeld (length buffer.now) (step_told bytes.now held.now) }
+    ensures { IsLentOf buffer.now (step_told bytes.now held.now) result }
+{
+    match held {
+        HeldStep::Stream(stream) => ItemRead::Stream(*stream),
+        HeldStep::Record(record) => {
+            let name = lent_name(buffer, record.name);
+            ItemRead::Record(record_read(record, bytes), name)
+        }
     }
 }
 

@@ -3,14 +3,15 @@ ghost use Rattle.std.specs.Prelude.{◌≡◌, ◌≤◌, length, take};
 ghost use Rattle.mdmp_source.specs.Range.{IsInside, bytes_at};
 ghost use Rattle.mdmp_lister.specs.Fetching.{ReadsBeside};
 ghost use Rattle.mdmp_lister.specs.HeldStep.{AnswerHasItsBytes, HasItsBytes, TellsRange, answer_told, step_told};
+ghost use Rattle.mdmp_lister.specs.ItemRead.{IsLentOf};
 ghost use Rattle.mdmp_lister.specs.Step.{IsItemOf, IsNameHeld};
 ghost use Rattle.mdmp_lister.specs.Walk.{IsSound};
 
 use crate::codeview::{CodeViewBytes, CodeViewRead, read_codeview};
 use crate::fault::ListFault;
-use crate::held_step::{HeldStep, held_range, record_item, step_of};
+use crate::held_step::{HeldStep, held_range, item_read, record_item, step_of};
 use crate::item::{Item, RangeItem};
-use crate::step::Step;
+use crate::step::{ItemRead, Step};
 use crate::walk::Walk;
 use mdmp_source::{Location, SourceFault, Store};
 use std::alloc::Allocator;
@@ -49,6 +50,15 @@ impl<S: Store + Drop, A: Allocator + Copy> Walk<S, A> {
                 self.meter.size(),
             ),
         }
+    }
+
+    /// The same as it was read.
+    pub(crate) fn item_read(&self, held: &HeldStep) -> ItemRead<'_>
+        requires whole { HasItsBytes self.now.window.held held.now }
+        requires name { IsNameHeld (length self.now.name.items) (step_told self.now.window.held held.now) }
+        ensures { IsLentOf self.now.name.items (step_told self.now.window.held held.now) result }
+    {
+        item_read(held, self.window.bytes(), self.name.bytes())
     }
 
     /// The range that was read last, where the item is one.

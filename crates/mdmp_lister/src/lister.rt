@@ -47,8 +47,8 @@ use std::sync::ledger::{Blank, Ledger};
 /// no memory once it is opened. Its items are those of the listing, in order, up to the first fault.
 #[derive(Drop)]
 pub struct Lister<S: Store + Drop, A: Allocator + Copy> {
-    walk: Walk<S, A>,
-    map: AddressMap<A>,
+    pub(crate) walk: Walk<S, A>,
+    pub(crate) map: AddressMap<A>,
 }
 
 /// The most ranges that a lister takes.

@@ -1,7 +1,9 @@
-//! An item that was read: what [`Walker::next_step`](crate::Walker::next_step) gives.
+//! An item that was read: what [`Walker::next_step`](crate::Walker::next_step) and
+//! [`Lister::next_read`](crate::Lister::next_read) give.
 
 use crate::fetching::NameRead;
 use crate::item::StreamItem;
+use crate::name::Name;
 use mdmp_wire::AnyRecord;
 
 /// A record that was read, of any kind. The units of its name stand at the front of a buffer.
@@ -24,4 +26,11 @@ pub struct RecordRead {
 pub enum Step {
     Stream(StreamItem),
     Record(RecordRead),
+}
+
+/// An item that was read, whose name is lent.
+#[derive(Debug, Drop, PartialEq, Eq)]
+pub enum ItemRead<'a> {
+    Stream(StreamItem),
+    Record(RecordRead, Name<'a>),
 }

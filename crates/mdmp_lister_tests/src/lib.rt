@@ -7,6 +7,8 @@
 #[cfg(test)]
 mod addresses;
 #[cfg(test)]
+mod as_read;
+#[cfg(test)]
 mod aside_calls;
 #[cfg(test)]
 mod bounds;
