@@ -103,13 +103,14 @@ bytes-part F at Absent bytes here are = absurd (here refl)
 bytes-part F at Inside bytes here are = ap (λ (x : List ℕ). Some (parts.Bytes x)) are.same
 bytes-part F at Outside bytes here are = absurd are
 
--- those of a range, which is never absent, are those of its place; no bytes are those of any place
+-- no bytes are those of any place
+pub none-bytes : (F : List ℕ) (at size : ℕ) (bytes : List ℕ) → size ≡ 0 → bytes ≡ [] → HasBytesAt F at size bytes
+none-bytes F at size bytes none is = rw (none, is) (record { len = refl; inside = refl; same = array_is F at 0 })
+
+-- those of a range, which is never absent, are those of its place
 pub range-bytes : (F : List ℕ) (offset size : ℕ) (bytes : List ℕ) → AreBytesOf F offset size (range_extent_of offset size (length F)) bytes → HasBytesAt F offset size bytes
 range-bytes F offset size bytes are = by (size == 0) (is_inside offset size (length F)) refl are where
-  none-at : size ≡ 0 → bytes ≡ [] → HasBytesAt F offset size bytes
-  none-at none is = rw (none, is) (record { len = refl; inside = refl; same = array_is F offset 0 })
-
   by : (a i : Bool) → (size == 0) ≡ a → AreBytesOf F offset size (if a then Empty else if i then Inside else Outside) bytes → HasBytesAt F offset size bytes
-  by true i none are = none-at (eqb-true size 0 none) are
+  by true i none are = none-bytes F offset size bytes (eqb-true size 0 none) are
   by false true some are = are
   by false false some are = absurd are

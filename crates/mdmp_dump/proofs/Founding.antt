@@ -1,5 +1,5 @@
 -- A record that was read with the limit 0: what is found behind its slots.
-use Rattle.std.proofs.Common.{◌≡◌, ◌∙◌, ◌<◌, ◌+◌, ◌^◌, ℕ, zero, suc, List, [], ◌∷◌, ◌++◌, length, map, get_or, Option, Some, None, Result, Ok, Err, ap, append-nil, arith, refl, subst, sym}
+use Rattle.std.proofs.Common.{◌≡◌, ◌∙◌, ◌<◌, ◌+◌, ◌^◌, ℕ, zero, suc, List, [], ◌∷◌, ◌++◌, length, map, get_or, Option, Some, None, Result, Ok, Err, ap, arith, refl, subst, sym}
 use Rattle.std.specs.Prelude.{IfErr}
 use Rattle.mdmp_source.specs.Range.{bytes_at}
 use Rattle.mdmp_source.specs.Store.{AreBytes}
@@ -13,15 +13,14 @@ use Rattle.mdmp_lister.specs.declared.fault.Fault.{Fault}
 use Rattle.mdmp_lister.specs.declared.fetching.NameRead.{NameRead}
 use Rattle.mdmp_lister.specs.declared.fetching.NameRead.TheVariants as read
 use Rattle.mdmp_lister.specs.declared.item.Item.{Item}
-use Rattle.mdmp_lister.specs.declared.item.Item.TheVariants as items
 use Rattle.mdmp_lister.specs.declared.kind.StreamKind.{StreamKind}
-use Rattle.mdmp_lister.specs.declared.kind.StreamKind.TheVariants as kinds
 use Rattle.mdmp_lister.specs.declared.name.Name.{Name}
 use Rattle.mdmp_lister.specs.declared.name.Name.TheVariants as names
 use Rattle.mdmp_lister.specs.declared.step.RecordRead.{RecordRead}
 use Rattle.mdmp_lister.specs.declared.step.Step.TheVariants as step
-use Rattle.mdmp_lister.specs.Format.Item.{item_at, item_of, kind_told, name_of, named, offset_in, plain, range_extent_of, record_at}
-use Rattle.mdmp_lister.specs.Format.Name.{name_at, plain_name}
+use Rattle.mdmp_lister.specs.Format.Item.{item_at, item_of, name_of, named, offset_in, plain, range_extent_of, record_at}
+use Rattle.mdmp_lister.specs.Format.Name.{name_at}
+use Rattle.mdmp_lister.proofs.Classes.{plain-named}
 use Rattle.mdmp_lister.specs.Step.{IsNameOf, IsNameTold, IsStepOf, TellsItem}
 use Rattle.mdmp_wire.specs.declared.slot.PartName.TheVariants.{Memory}
 use Rattle.mdmp_dump.specs.declared.fault.ReadFault.{ReadFault}
@@ -30,14 +29,14 @@ use Rattle.mdmp_dump.specs.declared.found_record.PartAt.{PartAt}
 use Rattle.mdmp_dump.specs.declared.view.PartSize.{PartSize}
 use Rattle.mdmp_dump.specs.declared.view.PartSize.TheVariants.{Size}
 use Rattle.mdmp_dump.specs.FileRefusal.{first_told}
-use Rattle.mdmp_dump.specs.Finding.{AreHad, FindsName, FindsRecord, FindsSeen, FindsSlot, FindsStep, IsAt, IsCountedName, IsFoundInFile, IsFoundInside, IsOfRecord, IsSeenAt, record_steps, seen_in, seen_of, slot_bare, slot_bytes, slot_size, slot_steps}
+use Rattle.mdmp_dump.specs.Finding.{AreHad, FindsName, FindsRecord, FindsSeen, FindsSlot, FindsStep, IsAt, IsCountedName, IsFoundInFile, IsFoundInside, IsOfRecord, IsSeenAt, seen_in, seen_of, slot_bare, slot_bytes, slot_size}
 use Rattle.mdmp_dump.specs.FoundRecord.{no_part}
 use Rattle.mdmp_dump.specs.Placed.{size_in}
-use Rattle.mdmp_dump.specs.Refusal.{Refuse, ReadStep, Take, item_steps}
+use Rattle.mdmp_dump.specs.Refusal.{Refuse, ReadStep, Take, item_steps, record_steps, slot_steps}
 use Rattle.mdmp_dump.specs.Seen.{Seen, seen}
-use Rattle.mdmp_dump.specs.TellingLaws.{item_made, made}
 use Rattle.mdmp_dump.proofs.Laid.{range_inside}
 use Rattle.mdmp_dump.proofs.Limits.{long_found, long_refused, none_found, units_found}
+use Rattle.mdmp_dump.proofs.RecordItems.{Told, item_asks, made, name_by, offset_by, plain_told, steps_by, told_is, told_of}
 use Rattle.mdmp_dump.proofs.Unrefused.{part_given}
 use Rattle.mdmp_dump.proofs.Within.Part.{length-array_at}
 
@@ -220,74 +219,11 @@ module _ (F : List ℕ) (limit : ℕ) (r : RecordRead) where
       let third = slot_other first.0 (slot_at r.fields 2) (nameless r.fields).1 (Err fault) c in
       (first.0, (first.1.0, third_fails first.0 p q fault first.1.1 second third))
 
--- ---- the item of a record tells it: where its kind is known, its fields are
-
-record Told : Type 0 where
-  entry : ℕ
-  index : ℕ
-  offset : ℕ
-  fields : AnyRecord
-  name : Name
-
--- a place is told of a 64-bit range alone, and a name of the kinds that have one
-abbrev offset_by : AnyRecord → ℕ → ℕ
-offset_by (any.Memory64 r) offset = offset
-offset_by w offset = 0
-
-abbrev name_by : Option ℕ → Name → Name
-name_by (Some rva) name = name
-name_by None name = names.None
-
-abbrev told_of : ℕ → ℕ → ℕ → AnyRecord → Name → Told
-told_of e k offset w name = record { entry = e; index = k; offset = offset_by w offset; fields = w; name = name_by (name_rva w) name }
-
-abbrev nothing_told : Told
-nothing_told = record { entry = 0; index = 0; offset = 0; fields = any.MemoryInfo (record { base_address = 0; allocation_base = 0; allocation_protect = 0; region_size = 0; state = 0; protect = 0; memory_type = 0 }); name = names.None }
-
-abbrev told_back : StreamKind → Item → Told
-told_back kinds.Threads (items.Thread x) = told_of x.entry x.index 0 (any.Thread x.fields) names.None
-told_back kinds.Modules (items.Module x) = told_of x.entry x.index 0 (any.Module x.fields) x.name
-told_back kinds.Memory (items.Range x) = told_of x.entry x.index 0 (any.Memory (record { start_of_memory_range = x.start; memory = record { size = x.size; rva = x.offset } })) names.None
-told_back kinds.Exception (items.Exception x) = told_of x.entry x.index 0 (any.Exception x.fields) names.None
-told_back kinds.System (items.System x) = told_of x.entry x.index 0 (any.System x.fields) x.name
-told_back kinds.Memory64 (items.Range x) = told_of x.entry x.index x.offset (any.Memory64 (record { start_of_memory_range = x.start; data_size = x.size })) names.None
-told_back kinds.Unloaded (items.Unloaded x) = told_of x.entry x.index 0 (any.Unloaded x.fields) x.name
-told_back kinds.MemoryInfo (items.MemoryInfo x) = told_of x.entry x.index 0 (any.MemoryInfo x.fields) names.None
-told_back kinds.ThreadNames (items.ThreadName x) = told_of x.entry x.index 0 (any.ThreadName x.fields) x.name
-told_back kind item = nothing_told
-
-back_of : (z e k offset : ℕ) (w : AnyRecord) (name : Name) → told_back (kind_told w) (item_of z e k offset w name) ≡ told_of e k offset w name
-back_of z e k offset (any.Thread r) name = refl
-back_of z e k offset _ name = refl
-
-kind_at : (kind : StreamKind) (F : List ℕ) (o : ℕ) → kind_told (record_at kind F o) ≡ kind
-kind_at kinds.Threads F o = refl
-kind_at _ F o = refl
-
-plain_of : (z e k offset : ℕ) (w : AnyRecord) (name : Name) → plain (item_of z e k offset w name) ≡ item_of z e k offset w (plain_name name)
-plain_of z e k offset (any.Thread r) name = refl
-plain_of z e k offset _ name = refl
-
-plain_told : (r : NameRead) (name : Name) → IsNameTold r name → plain_name name ≡ name
-plain_told read.None name told = rw told refl
-plain_told (read.Units n) name told = rw told.1.1 refl
-plain_told (read.Long n) name told = rw told refl
-
--- of any other an offset says nothing
-steps_by : (z e k far : ℕ) (w : AnyRecord) (name : Name) → record_steps z e k far w name ≡ record_steps z e k (offset_by w far) w name
-steps_by z e k far (any.Thread r) name = refl
-steps_by z e k far _ name = refl
+-- ---- the record that stands there
 
 seen_by : (F : List ℕ) (far : ℕ) (w : AnyRecord) → seen_of F far w ≡ seen_of F (offset_by w far) w
 seen_by F far (any.Thread r) = refl
 seen_by F far _ = refl
-
--- what the item of a record asks is asked behind its slots
-item_asks : (z e k far : ℕ) (w : AnyRecord) (name : Name) → item_steps z (item_of z e k far w name) ≡ record_steps z e k far w name
-item_asks z e k far (any.Thread r) name = simp append-nil
-item_asks z e k far (any.Module r) name = refl
-item_asks z e k far (any.MemoryInfo r) name = refl
-item_asks z e k far _ name = simp append-nil
 
 name_given : (F : List ℕ) (rva : Option ℕ) (r : NameRead) (n name : Name) → IsNameOf rva r → IsNameTold r name → name_of F 0 rva ≡ Ok n → name_by rva n ≡ name_by rva name → name_of F 0 rva ≡ Ok name
 name_given F (Some rva) r n name of told is same = is ∙ ap Ok same
@@ -298,29 +234,20 @@ module _ (F : List ℕ) (limit e k at o : ℕ) (kind : StreamKind) (r : RecordRe
   abbrev w : AnyRecord
   w = record_at kind F o
 
-  given : (n : Name) × ((name_of F 0 (name_rva w) ≡ Ok n) × (made kind F 0 e k at o n ≡ plain item))
-  given = item_made kind F 0 e k at o (plain item) is
+  item_is : item_at F 0 e k at o kind ≡ Ok (item_of z r.entry r.index r.offset r.fields tells.0)
+  item_is = is ∙ ap Ok (ap plain tells.1.1 ∙ plain-named z r.entry r.index r.offset r.fields tells.0 ∙ ap (item_of z r.entry r.index r.offset r.fields) (plain_told r.name tells.0 tells.1.0))
 
-  item_is : item_of (length F) e k (offset_in F at k kind) w given.0 ≡ item_of z r.entry r.index r.offset r.fields tells.0
-  item_is = given.1.1 ∙ ap plain tells.1.1 ∙ plain_of z r.entry r.index r.offset r.fields tells.0 ∙ ap (item_of z r.entry r.index r.offset r.fields) (plain_told r.name tells.0 tells.1.0)
-
-  kinds_are : kind_told w ≡ kind_told r.fields
-  kinds_are = kind_at kind F o ∙ (let same = of.0 in cc same)
-
-  told_is : told_of r.entry r.index r.offset r.fields tells.0 ≡ told_of e k (offset_in F at k kind) w given.0
-  told_is =
-      sym (back_of z r.entry r.index r.offset r.fields tells.0) ∙ sym (ap (told_back (kind_told r.fields)) item_is)
-      ∙ sym (ap (λ (one : StreamKind). told_back one (item_of (length F) e k (offset_in F at k kind) w given.0)) kinds_are)
-      ∙ back_of (length F) e k (offset_in F at k kind) w given.0
+  given : (n : Name) × ((name_of F 0 (name_rva w) ≡ Ok n) × (told_of r.entry r.index r.offset r.fields tells.0 ≡ told_of e k (offset_in F at k kind) w n))
+  given = told_is F 0 e k at o kind r tells.0 z item_is of.0
 
   fields_are : r.fields ≡ w
-  fields_are = ap (λ (t : Told). t.fields) told_is
+  fields_are = ap (λ (t : Told). t.fields) given.1.1
 
   name_is : name_of F 0 (name_rva r.fields) ≡ Ok tells.0
   name_is =
       let had : name_of F 0 (name_rva r.fields) ≡ Ok given.0 = ap (λ (v : AnyRecord). name_of F 0 (name_rva v)) fields_are ∙ given.1.0 in
       let same : name_by (name_rva r.fields) given.0 ≡ name_by (name_rva r.fields) tells.0 =
-      ap (λ (v : AnyRecord). name_by (name_rva v) given.0) fields_are ∙ sym (ap (λ (t : Told). t.name) told_is) in
+      ap (λ (v : AnyRecord). name_by (name_rva v) given.0) fields_are ∙ sym (ap (λ (t : Told). t.name) given.1.1) in
       name_given F (name_rva r.fields) r.name given.0 tells.0 of.1 tells.1.0 had same
 
   -- what is found of the record is found of the one that stands there
@@ -331,10 +258,10 @@ module _ (F : List ℕ) (limit e k at o : ℕ) (kind : StreamKind) (r : RecordRe
       ap (λ (x : Result Name Fault). named x (made kind F limit e k at o)) (sym (ap (λ (v : AnyRecord). name_of F limit (name_rva v)) fields_are) ∙ found.1.0) in
       let steps : record_steps (length F) r.entry r.index r.offset r.fields found.0 ≡ item_steps (length F) (made kind F limit e k at o found.0) =
       steps_by (length F) r.entry r.index r.offset r.fields found.0
-      ∙ ap (λ (t : Told). record_steps (length F) t.entry t.index t.offset t.fields found.0) told_is
+      ∙ ap (λ (t : Told). record_steps (length F) t.entry t.index t.offset t.fields (name_by (name_rva t.fields) found.0)) given.1.1
       ∙ sym (steps_by (length F) e k (offset_in F at k kind) w found.0) ∙ sym (item_asks (length F) e k (offset_in F at k kind) w found.0) in
       let seen_are : seen_of F r.offset r.fields ≡ seen_in kind F at k o =
-      seen_by F r.offset r.fields ∙ ap (λ (t : Told). seen_of F t.offset t.fields) told_is ∙ sym (seen_by F (offset_in F at k kind) w) in (
+      seen_by F r.offset r.fields ∙ ap (λ (t : Told). seen_of F t.offset t.fields) given.1.1 ∙ sym (seen_by F (offset_in F at k kind) w) in (
         (
           made kind F limit e k at o found.0,
           (under, subst (λ (s : Seen). FindsSeen F (item_steps (length F) (made kind F limit e k at o found.0)) s result) seen_are (subst (λ (xs : List ReadStep). FindsSeen F xs (seen_of F r.offset r.fields) result) steps found.1.1.0)),

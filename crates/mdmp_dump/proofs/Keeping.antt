@@ -1,8 +1,9 @@
 -- What a reading fetches, one step after the other.
-use Rattle.std.proofs.Common.{◌≡◌, ◌∙◌, ◌≤◌, ◌+◌, [], ◌∷◌, ℕ, Option, None, Some, Result, Ok, Err, ap, arith, refl, subst, sym}
+use Rattle.std.proofs.Common.{◌≡◌, ◌∙◌, ◌≤◌, ◌+◌, [], ◌∷◌, ℕ, List, Option, None, Some, Result, Ok, Err, ap, arith, refl, subst, sym}
 use Rattle.std.specs.Prelude.{IfErr, max}
 use Rattle.mdmp_source.specs.Count.{raised}
-use Rattle.mdmp_source.specs.Source.{FetchesAtMost, SourceState}
+use Rattle.mdmp_source.specs.Source.{FetchesAtMost, FetchesSome, SourceState}
+use Rattle.mdmp_source.specs.SourceLaws.{fetches_then}
 use Rattle.mdmp_lister.specs.declared.choice.Choice.{Choice}
 use Rattle.mdmp_lister.specs.declared.fault.FaultKind.{FaultKind}
 use Rattle.mdmp_lister.specs.declared.fault.FaultKind.TheVariants as kinds
@@ -14,20 +15,23 @@ use Rattle.mdmp_lister.specs.declared.limits.Limits.{Limits}
 use Rattle.mdmp_lister.specs.declared.meter.Amount.{Amount}
 use Rattle.mdmp_lister.specs.declared.name.Name.{Name}
 use Rattle.mdmp_lister.specs.declared.name.Name.TheVariants.{Long}
-use Rattle.mdmp_lister.specs.Format.Summary.{summary_of}
+use Rattle.mdmp_lister.specs.declared.step.ItemRead.{ItemRead}
+use Rattle.mdmp_lister.specs.declared.step.ItemRead.TheVariants as reads
+use Rattle.mdmp_lister.specs.Format.Directory.{IsDirectory}
+use Rattle.mdmp_lister.specs.Format.Name.{plain_name}
 use Rattle.mdmp_lister.specs.Lister.{IsNewLister, ListerLeaves, ListerState, NextLeaves, Rooms, standpoint_in}
 use Rattle.mdmp_lister.specs.Meter.{IsBooked, IsUnmade, KeepsTo, SpendsAside}
 use Rattle.mdmp_lister.specs.NextFetch.{TellsNextOpening}
-use Rattle.mdmp_lister.specs.Opening.{KeepsToBudget, TellsOver}
+use Rattle.mdmp_lister.specs.Opening.{IsHandedBack, KeepsToBudget}
+use Rattle.mdmp_lister.proofs.Fetches.{FetchesAtMost-none, told_in_later}
 use Rattle.mdmp_dump.specs.declared.fault.ReadFault.{ReadFault}
 use Rattle.mdmp_dump.specs.declared.fault.ReadFault.TheVariants as faults
 use Rattle.mdmp_dump.specs.declared.reader.Reader.{Reader}
 use Rattle.mdmp_dump.specs.declared.reader.Told.{Told}
-use Rattle.mdmp_dump.specs.declared.row.ToldRecord.{ToldRecord}
-use Rattle.mdmp_dump.specs.Keeping.{IsAtEntry, IsSameReading, KeepsStep, KeepsOn, KeepsReading, KeepsTill, TellsListedNext, ListsOver, TellsFetch, TellsReadOver, standing_at}
-use Rattle.mdmp_dump.specs.Reading.{IsToldOf, listed_within, read_within, refusal_of}
+use Rattle.mdmp_dump.specs.Keeping.{IsAtEntry, IsOpeningEnd, IsSameReading, KeepsStep, KeepsOn, KeepsReading, KeepsTill, TellsFetch, TellsListed, TellsListing, TellsReadEnd, standing_at}
+use Rattle.mdmp_dump.specs.Reading.{FindsRead, IsNameTaken, listed_within, read_within, refusal_of}
 use Rattle.mdmp_dump.specs.Refusal.{Refuse, name_steps}
-use Rattle.mdmp_dump.proofs.NextReads.{fault_next, goes_on_at, some_fetch}
+use Rattle.mdmp_dump.proofs.NextReads.{fault_at_entry, goes_on_at, some_fetch}
 
 same_none : (v : ListerState) → IsSameReading v v
 same_none v = record { rooms = refl; limit = refl; choice = refl; entries = refl; content = refl; size = refl; start = refl; budget = refl }
@@ -44,19 +48,36 @@ same_then a b c first then = record {
   budget = then.budget ∙ first.budget;
 }
 
--- a name that is refused is none of the budget's
-long_over : (v : ListerState) (e k : ℕ) (name : Name) (fault : ReadFault) → name_steps e k name ≡ Refuse fault ∷ [] → TellsFetch fault v
-long_over v e k (Long bytes) fault is = let same : faults.NameTooLong e k bytes ≡ fault = cc in subst (λ (f : ReadFault). TellsFetch f v) same tt
-long_over v e k _ fault is = absurd (cc)
+-- a name that is refused is no fault of bytes that were not obtained
+long_ends : (left : ℕ) (old : SourceState) (v : ListerState) (e k : ℕ) (name : Name) (fault : ReadFault) → name_steps e k name ≡ Refuse fault ∷ [] → TellsFetch fault left old v
+long_ends left old v e k (Long bytes) fault is = let same : faults.NameTooLong e k bytes ≡ fault = cc in subst (λ (f : ReadFault). TellsFetch f left old v) same tt
+long_ends left old v e k _ fault is = absurd (cc)
+
+-- what is told behind some fetches is told by them all
+listed_later : (kind : FaultKind) (f : ListFault) (a b : SourceState) (v : ListerState) → FetchesSome a b → TellsListed kind f b v → TellsListed kind f a v
+listed_later kinds.Budget f a b v some told = told
+listed_later (kinds.Source fault) f a b v some told = record { chosen = told.chosen; told = told_in_later v.current f some.count a b v.source some.fetches told.told }
+listed_later kind f a b v some told = tt
+
+fetch_later : (fault : ReadFault) (m n : ℕ) (a b : SourceState) (v : ListerState) → n ≤ m → FetchesSome a b → TellsFetch fault n b v → TellsFetch fault m a v
+fetch_later (faults.Opening fault) m n a b v less some ends = ends
+fetch_later (faults.List fault) m n a b v less some ends = (ends.0, listed_later fault.kind fault a b v some ends.1)
+fetch_later (faults.Source fault) m n a b v less some ends = omega (arith, less, ends)
+fetch_later fault m n a b v less some ends = tt
 
 module _ {S A : Type 0} where
   pub keeps_none : (old : Reader S A) → KeepsOn old old
-  keeps_none old = record { same = same_none old.lister; few = omega arith; at = λ at. at }
+  keeps_none old = record { same = same_none old.lister; few = omega arith; less = omega arith; fetches = record { count = 0; fetches = FetchesAtMost-none old.lister.source }; at = λ at. at }
 
   pub keeps_then : (a b c : Reader S A) → KeepsOn a b → KeepsOn b c → KeepsOn a c
   keeps_then a b c first then = record {
     same = same_then a.lister b.lister c.lister first.same then.same;
     few = omega (arith, first.few, then.few);
+    less = omega (arith, first.less, then.less);
+    fetches = record {
+      count = first.fetches.count + then.fetches.count;
+      fetches = fetches_then first.fetches.count then.fetches.count a.lister.source b.lister.source c.lister.source first.fetches.fetches then.fetches.fetches;
+    };
     at = λ at. then.at (first.at at);
   }
 
@@ -64,12 +85,12 @@ module _ {S A : Type 0} where
   keeps_err a b c first fault then = record {
     same = same_then a.lister b.lister c.lister first.same then.same;
     few = omega (arith, first.few, then.few);
-    over = λ at. then.over (first.at at);
+    ends = λ at. fetch_later fault a.left b.left a.lister.source b.lister.source c.lister first.less first.fetches (then.ends (first.at at));
   }
 
   -- a fault that is none of the listing
-  pub keeps_till : (a b : Reader S A) (fault : ReadFault) → TellsFetch fault b.lister → KeepsOn a b → KeepsTill fault a b
-  keeps_till a b fault over on = record { same = on.same; few = omega (arith, on.few); over = λ at. over }
+  pub keeps_till : (a b : Reader S A) (fault : ReadFault) → TellsFetch fault a.left a.lister.source b.lister → KeepsOn a b → KeepsTill fault a b
+  keeps_till a b fault ends on = record { same = on.same; few = omega (arith, on.few); ends = λ at. ends }
 
   pub keeps_memory : (a b : Reader S A) → KeepsOn a b → KeepsTill faults.Memory a b
   keeps_memory a b on = keeps_till a b faults.Memory tt on
@@ -96,14 +117,20 @@ module _ {S A : Type 0} where
     same_few result list = omega (arith, left, ap (λ (a : Amount). a.bytes) list.same.aside)
 
     pub keeps_next : (result : Result (Option Item) ListFault) → ListerLeaves old.lister result new.lister → KeepsOn old new
-    keeps_next result leaves = record { same = same_list result leaves.list; few = same_few result leaves.list; at = goes_on_at old.lister going result new.lister leaves }
+    keeps_next result leaves = record {
+      same = same_list result leaves.list;
+      few = same_few result leaves.list;
+      less = omega (arith, left);
+      fetches = record { count = _; fetches = leaves.list.spends.fetches };
+      at = goes_on_at old.lister going result new.lister leaves;
+    }
 
-    -- and if it is not answered, that is told of the next fetch
+    -- and if it is not answered, that is told of the current entry
     pub keeps_refused : (f : ListFault) → ListerLeaves old.lister (Err f) new.lister → KeepsTill (faults.List f) old new
     keeps_refused f leaves = record {
       same = same_list (Err f) leaves.list;
       few = omega (arith, same_few (Err f) leaves.list);
-      over = λ at. (leaves.list.spends.refused, fault_next old.lister going f new.lister leaves.list at);
+      ends = λ at. (leaves.list.spends.refused, fault_at_entry old.lister going f new.lister leaves.list at);
     }
 
   -- bytes that are read beside it are taken off
@@ -122,40 +149,51 @@ module _ {S A : Type 0} where
     }
 
     pub keeps_taken : new.left + size ≡ old.left → KeepsOn old new
-    keeps_taken left = record { same = same_aside; few = omega (arith, aside.aside, left); at = λ at. subst IsAtEntry (sym lister) at }
+    keeps_taken left = record {
+      same = same_aside;
+      few = omega (arith, aside.aside, left);
+      less = omega (arith, left);
+      fetches = record { count = _; fetches = fetches };
+      at = λ at. subst IsAtEntry (sym lister) at;
+    }
 
-    pub keeps_untaken : (fault : ReadFault) → TellsFetch fault new.lister → KeepsTill fault old new
-    keeps_untaken fault over = record { same = same_aside; few = omega (arith, aside.aside, fits); over = λ at. over }
+    pub keeps_untaken : (fault : ReadFault) → TellsFetch fault old.left old.lister.source new.lister → KeepsTill fault old new
+    keeps_untaken fault ends = record { same = same_aside; few = omega (arith, aside.aside, fits); ends = λ at. ends }
 
-  -- what an item tells
-  pub keeps_told : {X Z : Type 0} (told : Item → Option (ToldRecord X)) (item : Item) (a b : Reader S A) → KeepsOn a b → (result : Result (Told X Z) ReadFault) → IsToldOf told item result → KeepsStep result a b
-  keeps_told told item a b on (Ok x) of = on
-  keeps_told told item a b on (Err faults.Memory) of = keeps_memory a b on
-  keeps_told told item a b on (Err fault) of = keeps_till a b fault (let x = summary_of item in long_over b.lister x.entry x.index x.name fault of.1) on
+  -- what is found of an item that was read
+  named_keeps : (a b : Reader S A) → KeepsOn a b → (e k : ℕ) (name : Name) (fault : ReadFault) → IsNameTaken (name_steps e k name) name (Err fault) → KeepsTill fault a b
+  named_keeps a b on e k name faults.Memory of = keeps_memory a b on
+  named_keeps a b on e k name fault of = keeps_till a b fault (long_ends a.left a.lister.source b.lister e k name fault of) on
+
+  pub keeps_found : {Z : Type 0} (item : ItemRead) (a b : Reader S A) → KeepsOn a b → (result : Result (Told Z) ReadFault) → FindsRead item result → KeepsStep result a b
+  keeps_found (reads.Stream x) a b on (Ok y) of = on
+  keeps_found (reads.Stream x) a b on (Err fault) of = absurd (cc of)
+  keeps_found (reads.Record r name) a b on (Ok y) of = on
+  keeps_found (reads.Record r name) a b on (Err fault) of = named_keeps a b on r.entry r.index (plain_name name) fault of
 
 -- ---- as a caller sees it
 
 -- while the file was opened
-opened_over : (choice : Choice) (limits : Limits) (old : SourceState) (fetched : ℕ) (fault : OpenFault) (new : SourceState) → TellsOver limits old fetched fault
-    → TellsNextOpening (Some choice) limits old fault new → TellsReadOver choice limits old fetched (refusal_of fault) new
-opened_over choice limits old fetched opening.Memory new over next = tt
-opened_over choice limits old fetched fault new over next = (over, next)
+opened_ends : (choice : Choice) (limits : Limits) (parts : ℕ) (old : SourceState) (fetched : ℕ) (fault : OpenFault) (new : SourceState) → IsOpeningEnd choice limits old fetched fault new
+    → TellsReadEnd choice limits parts old fetched (refusal_of fault) new
+opened_ends choice limits parts old fetched opening.Memory new of = tt
+opened_ends choice limits parts old fetched fault new of = of
 
 pub opening_keeps : {T : Type 0} (choice : Choice) (limits : Limits) (parts : ℕ) (old : SourceState) (fault : OpenFault) (new : SourceState) → KeepsToBudget limits old fault new
-    → TellsNextOpening (Some choice) limits old fault new → KeepsReading {T = T} choice limits parts (Err (refusal_of fault)) old new
-opening_keeps choice limits parts old fault new keeps next = record {
+    → TellsNextOpening (Some choice) limits old fault new → IsHandedBack choice old fault new → KeepsReading {T = T} choice limits parts (Err (refusal_of fault)) old new
+opening_keeps choice limits parts old fault new keeps next handed_back = record {
   fetched = keeps.fetched;
   aside = 0;
   spent = keeps.spent ∙ ap (raised old.fetched) (let h : keeps.fetched ≡ keeps.fetched + 0 = omega arith in h);
   kept = keeps.kept;
   few = omega arith;
-  over = opened_over choice limits old keeps.fetched fault new keeps.over next;
+  ends = opened_ends choice limits parts old keeps.fetched fault new (record { over = keeps.over; next = next; handed_back = handed_back });
 }
 
 -- while it was listed
 module _ {S A : Type 0} (choice : Choice) (limits : Limits) (parts : ℕ) (old : SourceState) (first new : Reader S A) (source : SourceState)
     (opened : IsNewLister old choice limits first.lister) (left : first.left ≡ parts)
-    (booked : IsBooked source new.lister.counts) (kept : KeepsTo new.lister.counts.budget new.lister.counts.fetched) where
+    (source_is : source ≡ new.lister.source) (booked : IsBooked source new.lister.counts) (kept : KeepsTo new.lister.counts.budget new.lister.counts.fetched) where
   -- nothing was passed yet
   begins_at : IsAtEntry first.lister
   begins_at = λ going number is. (let none = opened.list.given.passed in absurd (omega (arith, is, none)))
@@ -170,15 +208,15 @@ module _ {S A : Type 0} (choice : Choice) (limits : Limits) (parts : ℕ) (old :
     aside_few : new.lister.counts.aside.bytes ≤ parts
     aside_few = omega (arith, few, left, ap (λ (a : Amount). a.bytes) opened.list.counts.aside)
 
-    keeps_reading : {T : Type 0} (result : Result T ReadFault) → IfErr result (λ fault. TellsReadOver choice limits old new.lister.counts.fetched fault source)
+    keeps_reading : {T : Type 0} (result : Result T ReadFault) → IfErr result (λ fault. TellsReadEnd choice limits parts old new.lister.counts.fetched fault source)
         → KeepsReading choice limits parts result old source
-    keeps_reading result over = record {
+    keeps_reading result ends = record {
       fetched = new.lister.counts.fetched;
       aside = new.lister.counts.aside.bytes;
       spent = booked.bytes ∙ ap (λ (n : ℕ). raised n (new.lister.counts.fetched + new.lister.counts.aside.bytes)) started;
       kept = rw (← budget_is) kept;
       few = aside_few;
-      over = over;
+      ends = ends;
     }
 
     content_is : new.lister.source.store.content ≡ old.store.content
@@ -193,36 +231,51 @@ module _ {S A : Type 0} (choice : Choice) (limits : Limits) (parts : ℕ) (old :
     limit_is : new.lister.limit ≡ limits.name
     limit_is = same.limit ∙ opened.list.asked.limit_is
 
-    listed_over : (f : ListFault) (kind : FaultKind) → IsUnmade (max new.lister.rooms.window new.lister.limit) kind f.offset f.size new.lister.counts new.lister.source.size
-        → TellsListedNext kind f.entry f.offset f.size new.lister → ListsOver choice limits old new.lister.counts.fetched kind f.entry f.offset f.size
-    listed_over f kinds.Budget is next = record {
+    directory_is : (file : List ℕ) → old.store.content ≡ Some file → IsDirectory file new.lister.entries
+    directory_is file known = rw same.entries (opened.list.read.directory file known)
+
+    choice_is : new.lister.choice ≡ choice
+    choice_is = same.choice ∙ opened.list.asked.choice_is
+
+    listing_ends : (f : ListFault) (kind : FaultKind) → IsUnmade (max new.lister.rooms.window new.lister.limit) kind f.offset f.size new.lister.counts new.lister.source.size
+        → TellsListed kind f first.lister.source new.lister → TellsListing choice limits old new.lister.counts.fetched kind f source
+    listing_ends f kinds.Budget is told = record {
       passes = rw (← budget_is) is.passes;
       inside = rw (← size_is) is.inside;
       most = rw (← window_is, ← limit_is) is.few;
       next = record {
         entries = new.lister.entries;
-        directory = λ file known. rw same.entries (opened.list.read.directory file known);
+        directory = directory_is;
         entry = new.lister.current;
-        chosen = rw (← (same.choice ∙ opened.list.asked.choice_is)) next.chosen;
+        chosen = rw (← choice_is) told.chosen;
         next = some_fetch (standpoint_in new.lister) (standing_at limits old new.lister.current) kinds.Budget f.offset f.size new.lister.counts.fetched
-            (sym content_is) (sym size_is) (sym window_is) (sym limit_is) refl next.next;
+            (sym content_is) (sym size_is) (sym window_is) (sym limit_is) refl told.next;
       };
     }
-    listed_over f kind is next = tt
+    listing_ends f (kinds.Source fault) is told = record {
+      entries = new.lister.entries;
+      directory = directory_is;
+      entry = new.lister.current;
+      chosen = rw (← choice_is) told.chosen;
+      told = rw source_is (told_in_later new.lister.current f _ old first.lister.source new.lister.source opened.fetches told.told);
+    }
+    listing_ends f kind is told = tt
 
-    told_over : (budget : Option ℕ) (f : ListFault) (kind : FaultKind) → f.kind ≡ kind → ListsOver choice limits old new.lister.counts.fetched kind f.entry f.offset f.size
-        → TellsReadOver choice limits old new.lister.counts.fetched (listed_within budget kind f) source
-    told_over None f kinds.Budget is over = tt
-    told_over None f kind is over = subst (λ (k : FaultKind). ListsOver choice limits old new.lister.counts.fetched k f.entry f.offset f.size) (sym is) over
-    told_over (Some most) f kind is over = subst (λ (k : FaultKind). ListsOver choice limits old new.lister.counts.fetched k f.entry f.offset f.size) (sym is) over
+    told_ends : (budget : Option ℕ) (f : ListFault) (kind : FaultKind) → f.kind ≡ kind → TellsListing choice limits old new.lister.counts.fetched kind f source
+        → TellsReadEnd choice limits parts old new.lister.counts.fetched (listed_within budget kind f) source
+    told_ends None f kinds.Budget is ends = tt
+    told_ends None f kind is ends = subst (λ (k : FaultKind). TellsListing choice limits old new.lister.counts.fetched k f source) (sym is) ends
+    told_ends (Some most) f kind is ends = subst (λ (k : FaultKind). TellsListing choice limits old new.lister.counts.fetched k f source) (sym is) ends
 
-    over_by : (budget : Option ℕ) (fault : ReadFault) → TellsFetch fault new.lister → TellsReadOver choice limits old new.lister.counts.fetched (read_within budget fault) source
-    over_by budget (faults.Opening f) over = absurd over
-    over_by budget (faults.List f) over = told_over budget f f.kind refl (listed_over f f.kind over.0 over.1)
-    over_by budget fault over = tt
+    ends_by : (budget : Option ℕ) (fault : ReadFault) → TellsFetch fault first.left first.lister.source new.lister
+        → TellsReadEnd choice limits parts old new.lister.counts.fetched (read_within budget fault) source
+    ends_by budget (faults.Opening f) ends = absurd ends
+    ends_by budget (faults.List f) ends = told_ends budget f f.kind refl (listing_ends f f.kind ends.0 ends.1)
+    ends_by budget (faults.Source f) ends = omega (arith, left, ends)
+    ends_by budget fault ends = tt
 
   pub reading_keeps : {T : Type 0} (x : T) → KeepsOn first new → KeepsReading choice limits parts (Ok x) old source
   reading_keeps x on = keeps_reading on.same (omega (arith, on.few)) (Ok x) tt
 
   pub reading_ends : {T : Type 0} (fault : ReadFault) → KeepsTill fault first new → KeepsReading {T = T} choice limits parts (Err (read_within limits.budget fault)) old source
-  reading_ends fault till = keeps_reading till.same till.few (Err (read_within limits.budget fault)) (over_by till.same till.few limits.budget fault (till.over begins_at))
+  reading_ends fault till = keeps_reading till.same till.few (Err (read_within limits.budget fault)) (ends_by till.same till.few limits.budget fault (till.ends begins_at))

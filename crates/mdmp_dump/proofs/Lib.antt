@@ -25,6 +25,7 @@ pub mod NextReads
 pub mod Opened
 pub mod OpenedViews
 pub mod ReadWithin
+pub mod RecordItems
 pub mod RecordsFound
 pub mod Refusal
 pub mod Refusals

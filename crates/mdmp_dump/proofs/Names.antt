@@ -5,19 +5,19 @@ use Rattle.std.specs.Result.{result_map_both}
 use Rattle.std.proofs.lemmas.Bool.Decides.{nat_tests}
 use Rattle.mdmp_source.specs.Range.{is_inside}
 use Rattle.mdmp_wire.specs.Number.{array_at, number_at}
+use Rattle.mdmp_wire.specs.AnyRecord.{slot_name}
 use Rattle.mdmp_wire.specs.Units.{units_over}
+use Rattle.mdmp_wire.specs.declared.slot.Slot.{Slot}
+use Rattle.mdmp_wire.specs.declared.slot.Slot.TheVariants as slots
 use Rattle.mdmp_wire.specs.declared.units_ref.UnitsRef.{UnitsRef}
 use Rattle.mdmp_lister.specs.declared.fault.Fault.{Fault}
 use Rattle.mdmp_lister.specs.declared.name.Name.{Name}
 use Rattle.mdmp_lister.specs.declared.name.Name.TheVariants as names
-use Rattle.mdmp_wire.specs.AnyRecord.{name_rva}
-use Rattle.mdmp_lister.specs.declared.item.Item.{Item}
-use Rattle.mdmp_lister.specs.declared.kind.StreamKind.{StreamKind}
-use Rattle.mdmp_lister.specs.Format.Item.{item_at, name_of, record_at}
+use Rattle.mdmp_lister.specs.Format.Item.{name_of}
 use Rattle.mdmp_lister.specs.Format.Name.{name_at}
-use Rattle.mdmp_lister.specs.Format.Summary.{summary_of}
-use Rattle.mdmp_dump.specs.TellingLaws.{item_made, made}
 use Rattle.mdmp_dump.specs.Name.{IsName, name_told}
+use Rattle.mdmp_dump.specs.Reading.{IsSlotName}
+use Rattle.mdmp_dump.proofs.RecordItems.{name_by}
 
 -- bytes inside a file are no more than it has
 pub inside_few : (at len size : ℕ) → is_inside at len size ≡ true → nat_lt size len ≡ false
@@ -51,11 +51,10 @@ name_stands F rva limit n name is told =
     told_by n name told (rva == 0) (is_inside rva 4 (length F)) (bytes % 2 == 1) (is_inside (rva + 4) bytes (length F)) (nat_lt limit bytes) (nat_lt (length F) bytes) _ _ _ bytes
     (units_over (array_at F (rva + 4) bytes)) (inside_few (rva + 4) bytes (length F)) is
 
--- the name of an item, of a record that has one at rva
-pub made_named : (kind : StreamKind) (file : List ℕ) (limit e k at o : ℕ) (item : Item) → item_at file limit e k at o kind ≡ Ok item → (rva : ℕ) (name : Option (List ℕ))
-    → name_rva (record_at kind file o) ≡ Some rva → ((n : Name) → (summary_of (made kind file limit e k at o n)).name ≡ n)
-    → name_told (summary_of item).name ≡ Some name → IsName file rva name
-made_named kind file limit e k at o item is rva name has any told =
-    let given = item_made kind file limit e k at o item is in
-    let same : name_told (summary_of (made kind file limit e k at o given.0)).name ≡ name_told (summary_of item).name = ap (λ (x : Item). name_told (summary_of x).name) given.1.1 in
-    name_stands file rva limit given.0 name (ap (name_of file limit) (sym has) ∙ given.1.0) (ap name_told (sym (any given.0)) ∙ same ∙ told)
+-- the name that was read of a record stands where its slot says
+pub slot_name_stands : (F : List ℕ) (limit : ℕ) (s : Slot) (n m : Name) (name : Option (List ℕ)) → name_of F limit (slot_name s) ≡ Ok n → name_by (slot_name s) m ≡ name_by (slot_name s) n
+    → name_told m ≡ Some name → IsSlotName F s name
+slot_name_stands F limit (slots.Name rva) n m name is same told = name_stands F rva limit n name is (ap name_told (sym same) ∙ told)
+slot_name_stands F limit slots.Empty n m name is same told = tt
+slot_name_stands F limit (slots.Part part at) n m name is same told = tt
+slot_name_stands F limit (slots.Behind count) n m name is same told = tt

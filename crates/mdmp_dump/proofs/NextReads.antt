@@ -13,7 +13,7 @@ use Rattle.mdmp_lister.specs.Format.Item.{plain}
 use Rattle.mdmp_lister.specs.Lister.{AnswersNext, ListerLeaves, ListerState, NextLeaves, Rooms, cursor_in, standpoint_in}
 use Rattle.mdmp_lister.specs.NextFetch.{Standpoint, TellsNextFetch, TellsSomeFetch}
 use Rattle.mdmp_lister.specs.Step.{TellsAnswer}
-use Rattle.mdmp_dump.specs.Keeping.{IsAtEntry, IsEntryChosen, TellsListedNext}
+use Rattle.mdmp_dump.specs.Keeping.{IsAtEntry, IsEntryChosen, TellsListed}
 
 -- ---- the current entry is the last one that was passed
 
@@ -82,17 +82,22 @@ some_fetch s t kind offset size fetched content file_size room limit entry told 
     )
 
 module _ (old : ListerState) (going : old.stop ≡ None) (f : ListFault) (new : ListerState) (list : NextLeaves old (Err f) new) (at : IsAtEntry old) where
-  next_in : (kind : FaultKind) → TellsNextFetch (standpoint_in old) kind f.offset f.size new.counts.fetched → TellsListedNext kind f.entry f.offset f.size new
-  next_in kinds.Budget told =
+  chosen_in : IsEntryChosen new.choice new.entries f.entry new.current
+  chosen_in =
       let chosen : IsEntryChosen old.choice old.entries f.entry old.current = at going f.entry (list.places.entry going) in
+      rw (list.same.choice, list.same.entries, list.places.current) chosen
+
+  told_by : (kind : FaultKind) → TellsNextFetch (standpoint_in old) kind f.offset f.size new.counts.fetched → TellsListed kind f old.source new
+  told_by kinds.Budget told =
       let fetches = list.spends.fetches in
       record {
-        chosen = rw (list.same.choice, list.same.entries, list.places.current) chosen;
+        chosen = chosen_in;
         next = some_fetch (standpoint_in old) (standpoint_in new) kinds.Budget f.offset f.size new.counts.fetched fetches.same_content fetches.same_size
             (ap (λ (r : Rooms). r.window) list.same.rooms) list.same.limit list.places.current (old.standing, old.unread, old.counts.fetched, told);
       }
-  next_in kind told = tt
+  told_by (kinds.Source fault) told = record { chosen = chosen_in; told = rw list.places.current (list.told going) }
+  told_by kind told = tt
 
-  -- is told of the entry whose number the fault has
-  pub fault_next : TellsListedNext f.kind f.entry f.offset f.size new
-  fault_next = next_in f.kind (list.next going)
+  -- it is told of the entry whose number the fault has
+  pub fault_at_entry : TellsListed f.kind f old.source new
+  fault_at_entry = told_by f.kind (list.next going)

@@ -8,7 +8,7 @@ use Rattle.mdmp_lister.specs.Format.Listing.{Numbered, Run, list_fault, nothing,
 use Rattle.mdmp_lister.specs.Format.Shape.{location_fault, shape_of}
 use Rattle.mdmp_lister.specs.declared.fault.Fault.{Fault}
 use Rattle.mdmp_lister.specs.declared.item.StreamItem.{StreamItem}
-use Rattle.mdmp_lister.specs.Lister.{ListerState, tail}
+use Rattle.mdmp_lister.specs.Lister.{ListerState, current_after, tail}
 use Rattle.mdmp_dump.specs.declared.fault.ReadFault.{ReadFault}
 use Rattle.mdmp_dump.specs.declared.fault.ReadFault.TheVariants as faults
 use Rattle.mdmp_lister.specs.declared.item.Item.TheVariants as items
@@ -18,18 +18,34 @@ use Rattle.mdmp_lister.specs.Format.Kind.{kind_of}
 use Rattle.mdmp_dump.specs.declared.reader.Reader.{Reader}
 use Rattle.mdmp_dump.specs.declared.reader.Told.{Told}
 use Rattle.mdmp_dump.specs.declared.reader.Told.TheVariants as tolds
-use Rattle.mdmp_dump.specs.declared.row.ToldRecord.{ToldRecord}
 use Rattle.mdmp_dump.specs.Left.{IsGiven, AreAllGiven, RowGiven, left_from, run_of}
-use Rattle.mdmp_dump.specs.Reading.{AreRows, HasOneRecord, IsFoundOrBehind, IsLeftBehind, IsNextStream, IsWanting, NoRowFirst, IsRecordFound, IsRow, IsRowRead, IsToldOf, TakesSteps, Settles, name_steps_of, owed, refusal_found, refusal_in}
+use Rattle.mdmp_dump.specs.Reading.{AreRows, HasOneRecord, IsFoundOrBehind, IsLeftBehind, IsNameTaken, IsNextStream, IsWanting, NoRowFirst, FindsRead, IsRecordFound, IsRow, IsToldGoing, ListingGoesOn, TakesSteps, Settles, owed, refusal_found, refusal_in}
 use Rattle.mdmp_dump.specs.LaysOut.{HasRecords}
-use Rattle.mdmp_dump.specs.Telling.{ItemTells, record_told}
+use Rattle.mdmp_dump.specs.RecordParts.{ArePartsOf, IsReadAt}
+use Rattle.mdmp_dump.specs.declared.record_parts.RecordParts.{RecordParts}
 use Rattle.mdmp_lister.specs.declared.shape.Shape.{Shape}
 use Rattle.mdmp_lister.proofs.Heads.{listed-inside}
 use Rattle.mdmp_dump.proofs.Budget.{inside_is}
 use Rattle.mdmp_dump.proofs.More.{each_more}
 use Rattle.mdmp_dump.proofs.Left.{all_given, no_row_first, row_given, stream_given}
 use Rattle.mdmp_dump.proofs.Refusal.{refusal-end}
-use Rattle.mdmp_dump.specs.Refusal.{Refuse, ReadStep, first_refusal, item_steps}
+use Rattle.mdmp_dump.specs.Refusal.{Refuse, ReadStep, first_refusal, item_steps, name_steps, parts_asked, record_steps}
+use Rattle.mdmp_wire.specs.AnyRecord.{name_rva, slot_at, slot_name}
+use Rattle.mdmp_wire.specs.declared.any_record.AnyRecord.{AnyRecord}
+use Rattle.mdmp_wire.specs.declared.entry.Entry.{Entry}
+use Rattle.mdmp_lister.specs.Format.Summary.{Summary, entry_begun}
+use Rattle.mdmp_lister.proofs.Summary.{summary_of-item_of}
+use Rattle.mdmp_wire.specs.declared.any_record.AnyRecord.TheVariants as any
+use Rattle.mdmp_lister.specs.declared.name.Name.{Name}
+use Rattle.mdmp_lister.specs.declared.step.ItemRead.{ItemRead}
+use Rattle.mdmp_lister.specs.declared.step.ItemRead.TheVariants as reads
+use Rattle.mdmp_lister.specs.declared.step.RecordRead.{RecordRead}
+use Rattle.mdmp_lister.specs.Format.Item.{item_of, name_of, plain}
+use Rattle.mdmp_lister.specs.Format.Name.{plain_name}
+use Rattle.mdmp_lister.specs.ItemRead.{IsReadOf, item_read}
+use Rattle.mdmp_lister.proofs.Classes.{plain-named}
+use Rattle.mdmp_dump.proofs.Names.{slot_name_stands}
+use Rattle.mdmp_dump.proofs.RecordItems.{Told as ItemTold, name_asked, name_by, read_asks, read_at, refused_first, told_is}
 
 -- a fault that is next is what is owed
 pub fault-owed : (file : List ℕ) (left : ℕ) (run : Run) (f : ListFault) → ((IsUnobtained f.kind → ⊥) → run ≡ only_fault f) → (IsWanting (faults.List f) → ⊥)
@@ -51,6 +67,27 @@ item-owed file left run item first =
     let is : run ≡ record { items = item ∷ rest.0; fault = run.fault } = λ i. record { items = rest.1 i; fault = run.fault } in
     rw is refl
 
+-- ---- where the listing goes on
+
+-- an item of a record begins no entry
+same_entry : (z e k far : ℕ) (w : AnyRecord) (name : Name) (old new : Entry) → new ≡ current_after (item_of z e k far w name) old → new ≡ old
+same_entry z e k far w name old new is = is ∙ ap (λ (s : Summary). entry_begun s.stream old) (summary_of-item_of z e k far w name)
+
+-- a record that was read is of the kind of the entry in which the listing stood
+pub read_kind : (z t : ℕ) (kind : StreamKind) (item : ItemRead) (old new : Entry) → new ≡ current_after (item_read z item) old → kind_of t ≡ Some kind → old.stream_type ≡ t
+    → IsReadOf (kind_of new.stream_type) item → IsReadOf (Some kind) item
+read_kind z t kind (reads.Stream x) old new is known type of = tt
+read_kind z t kind (reads.Record r name) old new is known type of =
+    let same : kind_of new.stream_type ≡ Some kind = ap (λ (e : Entry). kind_of e.stream_type) (same_entry z r.entry r.index r.offset r.fields name old new is) ∙ ap kind_of type ∙ known in
+    subst (λ (k : Option StreamKind). IsReadOf k (reads.Record r name)) same of
+
+pub found_going : {Z : Type 0} (z : ℕ) (item : ItemRead) (old new : ListerState) → ListingGoesOn old new → new.current ≡ current_after (item_read z item) old.current
+    → (result : Result (Told Z) ReadFault) → FindsRead item result → IfOk result (λ told. IsToldGoing old told new)
+found_going z (reads.Stream x) old new on is result finds = rw finds (on, ap (λ (e : Entry). e.stream_type) is)
+found_going z (reads.Record r name) old new on is (Ok (tolds.Record found units)) finds = (on, same_entry z r.entry r.index r.offset r.fields name old.current new.current is)
+found_going z (reads.Record r name) old new on is (Ok (tolds.Behind next)) finds = absurd finds
+found_going z (reads.Record r name) old new on is (Err fault) finds = tt
+
 -- ---- the end
 
 -- nothing is owed behind the end
@@ -66,72 +103,100 @@ refused-by : (fault : ReadFault) (left : ℕ) (steps : List ReadStep) (last : Op
 unfolding first_refusal
 refused-by fault left steps last = refl
 
-module _ {X : Type 0} (file : List ℕ) (limit : ℕ) (x : Numbered) (k : ℕ) (xs : List Numbered) (kind : StreamKind) (told : Item → Option X)
-    (steps : ToldRecord X → List ReadStep) (law : ItemTells kind told steps) (known : kind_of x.entry.stream_type ≡ Some kind) (left : ℕ)
-    (item : Item) (first : slice_get (left_from file limit x k xs).items 0 ≡ Some item) where
+-- the item of a record is none of an entry
+not_stream : (z e k far : ℕ) (w : AnyRecord) (name : Name) → IsStreamItem (item_of z e k far w name) → ⊥
+not_stream z e k far (any.Thread r) name stream = let is = stream.1 in cc is
+not_stream z e k far _ name stream = let is = stream.1 in cc is
+
+module _ (file : List ℕ) (limit : ℕ) (x : Numbered) (k : ℕ) (xs : List Numbered) (kind : StreamKind) (known : kind_of x.entry.stream_type ≡ Some kind) (left z : ℕ) where
   abbrev pub run_first : Run
   run_first = left_from file limit x k xs
 
-  given : (IsStreamItem item → ⊥) → RowGiven file limit x k xs kind item
-  given other = row_given file limit x k xs kind item known other first
+  -- ---- of a record that was read, with its name
 
-  told_by : (other : IsStreamItem item → ⊥) → (found : ToldRecord X) × ((record_told told item ≡ Some found) × (item_steps (length file) item ≡ name_steps_of item ++ steps found))
-  told_by other = law file limit x.number k x.entry.location.rva _ item (given other).is_item
+  module _ (r : RecordRead) (name : Name) (of : IsReadOf (Some kind) (reads.Record r name)) (first : slice_get run_first.items 0 ≡ Some (plain (item_read z (reads.Record r name)))) where
+    abbrev item : Item
+    item = item_of z r.entry r.index r.offset r.fields (plain_name name)
 
-  -- what the first item tells is found, and what it asks is owed
-  pub found-given : {Z : Type 0} (result : Result (Told X Z) ReadFault) → IsToldOf (record_told told) item result
-      → IfOk result (λ t. IsFoundOrBehind file limit x k xs kind (record_told told) t (Some (tail run_first)))
-      × Settles (owed file left None (Some run_first)) result (λ t. refusal_found file left steps t (Some (tail run_first)))
-  found-given (Ok (tolds.Record found name)) is =
-      let by = told_by is.0 in
-      let same : by.0 ≡ found = let e : Some by.0 ≡ Some found = sym by.1.0 ∙ is.1.0 in cc e in
-      let asked : item_steps (length file) item ≡ steps found = by.1.1 ∙ (rw (is.1.1.0, same) refl) in (
-        record { item = item; given = given is.0; told = is.1.0; named = is.1.1.1; rest = ap (λ (r : Run). Some r) (given is.0).rest },
-        item-owed file left run_first item first ∙ ap (λ (s : List ReadStep). refusal_in file left s (Some (tail run_first))) asked,
-      )
-  found-given (Ok (tolds.Behind (Some stream))) is =
-      let at : slice_get run_first.items 0 ≡ Some (items.Stream stream) = first ∙ ap (λ (i : Item). Some i) is in
-      let behind = stream_given file limit x k xs stream at in
-      ((behind.0, (tail run_first, (refl, behind.1))), item-owed file left run_first (items.Stream stream) at)
-  found-given (Ok (tolds.Behind None)) is =
-      let by = told_by is.0 in
-      absurd (let e : Some by.0 ≡ None = sym by.1.0 ∙ is.1 in cc e)
-  found-given {Z = Z} (Err fault) is = (tt, settled fault is) where
-    settled : (fault : ReadFault) → IsToldOf {Z = Z} (record_told told) item (Err fault) → (IsWanting fault → ⊥) → owed file left None (Some run_first) ≡ Some fault
-    settled faults.Memory is own = absurd (own tt)
-    settled fault is own =
-        let by = told_by is.0 in
-        let asked : item_steps (length file) item ≡ Refuse fault ∷ steps by.0 = by.1.1 ∙ ap (λ (s : List ReadStep). s ++ steps by.0) is.1 in
-        item-owed file left run_first item first ∙ (rw asked (refused-by fault left _ _))
+    is_first : slice_get run_first.items 0 ≡ Some item
+    is_first = first ∙ ap Some (plain-named z r.entry r.index r.offset r.fields name)
+
+    given : RowGiven file limit x k xs kind item
+    given = row_given file limit x k xs kind item known (not_stream z r.entry r.index r.offset r.fields (plain_name name)) is_first
+
+    asked : owed file left None (Some run_first) ≡ refusal_in file left (record_steps (length file) r.entry r.index r.offset r.fields (plain_name name)) (Some (tail run_first))
+    asked =
+        item-owed file left run_first item is_first
+        ∙ ap (λ (s : List ReadStep). refusal_in file left s (Some (tail run_first))) (read_asks file limit x.number k x.entry.location.rva _ kind r (plain_name name) z given.is_item of.0.0)
+
+    record_given : (units : Option (List ℕ)) → IsNameTaken (name_steps r.entry r.index (plain_name name)) (plain_name name) (Ok units)
+        → IsRecordFound file limit x k xs kind r units (Some (tail run_first)) × (owed file left None (Some run_first) ≡ refusal_in file left (parts_asked (length file) r) (Some (tail run_first)))
+    record_given units taken =
+        let is = told_is file limit x.number k x.entry.location.rva _ kind r (plain_name name) z given.is_item of.0.0 in
+        let at = read_at file limit x.number k x.entry.location.rva _ kind r (plain_name name) z given.is_item of.0.0 in
+        let named : name_of file limit (slot_name (slot_at r.fields 0)) ≡ Ok is.0 = ap (λ (w : AnyRecord). name_of file limit (name_rva w)) at.fields ∙ is.1.0 in
+        let same : name_by (slot_name (slot_at r.fields 0)) (plain_name name) ≡ name_by (slot_name (slot_at r.fields 0)) is.0 =
+        ap (λ (t : ItemTold). t.name) is.1.1 ∙ sym (ap (λ (w : AnyRecord). name_by (name_rva w) is.0) at.fields) in (
+          record {
+            item = item;
+            given = given;
+            is = at;
+            named = slot_name_stands file limit (slot_at r.fields 0) is.0 (plain_name name) units named same taken.1;
+            rest = ap (λ (run : Run). Some run) given.rest;
+          },
+          asked ∙ ap (λ (s : List ReadStep). refusal_in file left s (Some (tail run_first))) (name_asked (length file) r (plain_name name) taken.0),
+        )
+
+    name_fails : (fault : ReadFault) → IsNameTaken (name_steps r.entry r.index (plain_name name)) (plain_name name) (Err fault) → (IsWanting fault → ⊥) → owed file left None (Some run_first) ≡ Some fault
+    name_fails faults.Memory refused own = absurd (own tt)
+    name_fails fault refused own =
+        let front = refused_first (length file) fault r (plain_name name) of.0.1 of.1 refused in
+        asked ∙ (rw front.1 (refused-by fault left _ _))
+
+  -- ---- what is found of the first item, and what is owed then
+
+  pub found-given : {Z : Type 0} (item : ItemRead) → IsReadOf (Some kind) item → slice_get run_first.items 0 ≡ Some (plain (item_read z item)) → (result : Result (Told Z) ReadFault) → FindsRead item result
+      → IfOk result (λ t. IsFoundOrBehind file limit x k xs kind t (Some (tail run_first)))
+      × Settles (owed file left None (Some run_first)) result (λ t. refusal_found file left t (Some (tail run_first)))
+  found-given (reads.Stream stream) of first result is =
+      let behind = stream_given file limit x k xs stream first in
+      rw is ((behind.0, (tail run_first, (refl, behind.1))), item-owed file left run_first (items.Stream stream) first)
+  found-given (reads.Record r name) of first (Ok (tolds.Record found units)) is =
+      rw is.0 (record_given r name of first units is.1)
+  found-given (reads.Record r name) of first (Ok (tolds.Behind next)) is = absurd is
+  found-given (reads.Record r name) of first (Err fault) is = (tt, name_fails r name of first fault is)
 
 -- ---- its parts
 
-module _ {S A X T : Type 0} (file : List ℕ) (limit : ℕ) (x : Numbered) (k : ℕ) (xs : List Numbered) (kind : StreamKind) (told : Item → Option (ToldRecord X))
-    (steps : ToldRecord X → List ReadStep) (IsAt : List ℕ → ℕ → ℕ → ℕ → T → Type 0) (old : Option ReadFault) (mid : Reader S A) (found : ToldRecord X) (name : Option (List ℕ))
-    (is : IsRecordFound file limit x k xs kind told found name mid.lister.left) (owes : old ≡ refusal_in file mid.left (steps found) mid.lister.left)
-    (known : mid.lister.source.store.content ≡ Some file) (new : Reader S A) where
+module _ {S A T : Type 0} (file : List ℕ) (limit : ℕ) (x : Numbered) (k : ℕ) (xs : List Numbered) (kind : StreamKind)
+    (IsAt : List ℕ → ℕ → ℕ → ℕ → T → Type 0) (old : Option ReadFault) (mid : Reader S A) (r : RecordRead) (name : Option (List ℕ))
+    (is : IsRecordFound file limit x k xs kind r name mid.lister.left) (owes : old ≡ refusal_in file mid.left (parts_asked (length file) r) mid.lister.left)
+    (sized : mid.lister.source.size ≡ length file) (new : Reader S A) where
   abbrev left_behind : Run
   left_behind = left_from file limit x (k + 1) xs
 
-  settled : {result : Result T ReadFault} → TakesSteps (steps found) mid result new → Settles old result (λ _. owed file new.left None (Some left_behind))
+  settled : {U : Type 0} {result : Result U ReadFault} → TakesSteps (parts_asked mid.lister.source.size r) mid result new → Settles old result (λ _. owed file new.left None (Some left_behind))
   settled {result = result} takes =
-      let same : old ≡ first_refusal mid.left 0 (steps found ++ flat_map (item_steps (length file)) left_behind.items) (option_map faults.List left_behind.fault) = owes ∙ (rw is.rest refl) in
-      subst (λ (o : Option ReadFault). Settles o result (λ _. owed file new.left None (Some left_behind))) (sym same) (takes.settles _ _)
+      let here : TakesSteps (parts_asked (length file) r) mid result new = subst (λ (z : ℕ). TakesSteps (parts_asked z r) mid result new) sized takes in
+      let same : old ≡ first_refusal mid.left 0 (parts_asked (length file) r ++ flat_map (item_steps (length file)) left_behind.items) (option_map faults.List left_behind.fault) = owes ∙ (rw is.rest refl) in
+      subst (λ (o : Option ReadFault). Settles o result (λ _. owed file new.left None (Some left_behind))) (sym same) (here.settles _ _)
 
-  left-read : {result : Result T ReadFault} → TakesSteps (steps found) mid result new → new.lister.left ≡ Some left_behind
-  left-read takes = ap (λ (l : ListerState). l.left) takes.same ∙ is.rest
+  -- a record was read whose parts were, with its name
+  pub parts-read : (parts : RecordParts A) → ArePartsOf file r.offset r.fields parts → parts.name ≡ name
+      → IsReadAt kind file x.entry.location.rva k (x.entry.location.rva + is.given.shape.first + k * is.given.shape.stride) r.fields parts
+  parts-read parts are named = record { far = r.offset; is = is.is; name = rw named is.named; parts = are }
 
-  -- the row is that of the record, and the next one stands behind it
-  pub row-read : (row : T) → IsRowRead kind told steps IsAt mid found name (Ok row) new
+  -- its value is the row, and the next one stands behind it
+  pub row-read : {U : Type 0} (one : U) (row : T) → TakesSteps (parts_asked mid.lister.source.size r) mid (Ok one) new
+      → IsAt file x.entry.location.rva k (x.entry.location.rva + is.given.shape.first + k * is.given.shape.stride) row
       → (IsRow file x kind (IsAt file x.entry.location.rva) k row × (new.lister.left ≡ Some left_behind)) × (old ≡ owed file new.left None new.lister.left)
-  row-read row read =
-      let given = is.given in
-      let stands = read.stands file limit x.number k x.entry.location.rva _ is.item known given.is_item is.told is.named in
-      (((given.shape, (given.shaped, (given.within, stands))), left-read read.takes), rw (left-read read.takes) (settled read.takes))
+  row-read one row takes stands =
+      let left : new.lister.left ≡ Some left_behind = ap (λ (l : ListerState). l.left) takes.same ∙ is.rest in
+      (((is.given.shape, (is.given.shaped, (is.given.within, stands))), left), rw left (settled takes))
 
   -- or it is refused
-  pub row-refused : (fault : ReadFault) → IsRowRead kind told steps IsAt mid found name (Err fault) new → (IsWanting fault → ⊥) → old ≡ Some fault
-  row-refused fault read own = settled read.takes own
+  pub row-refused : {U : Type 0} (fault : ReadFault) → TakesSteps {T = U} (parts_asked mid.lister.source.size r) mid (Err fault) new → (IsWanting fault → ⊥) → old ≡ Some fault
+  row-refused fault takes own = settled takes own
 
 -- ---- all records of an entry
 

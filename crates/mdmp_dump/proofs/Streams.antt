@@ -26,7 +26,7 @@ use Rattle.mdmp_dump.specs.declared.dump.Stream.TheVariants as streams
 use Rattle.mdmp_dump.specs.declared.reader.Reader.{Reader}
 use Rattle.mdmp_dump.specs.LaysOut.{HasBytes}
 use Rattle.mdmp_dump.specs.Left.{is_item_of, left_from, run_of}
-use Rattle.mdmp_dump.specs.Reading.{HasBytesAt, HasOneRecord, IsEntryRead, IsGoing, IsLeftBehind, IsNextStream, IsOneStream, IsRaw, IsWanting, ListingGoesOn, NoRowFirst, Settles, TakesSteps, owed, refusal_in}
+use Rattle.mdmp_dump.specs.Reading.{HasBytesAt, HasOneRecord, IsEntryRead, IsGoing, IsLeftBehind, IsNextStream, IsOfType, IsOneStream, IsRaw, IsWanting, NoRowFirst, Settles, TakesSteps, owed, refusal_in}
 use Rattle.mdmp_dump.specs.Refusal.{ReadStep, Take, first_refusal, item_steps, stream_steps}
 use Rattle.mdmp_dump.proofs.Taking.{FetchesSome_none}
 use Rattle.mdmp_dump.proofs.Left.{all_given, no_row_first, stream_given}
@@ -76,7 +76,7 @@ pub record RawTaken {S A Z : Type 0} (old : Reader S A) (item : StreamItem) (str
 pub raw_going : {S A Z : Type 0} (old mid : Reader S A) (item : StreamItem) (stream : Option (Stream Z)) → RawTaken old item stream mid → (next : Option StreamItem) (new : ListerState)
     → IsGoing mid.lister next new → IsGoing old.lister next new
 raw_going old mid item stream taken None new going = tt
-raw_going old mid item stream taken (Some behind) new going = subst (λ (l : ListerState). ListingGoesOn l new) taken.same going
+raw_going old mid item stream taken (Some behind) new going = subst (λ (l : ListerState). IsGoing l (Some behind) new) taken.same going
 
 raw_steps : (size e t : ℕ) (at : Location) (b : Bool) → IsRaw t → is_inside at.rva at.size size ≡ b → stream_steps size e t at ≡ (if b then Take e 0 at.size ∷ [] else [])
 raw_steps size e t at b raw is =
@@ -213,26 +213,26 @@ module _ {S A V Z : Type 0} (old new : Reader S A) (item : StreamItem) (n : ℕ)
   pub stream_read : (value : V) (stream : Option (Stream Z)) (next : Option StreamItem)
       → ((F : List ℕ) (e : Entry) → e.stream_type ≡ n → IsValue F e.location value → IsOneStream F e stream)
       → ((F : List ℕ) (limit : ℕ) (x : Numbered) (xs : List Numbered) → old.lister.source.store.content ≡ Some F → old.lister.left ≡ Some (left_from F limit x 0 xs)
-      → kind_of x.entry.stream_type ≡ Some kind
+      → kind_of x.entry.stream_type ≡ Some kind → IsOfType old.lister x.entry.stream_type
       → IsEntryRead F limit xs (IsValue F x.entry.location) (owed F old.left None old.lister.left) (Ok (value, next)) new)
       → (F : List ℕ) (limit : ℕ) (x : Numbered) (xs : List Numbered) → old.lister.source.store.content ≡ Some F → old.lister.left ≡ Some (left_from F limit x 0 xs)
-      → item ≡ is_item_of x
+      → item ≡ is_item_of x → IsOfType old.lister item.stream_type
       → IsEntryRead F limit xs (IsOneStream F x.entry) (owed F old.left (Some item) old.lister.left) (Ok (stream, next)) new
-  stream_read value stream next wrap of_file F limit x xs known left is =
+  stream_read value stream next wrap of_file F limit x xs known left is current =
       let type = type_of_entry item n type_is x is in
-      let read = of_file F limit x xs known left (ap kind_of type ∙ kind_is) in
+      let read = of_file F limit x xs known left (ap kind_of type ∙ kind_is) (current ∙ ap (λ (i : StreamItem). i.stream_type) is) in
       record { value = (wrap F x.entry type read.value.0, read.value.1); settles = owed_unasked old item n type_is unasked F ∙ read.settles }
 
   pub stream_refused : (fault : ReadFault)
       → ((F : List ℕ) (limit : ℕ) (x : Numbered) (xs : List Numbered) → old.lister.source.store.content ≡ Some F → old.lister.left ≡ Some (left_from F limit x 0 xs)
-      → kind_of x.entry.stream_type ≡ Some kind
+      → kind_of x.entry.stream_type ≡ Some kind → IsOfType old.lister x.entry.stream_type
       → IsEntryRead F limit xs (IsValue F x.entry.location) (owed F old.left None old.lister.left) (Err fault) new)
       → (F : List ℕ) (limit : ℕ) (x : Numbered) (xs : List Numbered) → old.lister.source.store.content ≡ Some F → old.lister.left ≡ Some (left_from F limit x 0 xs)
-      → item ≡ is_item_of x
+      → item ≡ is_item_of x → IsOfType old.lister item.stream_type
       → IsEntryRead {V = Option (Stream Z)} F limit xs (IsOneStream F x.entry) (owed F old.left (Some item) old.lister.left) (Err fault) new
-  stream_refused fault of_file F limit x xs known left is =
+  stream_refused fault of_file F limit x xs known left is current =
       let type = type_of_entry item n type_is x is in
-      let read = of_file F limit x xs known left (ap kind_of type ∙ kind_is) in
+      let read = of_file F limit x xs known left (ap kind_of type ∙ kind_is) (current ∙ ap (λ (i : StreamItem). i.stream_type) is) in
       record { value = tt; settles = λ not. owed_unasked old item n type_is unasked F ∙ read.settles not }
 
 -- a stream of one record has one
@@ -252,14 +252,14 @@ module _ {S A Z : Type 0} (old new : Reader S A) (item : StreamItem) (type_is : 
       → IfOk answer (λ next. IsNextStream run next new.lister.left)
       × Settles (owed file old.left None old.lister.left) answer (λ next. owed file new.left next new.lister.left))
       → (F : List ℕ) (limit : ℕ) (x : Numbered) (xs : List Numbered) → old.lister.source.store.content ≡ Some F → old.lister.left ≡ Some (left_from F limit x 0 xs)
-      → item ≡ is_item_of x
+      → item ≡ is_item_of x → IsOfType old.lister item.stream_type
       → IsEntryRead {V = Option (Stream Z)} F limit xs (IsOneStream F x.entry) (owed F old.left (Some item) old.lister.left) (behind_of_stream (Some streams.Unused) answer) new
-  unused_read (Ok next) gives F limit x xs known left is =
+  unused_read (Ok next) gives F limit x xs known left is current =
       let type = type_of_entry item 0 type_is x is in
       let given = gives F (left_from F limit x 0 xs) known left (no_row_left F limit x xs (ap kind_of type)) in
       let all = behind_left F limit x xs (ap kind_of type) next new.lister.left given.0 in
       record { value = ((streams.Unused, (refl, record { type_is = type; stands = tt })), all.1); settles = owed_unasked old item 0 type_is (λ size e at. refl) F ∙ given.1 }
-  unused_read (Err fault) gives F limit x xs known left is =
+  unused_read (Err fault) gives F limit x xs known left is current =
       let type = type_of_entry item 0 type_is x is in
       let given = gives F (left_from F limit x 0 xs) known left (no_row_left F limit x xs (ap kind_of type)) in
       record { value = tt; settles = λ not. owed_unasked old item 0 type_is (λ size e at. refl) F ∙ given.1 not }

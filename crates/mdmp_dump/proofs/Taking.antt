@@ -16,15 +16,14 @@ use Rattle.mdmp_source.specs.declared.fault.SourceFault.TheVariants.{Failed, Sho
 use Rattle.mdmp_lister.proofs.Fetches.{FetchesAtMost-none, IsGood-later}
 use Rattle.mdmp_dump.specs.declared.fault.ReadFault.{ReadFault}
 use Rattle.mdmp_dump.specs.declared.fault.ReadFault.TheVariants as faults
-use Rattle.mdmp_lister.specs.declared.item.Item.{Item}
-use Rattle.mdmp_lister.specs.declared.kind.StreamKind.{StreamKind}
+use Rattle.mdmp_lister.specs.declared.step.ItemRead.{ItemRead}
+use Rattle.mdmp_lister.specs.declared.step.ItemRead.TheVariants as reads
 use Rattle.mdmp_dump.specs.declared.reader.Reader.{Reader}
-use Rattle.mdmp_dump.specs.declared.row.ToldRecord.{ToldRecord}
-use Rattle.mdmp_dump.specs.Reading.{Fetches, IsLastTold, IsReadRefusal, IsRowRead, IsToldOf, Settles, TakesSteps, name_steps_of, store_fault, store_fault_in}
+use Rattle.mdmp_dump.specs.Reading.{Fetches, FindsRead, IsLastTold, IsNameTaken, IsReadRefusal, Settles, TakesSteps, store_fault, store_fault_in}
 use Rattle.mdmp_dump.specs.Refusal.{Refuse, ReadStep, first_refusal, name_steps}
 use Rattle.mdmp_dump.specs.declared.reader.Told.{Told}
 use Rattle.mdmp_dump.proofs.Keeping.{keeps_later, keeps_memory, keeps_none}
-use Rattle.mdmp_lister.specs.Format.Summary.{summary_of}
+use Rattle.mdmp_lister.specs.Format.Name.{plain_name}
 use Rattle.mdmp_lister.specs.declared.name.Name.{Name}
 use Rattle.mdmp_lister.specs.declared.name.Name.TheVariants.{Long}
 
@@ -89,19 +88,22 @@ long_only size e k (Long bytes) fault is =
     let same : faults.NameTooLong e k bytes ≡ fault = cc in subst (λ (f : ReadFault). (store_fault f ≡ None) × IsReadRefusal size f) same (refl, tt)
 long_only size e k _ fault is = absurd (cc)
 
-name_only : (size : ℕ) (item : Item) (fault : ReadFault) → name_steps_of item ≡ Refuse fault ∷ [] → (store_fault fault ≡ None) × IsReadRefusal size fault
-name_only size item fault is = let x = summary_of item in long_only size x.entry x.index x.name fault is
+-- what is found of an item that was read
+module _ {Z : Type 0} (a b : SourceState) (some : FetchesSome a b) where
+  refused : (e k : ℕ) (name : Name) (fault : ReadFault) → name_steps e k name ≡ Refuse fault ∷ [] → Fetches {T = Told Z} (Err fault) a b
+  refused e k name fault is =
+      let only = long_only a.size e k name fault is in
+      record { fetches = some; told = rw (only.0) tt; good = λ file good. only.0; refusal = only.1 }
 
-module _ {X Z : Type 0} (told : Item → Option (ToldRecord X)) (item : Item) (a b : SourceState) (some : FetchesSome a b) where
-  refused : (fault : ReadFault) → name_steps_of item ≡ Refuse fault ∷ [] → Fetches {T = Told X Z} (Err fault) a b
-  refused fault is =
-      let of = name_only a.size item fault is in
-      record { fetches = some; told = rw (of.0) tt; good = λ file good. of.0; refusal = of.1 }
+  named : (e k : ℕ) (name : Name) (fault : ReadFault) → IsNameTaken (name_steps e k name) name (Err fault) → Fetches {T = Told Z} (Err fault) a b
+  named e k name faults.Memory of = Fetches_memory a b some
+  named e k name fault of = refused e k name fault of
 
-  pub Fetches_told : (result : Result (Told X Z) ReadFault) → IsToldOf told item result → Fetches result a b
-  Fetches_told (Ok x) of = Fetches_only x a b some
-  Fetches_told (Err faults.Memory) of = Fetches_memory a b some
-  Fetches_told (Err fault) of = refused fault of.1
+  pub Fetches_found : (item : ItemRead) (result : Result (Told Z) ReadFault) → FindsRead item result → Fetches result a b
+  Fetches_found (reads.Stream x) (Ok y) of = Fetches_only y a b some
+  Fetches_found (reads.Stream x) (Err fault) of = absurd (cc of)
+  Fetches_found (reads.Record r name) (Ok y) of = Fetches_only y a b some
+  Fetches_found (reads.Record r name) (Err fault) of = named r.entry r.index (plain_name name) fault of
 
 -- fetches without a fault, and then more
 module _ {T : Type 0} (a b c : SourceState) (first : FetchesSome a b) where
@@ -154,6 +156,11 @@ module _ {S A : Type 0} where
     pub TakesSteps-size : new.lister.source.size ≡ old.lister.source.size
     TakesSteps-size = takes.fetches.fetches.fetches.same_size
 
+  -- what is asked of a file of another size, which is the same
+  pub Takes_at : {T : Type 0} (steps : ℕ → List ReadStep) (old new : Reader S A) (result : Result T ReadFault) (z : ℕ) → old.lister.source.size ≡ z
+      → TakesSteps (steps old.lister.source.size) old result new → TakesSteps (steps z) old result new
+  Takes_at steps old new result z same takes = subst (λ (n : ℕ). TakesSteps (steps n) old result new) same takes
+
   module _ {T U : Type 0} (steps : List ReadStep) (old : Reader S A) where
     -- what was taken may be put into another value
     pub Takes_as : (x : T) (y : U) (new : Reader S A) → TakesSteps steps old (Ok x) new → TakesSteps steps old (Ok y) new
@@ -196,13 +203,3 @@ module _ {S A : Type 0} where
       settles = λ rest last other. takes.settles rest last other;
       keeps = takes.keeps;
     }
-
-  -- ---- records
-
-  -- a record whose name and parts are refused is not read
-  pub row_refused : {X T : Type 0} (kind : StreamKind) (told : Item → Option (ToldRecord X)) (steps : ToldRecord X → List ReadStep) (IsAt : List ℕ → ℕ → ℕ → ℕ → T → Type 0)
-      (old : Reader S A) (found : ToldRecord X) (name : Option (List ℕ)) (result : Result T ReadFault) (fault : ReadFault) (new : Reader S A)
-      → result ≡ Err fault → TakesSteps {T = T} (steps found) old (Err fault) new → IsRowRead kind told steps IsAt old found name result new
-  row_refused kind told steps IsAt old found name result fault new is takes =
-      subst (λ r. IsRowRead kind told steps IsAt old found name r new) (sym is)
-      (record { takes = takes; stands = λ file limit e k at o item known given tells named. tt })

@@ -22,9 +22,9 @@ use Rattle.mdmp_dump.specs.FileRefusal.{first_told, run_told}
 use Rattle.mdmp_dump.specs.InFile.{rows_in}
 use Rattle.mdmp_dump.specs.LaysOut.{EachFrom}
 use Rattle.mdmp_dump.specs.Refusal.{ReadStep, Refuse, Take, item_steps, name_steps, part_steps}
-use Rattle.mdmp_dump.specs.TellingLaws.{item_made, made}
 use Rattle.mdmp_dump.proofs.InFiles.{HasName}
 use Rattle.mdmp_dump.proofs.Names.{name_stands}
+use Rattle.mdmp_dump.proofs.RecordItems.{item_made, made}
 
 -- ---- steps
 

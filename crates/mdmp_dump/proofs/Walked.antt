@@ -12,7 +12,7 @@ use Rattle.mdmp_dump.specs.declared.reader.Reader.{Reader}
 use Rattle.mdmp_dump.specs.Keeping.{KeepsOn}
 use Rattle.mdmp_dump.specs.LaysOut.{AreStreams, NamesStream}
 use Rattle.mdmp_dump.specs.Left.{is_item_of, left_from, run_of}
-use Rattle.mdmp_dump.specs.Reading.{IsEntryRead, IsGoing, IsLeftBehind, IsNextStream, IsOneStream, IsWanting, NoRowFirst, Settles, owed}
+use Rattle.mdmp_dump.specs.Reading.{IsEntryRead, IsGoing, IsLeftBehind, IsNextStream, IsOfType, IsOneStream, IsWanting, NoRowFirst, Settles, owed}
 use Rattle.mdmp_dump.specs.Refusal.{first_refusal}
 use Rattle.mdmp_dump.proofs.Left.{first_given, no_row_first, none_given}
 use Rattle.mdmp_dump.proofs.More.{streams_more}
@@ -20,7 +20,7 @@ use Rattle.mdmp_dump.proofs.More.{streams_more}
 -- the listing goes on behind a Stream item
 abbrev pub IsAwaited : Option StreamItem → ListerState → Type 0
 IsAwaited None lister = Unit {0}
-IsAwaited (Some item) lister = lister.stop ≡ None
+IsAwaited (Some item) lister = (lister.stop ≡ None) × IsOfType lister item.stream_type
 
 -- a number that falls with each entry
 abbrev pub entries_left : Option StreamItem → ListerState → ℕ
@@ -46,11 +46,11 @@ pub record StreamsRead {S A Z : Type 0} (old : Reader S A) (streams : List (Stre
 
 pub awaited_going : (old : ListerState) (next : Option StreamItem) (new : ListerState) → IsGoing old next new → IsAwaited next new
 awaited_going old None new going = tt
-awaited_going old (Some item) new going = going.0
+awaited_going old (Some item) new going = (going.0.0, going.1)
 
 pub fewer_left : (old : ListerState) (item : StreamItem) (next : Option StreamItem) (new : ListerState) → IsGoing old next new → entries_left next new < entries_left (Some item) old
 fewer_left old item None new going = omega arith
-fewer_left old item (Some other) new going = omega (arith, going.1)
+fewer_left old item (Some other) new going = omega (arith, going.0.1)
 
 -- ---- the first entry
 
@@ -79,7 +79,7 @@ module _ {S A Z : Type 0} (old mid new : Reader S A) (streams : List (Stream Z))
   -- what reading it answers
   abbrev IsRead : Result (Option (Stream Z) × Option StreamItem) ReadFault → Type 0
   IsRead result = (F : List ℕ) (limit : ℕ) (x : Numbered) (xs : List Numbered) → mid.lister.source.store.content ≡ Some F
-      → mid.lister.left ≡ Some (left_from F limit x 0 xs) → item ≡ is_item_of x
+      → mid.lister.left ≡ Some (left_from F limit x 0 xs) → item ≡ is_item_of x → IsOfType mid.lister item.stream_type
       → IsEntryRead F limit xs (IsOneStream F x.entry) (owed F mid.left (Some item) mid.lister.left) result new
 
   module _ (F : List ℕ) (limit : ℕ) (xs : List Numbered) (known : old.lister.source.store.content ≡ Some F) (left : old.lister.left ≡ Some (run_of F limit xs)) where
@@ -90,7 +90,7 @@ module _ {S A Z : Type 0} (old mid new : Reader S A) (streams : List (Stream Z))
         → IsEntryRead F limit so_read.behind.1.1.1 (IsOneStream F so_read.behind.1.1.0.entry) (owed F mid.left (Some item) mid.lister.left) result new
     entry_read result of_file =
         let first = so_read.behind.1.1.2 in
-        of_file F limit so_read.behind.1.1.0 so_read.behind.1.1.1 (so_far.fetches.fetches.same_content ∙ known) (so_read.behind.1.0 ∙ ap Some first.1.1) first.1.0
+        of_file F limit so_read.behind.1.1.0 so_read.behind.1.1.1 (so_far.fetches.fetches.same_content ∙ known) (so_read.behind.1.0 ∙ ap Some first.1.1) first.1.0 so_far.awaited.1
 
     pub more_read : (stream : Option (Stream Z)) (one : Stream Z) (next : Option StreamItem) → IsRead (Ok (stream, next)) → stream ≡ Some one
         → AreRead F limit xs old (streams ++ one ∷ []) next new

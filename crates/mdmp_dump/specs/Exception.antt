@@ -1,16 +1,10 @@
 -- The exception of a dump: MINIDUMP_EXCEPTION_STREAM, with the MINIDUMP_EXCEPTION inside it.
-use Rattle.std.specs.Prelude.{◌≡◌, ℕ, List, Option, Some, None, ◌<◌, ◌^◌, [], ◌∷◌, slice_index, length}
+use Rattle.std.specs.Prelude.{◌≡◌, ℕ, List, ◌<◌, ◌^◌, [], ◌∷◌, slice_index, length}
 use Rattle.mdmp_source.specs.declared.location.Location.{Location}
 use Rattle.mdmp_wire.specs.declared.exception.ExceptionRecord.{ExceptionRecord}
 use Rattle.mdmp_wire.specs.Exception.{exception_at}
 use Rattle.mdmp_dump.specs.declared.exception.Exception.{Exception}
 use Rattle.mdmp_dump.specs.Part.{IsPart, PartFits}
-use Rattle.mdmp_lister.specs.declared.item.Item.{Item}
-use Rattle.mdmp_lister.specs.declared.item.ExceptionItem.{ExceptionItem}
-use Rattle.mdmp_lister.specs.declared.item.Item.TheVariants as items
-use Rattle.mdmp_dump.specs.declared.row.ToldRecord.{ToldRecord}
-use Rattle.mdmp_dump.specs.Refusal.{ReadStep, location_steps}
-use Rattle.mdmp_wire.specs.declared.slot.PartName.TheVariants.{Context}
 use Rattle.mdmp_wire.specs.declared.any_record.AnyRecord.TheVariants as any
 use Rattle.mdmp_dump.specs.Seen.{Seen, seen, nowhere, size_of, bytes_of}
 use Rattle.mdmp_dump.specs.declared.view.PartSize.TheVariants.{NoPart}
@@ -50,12 +44,3 @@ module _ {Z : Type 0} where
     pub exception_information : (i : ℕ) → slice_index x.exception_information i < 2 ^ 64
     pub information_count : length x.exception_information ≡ 15
     pub context : PartFits x.context
-
--- what an item tells of such a record, but for its place and its name
-abbrev pub exception_told : Item → Option ExceptionItem
-exception_told (items.Exception x) = Some x
-exception_told item = None
-
--- the registers of its thread are taken
-abbrev pub exception_steps : ToldRecord ExceptionItem → List ReadStep
-exception_steps x = location_steps x.place.entry x.place.index Context x.fields.fields.thread_context x.fields.context

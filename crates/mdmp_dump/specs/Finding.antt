@@ -1,11 +1,11 @@
 -- What is found of a name or a part, by its place in the file.
-use Rattle.std.specs.Prelude.{◌≡◌, ◌≤◌, ◌<◌, ◌+◌, ◌^◌, ℕ, List, [], ◌∷◌, ◌++◌, length, map, Some, None, Result, Ok, Err, IfErr, get_or}
+use Rattle.std.specs.Prelude.{◌≡◌, ◌≤◌, ◌<◌, ◌+◌, ◌^◌, ℕ, List, [], ◌∷◌, length, map, Some, None, Result, Ok, Err, IfErr, get_or}
 use Rattle.mdmp_source.specs.Extent.{extent_of}
 use Rattle.mdmp_source.specs.Store.{AreBytes}
 use Rattle.mdmp_source.specs.declared.fault.SourceFault.TheVariants.{Changed}
 use Rattle.mdmp_source.specs.Range.{bytes_at}
 use Rattle.mdmp_source.specs.declared.location.Location.{Location}
-use Rattle.mdmp_wire.specs.AnyRecord.{name_rva, slot_at, slots_of, with_slots}
+use Rattle.mdmp_wire.specs.AnyRecord.{name_rva, slots_of, with_slots}
 use Rattle.mdmp_wire.specs.Number.{array_at}
 use Rattle.mdmp_wire.specs.declared.any_record.AnyRecord.{AnyRecord}
 use Rattle.mdmp_wire.specs.declared.slot.Slot.{Slot}
@@ -15,11 +15,10 @@ use Rattle.mdmp_lister.specs.declared.name.Name.TheVariants as names
 use Rattle.mdmp_lister.specs.declared.item.Item.{Item}
 use Rattle.mdmp_lister.specs.declared.kind.StreamKind.{StreamKind}
 use Rattle.mdmp_lister.specs.declared.step.RecordRead.{RecordRead}
-use Rattle.mdmp_lister.specs.Format.Item.{item_at, kind_told, name_of, offset_in, range_extent_of, record_at}
+use Rattle.mdmp_lister.specs.Format.Item.{item_at, kind_told, name_of, offset_in, record_at}
 use Rattle.mdmp_lister.specs.Format.Name.{name_at}
 use Rattle.mdmp_lister.specs.Step.{IsNameTold}
 use Rattle.mdmp_wire.specs.declared.slot.PartName.{PartName}
-use Rattle.mdmp_wire.specs.declared.slot.PartName.TheVariants.{Memory}
 use Rattle.mdmp_dump.specs.declared.fault.ReadFault.{ReadFault}
 use Rattle.mdmp_dump.specs.declared.fault.ReadFault.TheVariants as faults
 use Rattle.mdmp_dump.specs.declared.found_record.FoundRecord.{FoundRecord}
@@ -31,7 +30,7 @@ use Rattle.mdmp_dump.specs.FoundRecord.{fields_of, no_part}
 use Rattle.mdmp_dump.specs.InFile.{name_in, part_named}
 use Rattle.mdmp_dump.specs.Placed.{bytes_in, far_room, fields_bytes, fields_room, size_in}
 use Rattle.mdmp_dump.specs.Reading.{IsOwn}
-use Rattle.mdmp_dump.specs.Refusal.{Refuse, ReadStep, item_steps, location_steps, name_steps, part_steps}
+use Rattle.mdmp_dump.specs.Refusal.{Refuse, ReadStep, item_steps, location_steps, name_steps, record_steps, slot_steps}
 use Rattle.mdmp_dump.specs.Seen.{Seen, bytes_of, name_size, nowhere, seen, size_of, unit_bytes}
 
 -- of this size, its bytes stand there
@@ -83,13 +82,6 @@ slot_bare F far (slots.Name rva) = slots.Name 0
 slot_bare F far (slots.Part name at) = slots.Part name nowhere
 slot_bare F far (slots.Behind n) = slots.Behind (length (array_at F far n))
 
--- what it asks, of a name that was read so, in a file of z bytes
-abbrev pub slot_steps : ℕ → ℕ → ℕ → ℕ → Name → Slot → List ReadStep
-slot_steps z e k far name slots.Empty = []
-slot_steps z e k far name (slots.Name rva) = name_steps e k name
-slot_steps z e k far name (slots.Part part at) = location_steps e k part at (extent_of at z)
-slot_steps z e k far name (slots.Behind n) = part_steps e k Memory far n (range_extent_of far n z)
-
 -- ---- records
 
 -- a record as a view gives it, with what stands behind its slots
@@ -99,13 +91,6 @@ seen_of F far w = seen (with_slots w (map (slot_bare F far) (slots_of w))) (map 
 -- record k of the stream of this kind at `at`, which stands at o
 abbrev pub seen_in : StreamKind → List ℕ → ℕ → ℕ → ℕ → Seen
 seen_in kind F at k o = seen_of F (offset_in F at k kind) (record_at kind F o)
-
--- what record k of entry e asks
-abbrev pub record_steps : ℕ → ℕ → ℕ → ℕ → AnyRecord → Name → List ReadStep
-record_steps z e k far w name =
-    slot_steps z e k far name (slot_at w 0)
-    ++ slot_steps z e k far name (slot_at w 1)
-    ++ slot_steps z e k far name (slot_at w 2)
 
 -- it has the fields of what a view gives, and the bytes of its name and parts stand where it says
 pub record IsSeenAt (F : List ℕ) (s : Seen) (f : FoundRecord) : Type 0 where

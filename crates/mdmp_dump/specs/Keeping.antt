@@ -1,20 +1,23 @@
 -- What reading a file into a value fetches: for the listing within a budget, and beside it the bytes of parts.
-use Rattle.std.specs.Prelude.{◌≡◌, ◌≤◌, ◌+◌, ℕ, List, None, Some, Result, Ok, Err, IfErr, IsTrue, max, slice_get}
+use Rattle.std.specs.Prelude.{◌≡◌, ◌≤◌, ◌<◌, ◌+◌, ℕ, List, None, Some, Result, Ok, Err, IfErr, IsTrue, max, slice_get}
 use Rattle.mdmp_source.specs.Count.{raised}
 use Rattle.mdmp_source.specs.Range.{IsInside}
-use Rattle.mdmp_source.specs.Source.{SourceState}
+use Rattle.mdmp_source.specs.Source.{FetchesSome, SourceState}
 use Rattle.mdmp_wire.specs.declared.entry.Entry.{Entry}
 use Rattle.mdmp_lister.specs.declared.choice.Choice.{Choice}
 use Rattle.mdmp_lister.specs.declared.fault.FaultKind.{FaultKind}
 use Rattle.mdmp_lister.specs.declared.fault.FaultKind.TheVariants as kinds
+use Rattle.mdmp_lister.specs.declared.fault.ListFault.{ListFault}
+use Rattle.mdmp_lister.specs.declared.fault.OpenFault.{OpenFault}
 use Rattle.mdmp_lister.specs.declared.limits.Limits.{Limits}
+use Rattle.mdmp_lister.specs.Fault.{IsToldIn}
 use Rattle.mdmp_lister.specs.Following.{through}
 use Rattle.mdmp_lister.specs.Format.Directory.{IsDirectory}
 use Rattle.mdmp_lister.specs.Format.Listing.{is_chosen}
 use Rattle.mdmp_lister.specs.Lister.{IsRefusedIn, ListerState, standpoint_in}
 use Rattle.mdmp_lister.specs.Meter.{KeepsTo, is_passed}
 use Rattle.mdmp_lister.specs.NextFetch.{Standpoint, TellsNextOpening, TellsSomeFetch}
-use Rattle.mdmp_lister.specs.Opening.{TellsOver}
+use Rattle.mdmp_lister.specs.Opening.{IsHandedBack, TellsOver}
 use Rattle.mdmp_dump.specs.declared.fault.ReadFault.{ReadFault}
 use Rattle.mdmp_dump.specs.declared.fault.ReadFault.TheVariants as faults
 use Rattle.mdmp_dump.specs.declared.reader.Reader.{Reader}
@@ -56,15 +59,35 @@ pub record IsOverIn (choice : Choice) (limits : Limits) (old : SourceState) (fet
   pub most : size ≤ max limits.window limits.name
   pub next : IsListingFetch choice limits old fetched number offset size
 
-abbrev pub ListsOver : Choice → Limits → SourceState → ℕ → FaultKind → (number offset size : ℕ) → Type 0
-ListsOver choice limits old fetched kinds.Budget number offset size = IsOverIn choice limits old fetched number offset size
-ListsOver choice limits old fetched kind number offset size = Unit {0}
+-- bytes of a listing were not obtained from the store: the fault has the number of the chosen entry in which the listing stood, names
+-- the place where the store gave nothing, and no record. That the store has changed is told of a memory list alone, at its RVA.
+pub record IsUnobtainedIn (choice : Choice) (old : SourceState) (f : ListFault) (new : SourceState) : Type 0 where
+  pub entries : List Entry
+  pub directory : (file : List ℕ) → old.store.content ≡ Some file → IsDirectory file entries
+  pub entry : Entry
+  pub chosen : IsEntryChosen choice entries f.entry entry
+  pub told : IsToldIn entry f old new
 
--- a fault that tells the budget is of a fetch that was not made, and came next while the file was opened or listed
-abbrev pub TellsReadOver : Choice → Limits → SourceState → ℕ → ReadFault → SourceState → Type 0
-TellsReadOver choice limits old fetched (faults.Opening fault) new = TellsOver limits old fetched fault × TellsNextOpening (Some choice) limits old fault new
-TellsReadOver choice limits old fetched (faults.List fault) new = ListsOver choice limits old fetched fault.kind fault.entry fault.offset fault.size
-TellsReadOver choice limits old fetched fault new = Unit {0}
+-- a fault of bytes that were not obtained for a listing is one of this kind
+abbrev pub TellsListing : Choice → Limits → SourceState → ℕ → FaultKind → ListFault → SourceState → Type 0
+TellsListing choice limits old fetched kinds.Budget f new = IsOverIn choice limits old fetched f.entry f.offset f.size
+TellsListing choice limits old fetched (kinds.Source fault) f new = IsUnobtainedIn choice old f new
+TellsListing choice limits old fetched kind f new = Unit {0}
+
+-- an opening ended with this fault: no more was fetched than an opening fetches, and one that tells the budget is of the fetch
+-- that came next, which was not made
+pub record IsOpeningEnd (choice : Choice) (limits : Limits) (old : SourceState) (fetched : ℕ) (fault : OpenFault) (new : SourceState) : Type 0 where
+  pub over : TellsOver limits old fetched fault
+  pub next : TellsNextOpening (Some choice) limits old fault new
+  pub handed_back : IsHandedBack choice old fault new
+
+-- where a reading ended that has fetched so many bytes to open and list the file: in its opening, in a chosen entry of the listing,
+-- or at a part or a stream whose records are not known, of which some bytes may be read
+abbrev pub TellsReadEnd : Choice → Limits → ℕ → SourceState → ℕ → ReadFault → SourceState → Type 0
+TellsReadEnd choice limits parts old fetched (faults.Opening fault) new = IsOpeningEnd choice limits old fetched fault new
+TellsReadEnd choice limits parts old fetched (faults.List fault) new = TellsListing choice limits old fetched fault.kind fault new
+TellsReadEnd choice limits parts old fetched (faults.Source fault) new = 0 < parts
+TellsReadEnd choice limits parts old fetched fault new = Unit {0}
 
 -- a reading has fetched so many bytes to open and list the file, within the budget, and beside them so many of parts and of
 -- streams whose records are not known, within the limit on them. No other byte was fetched.
@@ -74,7 +97,7 @@ pub record KeepsReading {T : Type 0} (choice : Choice) (limits : Limits) (parts 
   pub spent : new.fetched ≡ raised old.fetched (fetched + aside)
   pub kept : KeepsTo limits.budget fetched
   pub few : aside ≤ parts
-  pub over : IfErr result (λ fault. TellsReadOver choice limits old fetched fault new)
+  pub ends : IfErr result (λ fault. TellsReadEnd choice limits parts old fetched fault new)
 
 -- ---- as a reader goes on
 
@@ -98,27 +121,36 @@ pub record IsNextIn (v : ListerState) (number offset size : ℕ) : Type 0 where
   pub chosen : IsEntryChosen v.choice v.entries number v.current
   pub next : TellsSomeFetch (standpoint_in v) kinds.Budget offset size v.counts.fetched
 
-abbrev pub TellsListedNext : FaultKind → (number offset size : ℕ) → ListerState → Type 0
-TellsListedNext kinds.Budget number offset size v = IsNextIn v number offset size
-TellsListedNext kind number offset size v = Unit {0}
+-- a fault of the store is told of the current entry, whose number is told
+pub record IsToldInEntry (f : ListFault) (old : SourceState) (v : ListerState) : Type 0 where
+  pub chosen : IsEntryChosen v.choice v.entries f.entry v.current
+  pub told : IsToldIn v.current f old v.source
 
--- a fault that tells the budget is one of the listing
-abbrev pub TellsFetch : ReadFault → ListerState → Type 0
-TellsFetch (faults.Opening fault) v = ⊥
-TellsFetch (faults.List fault) v = IsRefusedIn fault v × TellsListedNext fault.kind fault.entry fault.offset fault.size v
-TellsFetch fault v = Unit {0}
+abbrev pub TellsListed : FaultKind → ListFault → SourceState → ListerState → Type 0
+TellsListed kinds.Budget f old v = IsNextIn v f.entry f.offset f.size
+TellsListed (kinds.Source fault) f old v = IsToldInEntry f old v
+TellsListed kind f old v = Unit {0}
+
+-- a fault of bytes that were not obtained is told of the listing, or of a part while some bytes of parts were left
+abbrev pub TellsFetch : ReadFault → (left : ℕ) → SourceState → ListerState → Type 0
+TellsFetch (faults.Opening fault) left old v = ⊥
+TellsFetch (faults.List fault) left old v = IsRefusedIn fault v × TellsListed fault.kind fault old v
+TellsFetch (faults.Source fault) left old v = 0 < left
+TellsFetch fault left old v = Unit {0}
 
 module _ {S A : Type 0} where
   -- the bytes that are read beside the listing come off those that parts may still take
   pub record KeepsOn (old new : Reader S A) : Type 0 where
     pub same : IsSameReading old.lister new.lister
     pub few : new.lister.counts.aside.bytes + new.left ≤ old.lister.counts.aside.bytes + old.left
+    pub less : new.left ≤ old.left
+    pub fetches : FetchesSome old.lister.source new.lister.source
     pub at : IsAtEntry old.lister → IsAtEntry new.lister
 
   pub record KeepsTill (fault : ReadFault) (old new : Reader S A) : Type 0 where
     pub same : IsSameReading old.lister new.lister
     pub few : new.lister.counts.aside.bytes ≤ old.lister.counts.aside.bytes + old.left
-    pub over : IsAtEntry old.lister → TellsFetch fault new.lister
+    pub ends : IsAtEntry old.lister → TellsFetch fault old.left old.lister.source new.lister
 
   abbrev pub KeepsStep : {T : Type 0} → Result T ReadFault → Reader S A → Reader S A → Type 0
   KeepsStep (Ok x) old new = KeepsOn old new

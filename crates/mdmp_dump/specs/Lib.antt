@@ -22,13 +22,12 @@ pub mod Part
 pub mod Placed
 pub mod Places
 pub mod Reading
+pub mod RecordParts
 pub mod Refusal
 pub mod Seen
 pub mod Shape
 pub mod ShapeLaws
 pub mod System
-pub mod Telling
-pub mod TellingLaws
 pub mod Thread
 pub mod ThreadName
 pub mod Unloaded

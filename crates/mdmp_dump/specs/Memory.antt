@@ -1,16 +1,10 @@
 -- A range of memory of a dump: MINIDUMP_MEMORY_DESCRIPTOR.
-use Rattle.std.specs.Prelude.{◌≡◌, ℕ, List, Option, Some, None, [], ◌<◌, ◌^◌, ◌∷◌}
+use Rattle.std.specs.Prelude.{◌≡◌, ℕ, List, [], ◌<◌, ◌^◌, ◌∷◌}
 use Rattle.mdmp_source.specs.declared.location.Location.{Location}
 use Rattle.mdmp_wire.specs.declared.descriptor.Descriptor.{Descriptor}
 use Rattle.mdmp_wire.specs.Descriptor.{descriptor_at}
 use Rattle.mdmp_dump.specs.declared.memory.MemoryRange.{MemoryRange}
 use Rattle.mdmp_dump.specs.Part.{IsPart, PartFits}
-use Rattle.mdmp_lister.specs.declared.item.Item.{Item}
-use Rattle.mdmp_lister.specs.declared.item.Item.TheVariants as items
-use Rattle.mdmp_dump.specs.declared.row.ToldRecord.{ToldRecord}
-use Rattle.mdmp_lister.specs.declared.item.RangeItem.{RangeItem}
-use Rattle.mdmp_dump.specs.Refusal.{ReadStep, part_steps}
-use Rattle.mdmp_wire.specs.declared.slot.PartName.TheVariants.{Memory}
 use Rattle.mdmp_wire.specs.declared.any_record.AnyRecord.TheVariants as any
 use Rattle.mdmp_dump.specs.Seen.{Seen, seen, nowhere, size_of, bytes_of}
 use Rattle.mdmp_dump.specs.declared.view.PartSize.TheVariants.{NoPart}
@@ -33,12 +27,3 @@ module _ {Z : Type 0} where
   pub record MemoryFits (x : MemoryRange Z) : Type 0 where
     pub start : x.start < 2 ^ 64
     pub bytes : PartFits x.bytes
-
--- what an item tells of such a record, but for its place and its name
-abbrev pub range_told : Item → Option RangeItem
-range_told (items.Range x) = Some x
-range_told item = None
-
--- its bytes are taken, of either memory list
-abbrev pub range_steps : ToldRecord RangeItem → List ReadStep
-range_steps x = part_steps x.place.entry x.place.index Memory x.fields.offset x.fields.size x.fields.extent

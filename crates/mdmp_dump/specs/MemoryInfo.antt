@@ -1,16 +1,9 @@
 -- A region of memory of a dump: MINIDUMP_MEMORY_INFO.
-use Rattle.std.specs.Prelude.{Option, Some, None, ◌<◌, ◌^◌, [], ◌∷◌}
-use Rattle.mdmp_lister.specs.declared.item.Item.{Item}
-use Rattle.mdmp_lister.specs.declared.item.Item.TheVariants as items
+use Rattle.std.specs.Prelude.{◌<◌, ◌^◌, [], ◌∷◌}
 use Rattle.mdmp_wire.specs.declared.memory_info.MemoryInfoRecord.{MemoryInfoRecord}
 use Rattle.mdmp_wire.specs.declared.any_record.AnyRecord.TheVariants as any
 use Rattle.mdmp_dump.specs.Seen.{Seen, seen}
 use Rattle.mdmp_dump.specs.declared.view.PartSize.TheVariants.{NoPart}
-
--- what an item tells of such a record, but for its place and its name
-abbrev pub memory_info_told : Item → Option MemoryInfoRecord
-memory_info_told (items.MemoryInfo x) = Some x.fields
-memory_info_told item = None
 
 -- as a view gives it
 abbrev pub memory_info_seen : MemoryInfoRecord → Seen

@@ -1,17 +1,11 @@
 -- A module of a dump: MINIDUMP_MODULE.
-use Rattle.std.specs.Prelude.{◌≡◌, ℕ, List, Option, Some, None, ◌++◌, ◌<◌, ◌^◌, [], ◌∷◌}
+use Rattle.std.specs.Prelude.{◌≡◌, ℕ, List, ◌<◌, ◌^◌, [], ◌∷◌}
 use Rattle.mdmp_source.specs.declared.location.Location.{Location}
 use Rattle.mdmp_wire.specs.declared.module.ModuleRecord.{ModuleRecord}
 use Rattle.mdmp_wire.specs.Module.{module_at}
 use Rattle.mdmp_dump.specs.declared.module.Module.{Module}
 use Rattle.mdmp_dump.specs.Name.{IsName, NameFits}
 use Rattle.mdmp_dump.specs.Part.{IsPart, PartFits}
-use Rattle.mdmp_lister.specs.declared.item.Item.{Item}
-use Rattle.mdmp_lister.specs.declared.item.Item.TheVariants as items
-use Rattle.mdmp_dump.specs.declared.module.ToldModule.{ToldModule}
-use Rattle.mdmp_dump.specs.declared.row.ToldRecord.{ToldRecord}
-use Rattle.mdmp_dump.specs.Refusal.{ReadStep, location_steps}
-use Rattle.mdmp_wire.specs.declared.slot.PartName.TheVariants.{CodeView, Misc}
 use Rattle.mdmp_wire.specs.declared.any_record.AnyRecord.TheVariants as any
 use Rattle.mdmp_dump.specs.Seen.{Seen, seen, nowhere, size_of, bytes_of, name_size, unit_bytes}
 use Rattle.mdmp_wire.specs.declared.version.VersionInfo.{VersionInfo}
@@ -73,14 +67,3 @@ module _ {Z : Type 0} where
     pub misc : PartFits x.misc
     pub reserved0 : x.reserved0 < 2 ^ 64
     pub reserved1 : x.reserved1 < 2 ^ 64
-
--- what an item tells of such a record, but for its place and its name
-abbrev pub module_told : Item → Option ToldModule
-module_told (items.Module x) = Some (record { fields = x.fields; codeview = x.codeview; misc = x.misc })
-module_told item = None
-
--- its CodeView record is taken, and then its miscellaneous debug record
-abbrev pub module_steps : ToldRecord ToldModule → List ReadStep
-module_steps x =
-    location_steps x.place.entry x.place.index CodeView x.fields.fields.cv_record x.fields.codeview
-    ++ location_steps x.place.entry x.place.index Misc x.fields.fields.misc_record x.fields.misc

@@ -13,9 +13,9 @@ use Rattle.mdmp_lister.specs.declared.item.Item.{Item}
 use Rattle.mdmp_lister.specs.declared.item.Item.TheVariants as items
 use Rattle.mdmp_lister.specs.declared.item.StreamItem.{StreamItem}
 use Rattle.mdmp_lister.specs.Format.Classes.{IsStream as IsStreamItem}
-use Rattle.mdmp_lister.specs.Format.Item.{item_at}
+use Rattle.mdmp_lister.specs.Format.Item.{range_offset, record_at}
 use Rattle.mdmp_lister.specs.Format.Listing.{Numbered, Run, nothing}
-use Rattle.mdmp_lister.specs.Format.Summary.{summary_of}
+use Rattle.mdmp_lister.specs.Format.Name.{plain_name}
 use Rattle.mdmp_lister.specs.Format.Refusal.{directory_refusal}
 use Rattle.mdmp_lister.specs.Fault.{IsUnobtained}
 use Rattle.mdmp_lister.specs.Opening.{IsOpenRefusal, KeepsOpening}
@@ -26,12 +26,15 @@ use Rattle.mdmp_lister.specs.declared.choice.Choice.{Choice}
 use Rattle.mdmp_lister.specs.declared.limits.Limits.{Limits}
 use Rattle.mdmp_lister.specs.declared.name.Name.{Name}
 use Rattle.mdmp_lister.specs.declared.kind.StreamKind.{StreamKind}
+use Rattle.mdmp_lister.specs.declared.kind.StreamKind.TheVariants as kinds64
+use Rattle.mdmp_lister.specs.declared.step.ItemRead.{ItemRead}
+use Rattle.mdmp_lister.specs.declared.step.ItemRead.TheVariants as reads
+use Rattle.mdmp_lister.specs.declared.step.RecordRead.{RecordRead}
 use Rattle.mdmp_lister.specs.declared.shape.Shape.{Shape}
 use Rattle.mdmp_lister.specs.Format.Shape.{shape_of}
 use Rattle.mdmp_dump.specs.declared.fault.ReadFault.{ReadFault}
 use Rattle.mdmp_dump.specs.declared.fault.ReadFault.TheVariants as faults
 use Rattle.mdmp_dump.specs.declared.reader.Reader.{Reader}
-use Rattle.mdmp_dump.specs.declared.row.ToldRecord.{ToldRecord}
 use Rattle.mdmp_dump.specs.declared.reader.Told.{Told}
 use Rattle.mdmp_dump.specs.declared.reader.Told.TheVariants as tolds
 use Rattle.mdmp_dump.specs.declared.reader.Next.{Next}
@@ -43,11 +46,15 @@ use Rattle.mdmp_dump.specs.declared.dump.Stream.{Stream}
 use Rattle.mdmp_wire.specs.declared.entry.Entry.{Entry}
 use Rattle.mdmp_lister.specs.Format.Kind.{kind_of}
 use Rattle.mdmp_dump.specs.Left.{StandBehind, IsGiven, RowGiven, left_from}
-use Rattle.mdmp_dump.specs.Name.{name_told}
-use Rattle.mdmp_dump.specs.Refusal.{ReadStep, Refuse, first_refusal, item_steps, name_steps, stream_steps}
+use Rattle.mdmp_dump.specs.Name.{IsName, name_told}
+use Rattle.mdmp_dump.specs.Refusal.{ReadStep, Refuse, first_refusal, item_steps, name_steps, parts_asked, stream_steps}
 use Rattle.mdmp_source.specs.Range.{is_inside}
 use Rattle.mdmp_source.specs.declared.location.Extent.{Extent}
 use Rattle.mdmp_source.specs.declared.location.Extent.TheVariants as classes
+use Rattle.mdmp_wire.specs.AnyRecord.{slot_at}
+use Rattle.mdmp_wire.specs.declared.any_record.AnyRecord.{AnyRecord}
+use Rattle.mdmp_wire.specs.declared.slot.Slot.{Slot}
+use Rattle.mdmp_wire.specs.declared.slot.Slot.TheVariants as slots
 use Rattle.mdmp_wire.specs.Number.{array_at}
 
 -- ---- faults
@@ -183,10 +190,6 @@ AreBytesOf F at size class bytes = bytes ≡ []
 
 -- ---- items
 
--- the name of an item is refused where it is too long
-abbrev pub name_steps_of : Item → List ReadStep
-name_steps_of item = let x = summary_of item in name_steps x.entry x.index x.name
-
 -- no record is the first of these items
 abbrev pub NoRowFirst : Run → Type 0
 NoRowFirst run = (item : Item) → slice_get run.items 0 ≡ Some item → IsStreamItem item
@@ -214,9 +217,18 @@ owed F left item run = refusal_in F left (steps_of (length F) item) run
 abbrev pub ListingGoesOn : ListerState → ListerState → Type 0
 ListingGoesOn old new = (new.stop ≡ None) × (new.work < old.work)
 
+-- and in the entry whose Stream item was given, of the type that the item tells
 abbrev pub IsGoing : ListerState → Option StreamItem → ListerState → Type 0
 IsGoing old None new = Unit {0}
-IsGoing old (Some item) new = ListingGoesOn old new
+IsGoing old (Some item) new = ListingGoesOn old new × (new.current.stream_type ≡ item.stream_type)
+
+-- or in the same entry, behind a record
+abbrev pub IsGoingBehind : ListerState → ListerState → Type 0
+IsGoingBehind old new = ListingGoesOn old new × (new.current ≡ old.current)
+
+-- the entry whose Stream item was given last is of this type
+abbrev pub IsOfType : ListerState → ℕ → Type 0
+IsOfType v t = v.current.stream_type ≡ t
 
 -- what is left begins with the entries behind these
 abbrev pub IsLeftBehind : List ℕ → ℕ → List Numbered → Option StreamItem → Option Run → Type 0
@@ -248,41 +260,42 @@ next_behind (nexts.Row row) = None
 next_behind (nexts.Behind next) = next
 
 abbrev pub IsGoingOn : {X : Type 0} → ListerState → Next X → ListerState → Type 0
-IsGoingOn old (nexts.Row row) new = ListingGoesOn old new
+IsGoingOn old (nexts.Row row) new = IsGoingBehind old new
 IsGoingOn old (nexts.Behind next) new = IsGoing old next new
 
--- the value of a record was read, with its name and its parts, of an item that told the record
-pub record IsRowRead {S A X T : Type 0} (kind : StreamKind) (told : Item → Option (ToldRecord X)) (steps : ToldRecord X → List ReadStep) (IsAt : List ℕ → ℕ → ℕ → ℕ → T → Type 0)
-    (old : Reader S A) (found : ToldRecord X) (name : Option (List ℕ)) (result : Result T ReadFault) (new : Reader S A) : Type 0 where
-  pub takes : TakesSteps (steps found) old result new
-  pub stands : (file : List ℕ) (limit e k at o : ℕ) (item : Item) → old.lister.source.store.content ≡ Some file
-      → item_at file limit e k at o kind ≡ Ok item → told item ≡ Some found → name_told (summary_of item).name ≡ Some name
-      → IfOk result (IsAt file at k o)
+-- ---- what is found
 
--- ---- what an item tells
-
-abbrev pub IsToldGoing : {X Z : Type 0} → ListerState → Told X Z → ListerState → Type 0
-IsToldGoing old (tolds.Record found name) new = ListingGoesOn old new
+abbrev pub IsToldGoing : {Z : Type 0} → ListerState → Told Z → ListerState → Type 0
+IsToldGoing old (tolds.Record r name) new = IsGoingBehind old new
 IsToldGoing old (tolds.Behind next) new = IsGoing old next new
 
--- the first of what is left of an entry is the item of its record k, which tells this
-pub record IsRecordFound {X : Type 0} (F : List ℕ) (limit : ℕ) (x : Numbered) (k : ℕ) (xs : List Numbered) (kind : StreamKind)
-    (found : Item → Option (ToldRecord X)) (record_is : ToldRecord X) (name : Option (List ℕ)) (left : Option Run) : Type 0 where
+-- this record stands at o, record k of the stream of this kind at `at`; the bytes of a 64-bit range stand at `far`
+pub record IsRecordIn (kind : StreamKind) (F : List ℕ) (at k o : ℕ) (w : AnyRecord) (far : ℕ) : Type 0 where
+  pub fields : w ≡ record_at kind F o
+  pub range : kind ≡ kinds64.Memory64 → far ≡ range_offset F at k
+
+-- the name, or none, stands where a slot says
+abbrev pub IsSlotName : List ℕ → Slot → Option (List ℕ) → Type 0
+IsSlotName F (slots.Name rva) name = IsName F rva name
+IsSlotName F slot name = Unit {0}
+
+-- the first of what is left of an entry is the item of its record k, which was read so, with its name
+pub record IsRecordFound (F : List ℕ) (limit : ℕ) (x : Numbered) (k : ℕ) (xs : List Numbered) (kind : StreamKind) (r : RecordRead) (name : Option (List ℕ)) (left : Option Run) : Type 0 where
   pub item : Item
   pub given : RowGiven F limit x k xs kind item
-  pub told : found item ≡ Some record_is
-  pub named : name_told (summary_of item).name ≡ Some name
+  pub is : IsRecordIn kind F x.entry.location.rva k (x.entry.location.rva + given.shape.first + k * given.shape.stride) r.fields r.offset
+  pub named : IsSlotName F (slot_at r.fields 0) name
   pub rest : left ≡ Some (left_from F limit x (k + 1) xs)
 
 -- or all its records were given
-abbrev pub IsFoundOrBehind : {X Z : Type 0} → List ℕ → ℕ → Numbered → ℕ → List Numbered → StreamKind → (Item → Option (ToldRecord X)) → Told X Z → Option Run → Type 0
-IsFoundOrBehind F limit x k xs kind found (tolds.Record record_is name) left = IsRecordFound F limit x k xs kind found record_is name left
-IsFoundOrBehind F limit x k xs kind found (tolds.Behind next) left = IsGiven F x k × IsLeftBehind F limit xs next left
+abbrev pub IsFoundOrBehind : {Z : Type 0} → List ℕ → ℕ → Numbered → ℕ → List Numbered → StreamKind → Told Z → Option Run → Type 0
+IsFoundOrBehind F limit x k xs kind (tolds.Record r name) left = IsRecordFound F limit x k xs kind r name left
+IsFoundOrBehind F limit x k xs kind (tolds.Behind next) left = IsGiven F x k × IsLeftBehind F limit xs next left
 
--- the first refusal where the parts of a record that was told are still to come
-abbrev pub refusal_found : {X Z : Type 0} → List ℕ → ℕ → (ToldRecord X → List ReadStep) → Told X Z → Option Run → Option ReadFault
-refusal_found F left steps (tolds.Record found name) run = refusal_in F left (steps found) run
-refusal_found F left steps (tolds.Behind next) run = owed F left next run
+-- the first refusal where the parts of a record that was found are still to come
+abbrev pub refusal_found : {Z : Type 0} → List ℕ → ℕ → Told Z → Option Run → Option ReadFault
+refusal_found F left (tolds.Record r name) run = refusal_in F left (parts_asked (length F) r) run
+refusal_found F left (tolds.Behind next) run = owed F left next run
 
 -- a name was taken, whose steps are these, or is refused as they say
 abbrev pub IsNameTaken : List ReadStep → Name → Result (Option (List ℕ)) ReadFault → Type 0
@@ -296,14 +309,12 @@ pub record IsEntryRead {S A V : Type 0} (F : List ℕ) (limit : ℕ) (xs : List 
   pub value : IfOk result (λ r. IsValue r.0 × IsLeftBehind F limit xs r.1 new.lister.left)
   pub settles : Settles refusal result (λ r. owed F new.left r.1 new.lister.left)
 
--- what an item tells a reader of records of one kind
-abbrev pub IsToldOf : {X Z : Type 0} → (Item → Option (ToldRecord X)) → Item → Result (Told X Z) ReadFault → Type 0
-IsToldOf told item (Ok (tolds.Record found name)) =
-    (IsStreamItem item → ⊥) × ((told item ≡ Some found) × ((name_steps_of item ≡ []) × (name_told (summary_of item).name ≡ Some name)))
-IsToldOf told item (Ok (tolds.Behind (Some stream))) = item ≡ items.Stream stream
-IsToldOf told item (Ok (tolds.Behind None)) = (IsStreamItem item → ⊥) × (told item ≡ None)
-IsToldOf told item (Err faults.Memory) = Unit {0}
-IsToldOf told item (Err fault) = (IsStreamItem item → ⊥) × (name_steps_of item ≡ Refuse fault ∷ [])
+-- what is found of an item that was read: a record, whose name was taken, or a Stream item
+abbrev pub FindsRead : {Z : Type 0} → ItemRead → Result (Told Z) ReadFault → Type 0
+FindsRead (reads.Stream x) result = result ≡ Ok (tolds.Behind (Some x))
+FindsRead (reads.Record r name) (Ok (tolds.Record found units)) = (found ≡ r) × IsNameTaken (name_steps r.entry r.index (plain_name name)) (plain_name name) (Ok units)
+FindsRead (reads.Record r name) (Ok (tolds.Behind next)) = ⊥
+FindsRead (reads.Record r name) (Err fault) = IsNameTaken (name_steps r.entry r.index (plain_name name)) (plain_name name) (Err fault)
 
 -- ---- streams
 

@@ -1,5 +1,6 @@
 -- Why a file gives no dump, where memory suffices and its bytes are obtained.
 use Rattle.std.specs.Prelude.{ℕ, ◌+◌, List, [], ◌∷◌, ◌++◌, length, Option, Some, None, not, ◌==◌, ◌&&◌, nat_lt, if◌then◌else◌, option_map, flat_map}
+use Rattle.mdmp_source.specs.Extent.{extent_of}
 use Rattle.mdmp_source.specs.Range.{is_inside}
 use Rattle.mdmp_source.specs.declared.location.Location.{Location}
 use Rattle.mdmp_source.specs.declared.location.Extent.{Extent}
@@ -8,11 +9,18 @@ use Rattle.mdmp_lister.specs.declared.choice.Choice.{Choice}
 use Rattle.mdmp_lister.specs.declared.fault.OpenFault.{OpenFault}
 use Rattle.mdmp_lister.specs.declared.name.Name.{Name}
 use Rattle.mdmp_lister.specs.declared.name.Name.TheVariants.{Long}
+use Rattle.mdmp_lister.specs.declared.name.Name.TheVariants as names
+use Rattle.mdmp_lister.specs.declared.step.RecordRead.{RecordRead}
 use Rattle.mdmp_lister.specs.declared.item.Item.{Item}
 use Rattle.mdmp_lister.specs.declared.item.Item.TheVariants as items
+use Rattle.mdmp_lister.specs.Format.Item.{range_extent_of}
 use Rattle.mdmp_lister.specs.Format.Kind.{is_known}
 use Rattle.mdmp_lister.specs.Format.Listing.{Run, listing}
 use Rattle.mdmp_lister.specs.Format.Refusal.{opening_fault}
+use Rattle.mdmp_wire.specs.AnyRecord.{slot_at}
+use Rattle.mdmp_wire.specs.declared.any_record.AnyRecord.{AnyRecord}
+use Rattle.mdmp_wire.specs.declared.slot.Slot.{Slot}
+use Rattle.mdmp_wire.specs.declared.slot.Slot.TheVariants as slots
 use Rattle.mdmp_wire.specs.declared.slot.PartName.{PartName}
 use Rattle.mdmp_wire.specs.declared.slot.PartName.TheVariants.{Stack, Context, CodeView, Misc, Memory}
 use Rattle.mdmp_dump.specs.declared.fault.ReadFault.{ReadFault}
@@ -39,6 +47,24 @@ part_steps e k part offset size _ = []
 -- the same of a part that a location of this class names
 abbrev pub location_steps : ℕ → ℕ → PartName → Location → Extent → List ReadStep
 location_steps e k part at extent = part_steps e k part at.rva at.size extent
+
+-- what a slot of a record asks, of a name that was read so, in a file of z bytes: those of a 64-bit range stand at `far`
+abbrev pub slot_steps : ℕ → ℕ → ℕ → ℕ → Name → Slot → List ReadStep
+slot_steps z e k far name slots.Empty = []
+slot_steps z e k far name (slots.Name rva) = name_steps e k name
+slot_steps z e k far name (slots.Part part at) = location_steps e k part at (extent_of at z)
+slot_steps z e k far name (slots.Behind n) = part_steps e k Memory far n (range_extent_of far n z)
+
+-- what record k of entry e asks
+abbrev pub record_steps : ℕ → ℕ → ℕ → ℕ → AnyRecord → Name → List ReadStep
+record_steps z e k far w name =
+    slot_steps z e k far name (slot_at w 0)
+    ++ slot_steps z e k far name (slot_at w 1)
+    ++ slot_steps z e k far name (slot_at w 2)
+
+-- what its parts ask, once its name was taken
+abbrev pub parts_asked : ℕ → RecordRead → List ReadStep
+parts_asked z r = record_steps z r.entry r.index r.offset r.fields names.None
 
 -- ---- items
 

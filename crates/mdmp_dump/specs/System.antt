@@ -1,11 +1,9 @@
 -- The system of a dump: MINIDUMP_SYSTEM_INFO.
-use Rattle.std.specs.Prelude.{◌≡◌, ℕ, List, Option, Some, None, ◌<◌, ◌^◌, [], ◌∷◌, length}
+use Rattle.std.specs.Prelude.{◌≡◌, ℕ, List, ◌<◌, ◌^◌, [], ◌∷◌, length}
 use Rattle.mdmp_wire.specs.declared.system.SystemRecord.{SystemRecord}
 use Rattle.mdmp_wire.specs.System.{system_at}
 use Rattle.mdmp_dump.specs.declared.system.System.{System}
 use Rattle.mdmp_dump.specs.Name.{IsName, NameFits}
-use Rattle.mdmp_lister.specs.declared.item.Item.{Item}
-use Rattle.mdmp_lister.specs.declared.item.Item.TheVariants as items
 use Rattle.mdmp_wire.specs.declared.any_record.AnyRecord.TheVariants as any
 use Rattle.mdmp_dump.specs.Seen.{Seen, seen, name_size, unit_bytes}
 use Rattle.mdmp_dump.specs.declared.view.PartSize.TheVariants.{NoPart}
@@ -53,8 +51,3 @@ module _ {Z : Type 0} where
     pub suite_mask : x.suite_mask < 2 ^ 16
     pub reserved2 : x.reserved2 < 2 ^ 16
     pub cpu : length x.cpu ≡ 24
-
--- what an item tells of such a record, but for its place and its name
-abbrev pub system_told : Item → Option SystemRecord
-system_told (items.System x) = Some x.fields
-system_told item = None

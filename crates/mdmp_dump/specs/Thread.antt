@@ -1,16 +1,10 @@
 -- A thread of a dump: MINIDUMP_THREAD.
-use Rattle.std.specs.Prelude.{◌≡◌, ℕ, List, Option, Some, None, ◌++◌, ◌<◌, ◌^◌, [], ◌∷◌}
+use Rattle.std.specs.Prelude.{◌≡◌, ℕ, List, ◌<◌, ◌^◌, [], ◌∷◌}
 use Rattle.mdmp_source.specs.declared.location.Location.{Location}
 use Rattle.mdmp_wire.specs.declared.thread.ThreadRecord.{ThreadRecord}
 use Rattle.mdmp_wire.specs.Thread.{thread_at}
 use Rattle.mdmp_dump.specs.declared.thread.Thread.{Thread}
 use Rattle.mdmp_dump.specs.Part.{IsPart, PartFits}
-use Rattle.mdmp_lister.specs.declared.item.Item.{Item}
-use Rattle.mdmp_lister.specs.declared.item.ThreadItem.{ThreadItem}
-use Rattle.mdmp_lister.specs.declared.item.Item.TheVariants as items
-use Rattle.mdmp_dump.specs.declared.row.ToldRecord.{ToldRecord}
-use Rattle.mdmp_dump.specs.Refusal.{ReadStep, location_steps}
-use Rattle.mdmp_wire.specs.declared.slot.PartName.TheVariants.{Stack, Context}
 use Rattle.mdmp_wire.specs.declared.any_record.AnyRecord.TheVariants as any
 use Rattle.mdmp_dump.specs.Seen.{Seen, seen, nowhere, size_of, bytes_of}
 use Rattle.mdmp_dump.specs.declared.view.PartSize.TheVariants.{NoPart}
@@ -50,14 +44,3 @@ module _ {Z : Type 0} where
     pub stack_start : x.stack_start < 2 ^ 64
     pub stack : PartFits x.stack
     pub context : PartFits x.context
-
--- what an item tells of such a record, but for its place and its name
-abbrev pub thread_told : Item → Option ThreadItem
-thread_told (items.Thread x) = Some x
-thread_told item = None
-
--- its stack is taken, and then its registers
-abbrev pub thread_steps : ToldRecord ThreadItem → List ReadStep
-thread_steps x =
-    location_steps x.place.entry x.place.index Stack x.fields.fields.stack.memory x.fields.stack
-    ++ location_steps x.place.entry x.place.index Context x.fields.fields.thread_context x.fields.context

@@ -1,11 +1,9 @@
 -- The name of a thread of a dump: MINIDUMP_THREAD_NAME.
-use Rattle.std.specs.Prelude.{◌≡◌, ℕ, List, Option, Some, None, ◌<◌, ◌^◌, [], ◌∷◌}
+use Rattle.std.specs.Prelude.{◌≡◌, ℕ, List, ◌<◌, ◌^◌, [], ◌∷◌}
 use Rattle.mdmp_wire.specs.declared.thread_name.ThreadNameRecord.{ThreadNameRecord}
 use Rattle.mdmp_wire.specs.ThreadName.{thread_name_at}
 use Rattle.mdmp_dump.specs.declared.thread_name.ThreadName.{ThreadName}
 use Rattle.mdmp_dump.specs.Name.{IsName, NameFits}
-use Rattle.mdmp_lister.specs.declared.item.Item.{Item}
-use Rattle.mdmp_lister.specs.declared.item.Item.TheVariants as items
 use Rattle.mdmp_wire.specs.declared.any_record.AnyRecord.TheVariants as any
 use Rattle.mdmp_dump.specs.Seen.{Seen, seen, name_size, unit_bytes}
 use Rattle.mdmp_dump.specs.declared.view.PartSize.TheVariants.{NoPart}
@@ -28,8 +26,3 @@ module _ {Z : Type 0} where
   pub record ThreadNameFits (x : ThreadName Z) : Type 0 where
     pub thread_id : x.thread_id < 2 ^ 32
     pub name : NameFits x.name
-
--- what an item tells of such a record, but for its place and its name
-abbrev pub thread_name_told : Item → Option ThreadNameRecord
-thread_name_told (items.ThreadName x) = Some x.fields
-thread_name_told item = None

@@ -1,11 +1,9 @@
 -- An unloaded module of a dump: MINIDUMP_UNLOADED_MODULE.
-use Rattle.std.specs.Prelude.{◌≡◌, ℕ, List, Option, Some, None, ◌<◌, ◌^◌, [], ◌∷◌}
+use Rattle.std.specs.Prelude.{◌≡◌, ℕ, List, ◌<◌, ◌^◌, [], ◌∷◌}
 use Rattle.mdmp_wire.specs.declared.unloaded.UnloadedRecord.{UnloadedRecord}
 use Rattle.mdmp_wire.specs.Unloaded.{unloaded_at}
 use Rattle.mdmp_dump.specs.declared.unloaded.Unloaded.{Unloaded}
 use Rattle.mdmp_dump.specs.Name.{IsName, NameFits}
-use Rattle.mdmp_lister.specs.declared.item.Item.{Item}
-use Rattle.mdmp_lister.specs.declared.item.Item.TheVariants as items
 use Rattle.mdmp_wire.specs.declared.any_record.AnyRecord.TheVariants as any
 use Rattle.mdmp_dump.specs.Seen.{Seen, seen, name_size, unit_bytes}
 use Rattle.mdmp_dump.specs.declared.view.PartSize.TheVariants.{NoPart}
@@ -37,8 +35,3 @@ module _ {Z : Type 0} where
     pub checksum : x.checksum < 2 ^ 32
     pub time_date_stamp : x.time_date_stamp < 2 ^ 32
     pub name : NameFits x.name
-
--- what an item tells of such a record, but for its place and its name
-abbrev pub unloaded_told : Item → Option UnloadedRecord
-unloaded_told (items.Unloaded x) = Some x.fields
-unloaded_told item = None

@@ -1,19 +1,15 @@
 //! The exception of a dump.
 ghost use Rattle.mdmp_lister.specs.declared.kind.StreamKind.TheVariants as kinds;
-ghost use Rattle.mdmp_dump.specs.Exception.{ExceptionFits, IsException, exception_seen, exception_steps, exception_told};
-ghost use Rattle.mdmp_dump.specs.TellingLaws.{exception_tells};
+ghost use Rattle.mdmp_dump.specs.Exception.{ExceptionFits, IsException, exception_seen};
 ghost use Rattle.std.specs.Prelude.{◌≡◌, ◌<◌, ◌^◌, ℕ, length, slice_index};
 
-use crate::fault::{PartName, ReadFault};
 use crate::fits::Fitting;
 use crate::given::{Given, bytes_of, nowhere, size_of};
 use crate::part::Part;
-use crate::reader::Reader;
-use crate::row::{RecordPlace, Row};
+use crate::record_parts::{RecordParts, take_part};
+use crate::row::Row;
 use crate::view::{Fields, PartSize};
-use mdmp_lister::{ExceptionItem, Item};
-use mdmp_source::Store;
-use mdmp_wire::{AnyRecord, ExceptionRecord, Units};
+use mdmp_wire::{AnyRecord, ExceptionRecord};
 use std::alloc::Allocator;
 
 /// An exception of the dumped process: `MINIDUMP_EXCEPTION_STREAM`, with the
@@ -65,35 +61,17 @@ impl<A: Allocator> Fitting for Exception<A> {
     }
 }
 
-impl<S: Store + Drop, A: Allocator + Copy> Row<S, A> for Exception<A> {
-    type Fields = ExceptionItem;
-
+impl<A: Allocator + Copy> Row<A> for Exception<A> {
     ghost kind = { kinds.Exception };
-
-    ghost told = { exception_told };
-
-    ghost steps = { exception_steps };
 
     ghost IsAt = { λ file at k. IsException file };
 
-    fn find(item: &Item<'_>) -> Option<ExceptionItem> {
-        match item {
-            Item::Exception(exception) => Some(*exception),
-            _ => None,
-        }
-    }
-
-    fn read(
-        reader: &mut Reader<S, A>,
-        place: RecordPlace,
-        fields: ExceptionItem,
-        name: &mut Option<Units<A>>,
-    ) -> Result<Self, ReadFault> {
-        let exception = fields.fields;
-        let at = exception.thread_context;
-        let context = reader.part(place, PartName::Context, at, fields.context)?;
+    fn of(wire: AnyRecord, parts: &mut RecordParts<A>) -> Option<Self> {
+        let AnyRecord::Exception(exception) = wire else {
+            return None;
+        };
         let exception_information = exception.exception_information;
-        Ok(Exception {
+        Some(Exception {
             thread_id: exception.thread_id,
             exception_code: exception.exception_code,
             exception_flags: exception.exception_flags,
@@ -101,11 +79,9 @@ impl<S: Store + Drop, A: Allocator + Copy> Row<S, A> for Exception<A> {
             exception_address: exception.exception_address,
             number_parameters: exception.number_parameters,
             exception_information,
-            context,
+            context: take_part(&mut parts.first, parts.alloc),
         })
     }
-
-    ghost tells = { exception_tells };
 }
 
 impl<A: Allocator> Given for Exception<A> {

@@ -56,6 +56,7 @@ mod pass;
 mod placed;
 mod read;
 mod reader;
+mod record_parts;
 mod records;
 mod row;
 mod stream_walk;

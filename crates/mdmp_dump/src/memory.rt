@@ -1,18 +1,14 @@
 //! A range of memory of a dump.
 ghost use Rattle.mdmp_lister.specs.declared.kind.StreamKind.TheVariants as kinds;
-ghost use Rattle.mdmp_dump.specs.Memory.{IsMemory, MemoryFits, memory_seen, range_steps, range_told};
-ghost use Rattle.mdmp_dump.specs.TellingLaws.{memory_tells};
+ghost use Rattle.mdmp_dump.specs.Memory.{IsMemory, MemoryFits, memory_seen};
 
-use crate::fault::{PartName, ReadFault};
 use crate::fits::Fitting;
 use crate::given::{Given, bytes_of, nowhere, size_of};
 use crate::part::Part;
-use crate::reader::{Reader, absent};
-use crate::row::{RecordPlace, Row};
+use crate::record_parts::{RecordParts, take_part};
+use crate::row::Row;
 use crate::view::{Fields, PartSize};
-use mdmp_lister::{Item, RangeItem};
-use mdmp_source::{Extent, Store};
-use mdmp_wire::{AnyRecord, Descriptor, Units};
+use mdmp_wire::{AnyRecord, Descriptor};
 use std::alloc::Allocator;
 
 /// A range of the dumped process's memory: `MINIDUMP_MEMORY_DESCRIPTOR`.
@@ -34,55 +30,20 @@ impl<A: Allocator> Fitting for MemoryRange<A> {
     }
 }
 
-impl<S: Store + Drop, A: Allocator + Copy> Row<S, A> for MemoryRange<A> {
-    type Fields = RangeItem;
-
+impl<A: Allocator + Copy> Row<A> for MemoryRange<A> {
     ghost kind = { kinds.Memory };
-
-    ghost told = { range_told };
-
-    ghost steps = { range_steps };
 
     ghost IsAt = { λ file at k. IsMemory file };
 
-    fn find(item: &Item<'_>) -> Option<RangeItem> {
-        match item {
-            Item::Range(range) => Some(*range),
-            _ => None,
-        }
+    fn of(wire: AnyRecord, parts: &mut RecordParts<A>) -> Option<Self> {
+        let AnyRecord::Memory(range) = wire else {
+            return None;
+        };
+        Some(MemoryRange {
+            start: range.start_of_memory_range,
+            bytes: take_part(&mut parts.first, parts.alloc),
+        })
     }
-
-    fn read(
-        reader: &mut Reader<S, A>,
-        place: RecordPlace,
-        fields: RangeItem,
-        name: &mut Option<Units<A>>,
-    ) -> Result<Self, ReadFault> {
-        match fields.extent {
-            Extent::Absent => {
-                let bytes = absent(fields.size)?;
-                Ok(MemoryRange {
-                    start: fields.start,
-                    bytes,
-                })
-            }
-            _ => {
-                let bytes = reader.bytes_at(
-                    place,
-                    PartName::Memory,
-                    fields.offset,
-                    fields.size,
-                    fields.extent,
-                )?;
-                Ok(MemoryRange {
-                    start: fields.start,
-                    bytes: Part::Bytes(bytes),
-                })
-            }
-        }
-    }
-
-    ghost tells = { memory_tells };
 }
 
 impl<A: Allocator> Given for MemoryRange<A> {

@@ -1,19 +1,15 @@
 //! A range of a 64-bit memory list of a dump.
 ghost use Rattle.mdmp_lister.specs.declared.kind.StreamKind.TheVariants as kinds;
-ghost use Rattle.mdmp_dump.specs.Memory.{range_steps, range_told};
 ghost use Rattle.mdmp_dump.specs.Memory64.{IsMemory64, Memory64Fits, memory64_seen};
-ghost use Rattle.mdmp_dump.specs.TellingLaws.{memory64_tells};
 
 use crate::bytes::Bytes;
-use crate::fault::{PartName, ReadFault};
 use crate::fits::Fitting;
 use crate::given::Given;
-use crate::reader::Reader;
-use crate::row::{RecordPlace, Row};
+use crate::part::Part;
+use crate::record_parts::{RecordParts, take_part};
+use crate::row::Row;
 use crate::view::{Fields, PartSize};
-use mdmp_lister::{Item, RangeItem};
-use mdmp_source::Store;
-use mdmp_wire::{AnyRecord, Descriptor64, Units};
+use mdmp_wire::{AnyRecord, Descriptor64};
 use std::alloc::Allocator;
 
 /// A range of the dumped process's memory, which is never absent: `MINIDUMP_MEMORY_DESCRIPTOR64`.
@@ -34,44 +30,23 @@ impl<A: Allocator> Fitting for Memory64Range<A> {
     }
 }
 
-impl<S: Store + Drop, A: Allocator + Copy> Row<S, A> for Memory64Range<A> {
-    type Fields = RangeItem;
-
+impl<A: Allocator + Copy> Row<A> for Memory64Range<A> {
     ghost kind = { kinds.Memory64 };
-
-    ghost told = { range_told };
-
-    ghost steps = { range_steps };
 
     ghost IsAt = { λ file. IsMemory64 file };
 
-    fn find(item: &Item<'_>) -> Option<RangeItem> {
-        match item {
-            Item::Range(range) => Some(*range),
-            _ => None,
-        }
-    }
-
-    fn read(
-        reader: &mut Reader<S, A>,
-        place: RecordPlace,
-        fields: RangeItem,
-        name: &mut Option<Units<A>>,
-    ) -> Result<Self, ReadFault> {
-        let bytes = reader.bytes_at(
-            place,
-            PartName::Memory,
-            fields.offset,
-            fields.size,
-            fields.extent,
-        )?;
-        Ok(Memory64Range {
-            start: fields.start,
+    fn of(wire: AnyRecord, parts: &mut RecordParts<A>) -> Option<Self> {
+        let AnyRecord::Memory64(range) = wire else {
+            return None;
+        };
+        let Part::Bytes(bytes) = take_part(&mut parts.first, parts.alloc) else {
+            return None;
+        };
+        Some(Memory64Range {
+            start: range.start_of_memory_range,
             bytes,
         })
     }
-
-    ghost tells = { memory64_tells };
 }
 
 impl<A: Allocator> Given for Memory64Range<A> {

@@ -1,19 +1,15 @@
 //! A region of memory of a dump, which is the record itself.
-ghost use Rattle.std.specs.Prelude.{[], ◌≡◌};
+ghost use Rattle.std.specs.Prelude.{◌≡◌};
 ghost use Rattle.mdmp_lister.specs.declared.kind.StreamKind.TheVariants as kinds;
 ghost use Rattle.mdmp_wire.specs.MemoryInfo.{memory_info_at};
-ghost use Rattle.mdmp_dump.specs.MemoryInfo.{MemoryInfoFits, memory_info_seen, memory_info_told};
-ghost use Rattle.mdmp_dump.specs.TellingLaws.{memory_info_tells};
+ghost use Rattle.mdmp_dump.specs.MemoryInfo.{MemoryInfoFits, memory_info_seen};
 
-use crate::fault::ReadFault;
 use crate::fits::Fitting;
 use crate::given::Given;
-use crate::reader::Reader;
-use crate::row::{RecordPlace, Row};
+use crate::record_parts::RecordParts;
+use crate::row::Row;
 use crate::view::{Fields, PartSize};
-use mdmp_lister::Item;
-use mdmp_source::Store;
-use mdmp_wire::{AnyRecord, MemoryInfoRecord, Units};
+use mdmp_wire::{AnyRecord, MemoryInfoRecord};
 use std::alloc::Allocator;
 
 impl Fitting for MemoryInfoRecord {
@@ -30,34 +26,17 @@ impl Fitting for MemoryInfoRecord {
     }
 }
 
-impl<S: Store + Drop, A: Allocator + Copy> Row<S, A> for MemoryInfoRecord {
-    type Fields = MemoryInfoRecord;
-
+impl<A: Allocator + Copy> Row<A> for MemoryInfoRecord {
     ghost kind = { kinds.MemoryInfo };
-
-    ghost told = { memory_info_told };
-
-    ghost steps = { λ x. [] };
 
     ghost IsAt = { λ file at k o row. memory_info_at file o ≡ row };
 
-    fn find(item: &Item<'_>) -> Option<MemoryInfoRecord> {
-        match item {
-            Item::MemoryInfo(region) => Some(region.fields),
-            _ => None,
-        }
+    fn of(wire: AnyRecord, parts: &mut RecordParts<A>) -> Option<Self> {
+        let AnyRecord::MemoryInfo(region) = wire else {
+            return None;
+        };
+        Some(region)
     }
-
-    fn read(
-        reader: &mut Reader<S, A>,
-        place: RecordPlace,
-        fields: MemoryInfoRecord,
-        name: &mut Option<Units<A>>,
-    ) -> Result<Self, ReadFault> {
-        Ok(fields)
-    }
-
-    ghost tells = { memory_info_tells };
 }
 
 impl Given for MemoryInfoRecord {

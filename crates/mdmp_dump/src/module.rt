@@ -1,17 +1,13 @@
 //! A module of a dump.
 ghost use Rattle.mdmp_lister.specs.declared.kind.StreamKind.TheVariants as kinds;
-ghost use Rattle.mdmp_dump.specs.Module.{IsModule, ModuleFits, VersionFits, module_seen, module_steps, module_told};
-ghost use Rattle.mdmp_dump.specs.TellingLaws.{module_tells};
+ghost use Rattle.mdmp_dump.specs.Module.{IsModule, ModuleFits, VersionFits, module_seen};
 
-use crate::fault::{PartName, ReadFault};
 use crate::fits::{Fitting, name_fits};
 use crate::given::{Given, bytes_of, name_size, nowhere, size_of, unit_bytes};
 use crate::part::Part;
-use crate::reader::Reader;
-use crate::row::{RecordPlace, Row};
+use crate::record_parts::{RecordParts, take_part};
+use crate::row::Row;
 use crate::view::Fields;
-use mdmp_lister::Item;
-use mdmp_source::{Extent, Store};
 use mdmp_wire::{AnyRecord, ModuleRecord, Units, VersionInfo};
 use std::alloc::Allocator;
 
@@ -39,17 +35,6 @@ pub struct Module<A: Allocator> {
     pub reserved0: u64,
     /// `Reserved1`.
     pub reserved1: u64,
-}
-
-/// What the item of a module tells of it, but for its place and its name.
-#[derive(Clone, Copy)]
-pub(crate) struct ToldModule {
-    /// The record as it stands in the file.
-    pub(crate) fields: ModuleRecord,
-    /// What its `CvRecord` names.
-    pub(crate) codeview: Extent,
-    /// What its `MiscRecord` names.
-    pub(crate) misc: Extent,
 }
 
 impl Fitting for VersionInfo {
@@ -89,52 +74,28 @@ impl<A: Allocator> Fitting for Module<A> {
     }
 }
 
-impl<S: Store + Drop, A: Allocator + Copy> Row<S, A> for Module<A> {
-    type Fields = ToldModule;
-
+impl<A: Allocator + Copy> Row<A> for Module<A> {
     ghost kind = { kinds.Modules };
-
-    ghost told = { module_told };
-
-    ghost steps = { module_steps };
 
     ghost IsAt = { λ file at k. IsModule file };
 
-    fn find(item: &Item<'_>) -> Option<ToldModule> {
-        match item {
-            Item::Module(module) => Some(ToldModule {
-                fields: module.fields,
-                codeview: module.codeview,
-                misc: module.misc,
-            }),
-            _ => None,
-        }
-    }
-
-    fn read(
-        reader: &mut Reader<S, A>,
-        place: RecordPlace,
-        fields: ToldModule,
-        name: &mut Option<Units<A>>,
-    ) -> Result<Self, ReadFault> {
-        let module = fields.fields;
-        let codeview = reader.part(place, PartName::CodeView, module.cv_record, fields.codeview)?;
-        let misc = reader.part(place, PartName::Misc, module.misc_record, fields.misc)?;
-        Ok(Module {
+    fn of(wire: AnyRecord, parts: &mut RecordParts<A>) -> Option<Self> {
+        let AnyRecord::Module(module) = wire else {
+            return None;
+        };
+        Some(Module {
             base_of_image: module.base_of_image,
             size_of_image: module.size_of_image,
             checksum: module.checksum,
             time_date_stamp: module.time_date_stamp,
-            name: name.take(),
+            name: parts.name.take(),
             version_info: module.version_info,
-            codeview,
-            misc,
+            codeview: take_part(&mut parts.second, parts.alloc),
+            misc: take_part(&mut parts.third, parts.alloc),
             reserved0: module.reserved0,
             reserved1: module.reserved1,
         })
     }
-
-    ghost tells = { module_tells };
 }
 
 impl<A: Allocator> Given for Module<A> {

@@ -7,7 +7,7 @@ ghost use Rattle.mdmp_dump.specs.Dropped.{IsReadAndDropped};
 ghost use Rattle.mdmp_dump.specs.Keeping.{KeepsStep, KeepsReading};
 ghost use Rattle.mdmp_dump.specs.LaysOut.{AreStreams, LaysOut};
 ghost use Rattle.mdmp_dump.specs.Left.{is_item_of, left_from, run_of};
-ghost use Rattle.mdmp_dump.specs.Reading.{Fetches, IsEntryRead, IsGoing, IsOneStream, IsRaw, IsReadRefusal, IsWithoutBudget, OpensWithin, Settles, TellsLimit, TellsOf, owed, read_within, refusal_of, store_fault};
+ghost use Rattle.mdmp_dump.specs.Reading.{Fetches, IsEntryRead, IsGoing, IsOfType, IsOneStream, IsRaw, IsReadRefusal, IsWithoutBudget, OpensWithin, Settles, TellsLimit, TellsOf, owed, read_within, refusal_of, store_fault};
 ghost use Rattle.mdmp_dump.specs.Refusal.{read_refusal};
 
 use crate::dump::{Dump, Stream};
@@ -209,7 +209,7 @@ fn read_stream<S: Store + Drop, A: Allocator + Copy>(
     ensures keeps { KeepsStep result reader.old reader.new }
     ensures going { IfOk result (λ r. IsGoing reader.old.lister r.1 reader.new.lister) }
     ensures of_file { (file : List ℕ) (limit : ℕ) (x : Numbered) (xs : List Numbered) → reader.old.lister.source.store.content ≡ Some file
-        → reader.old.lister.left ≡ Some (left_from file limit x 0 xs) → item ≡ is_item_of x
+        → reader.old.lister.left ≡ Some (left_from file limit x 0 xs) → item ≡ is_item_of x → IsOfType reader.old.lister item.stream_type
         → IsEntryRead file limit xs (IsOneStream file x.entry) (owed file reader.old.left (Some item) reader.old.lister.left) result reader.new }
 {
     match item.stream_type {

@@ -3,7 +3,8 @@ ghost use Rattle.std.specs.Prelude.{◌≡◌, ◌≤◌, ◌<◌, ◌+◌, ◌�
 ghost use Rattle.mdmp_source.specs.Range.{IsInside};
 ghost use Rattle.mdmp_source.specs.declared.location.Extent.TheVariants as classes;
 ghost use Rattle.mdmp_source.specs.Store.{IsSizeOf};
-ghost use Rattle.mdmp_lister.specs.Format.Item.{plain};
+ghost use Rattle.mdmp_lister.specs.declared.kind.StreamKind.{StreamKind};
+ghost use Rattle.mdmp_lister.specs.declared.name.Name.TheVariants as names;
 ghost use Rattle.mdmp_lister.specs.Format.Name.{plain_name};
 ghost use Rattle.mdmp_lister.specs.Format.Kind.{kind_of};
 ghost use Rattle.mdmp_lister.specs.Format.Listing.{Numbered, Run};
@@ -14,6 +15,7 @@ ghost use Rattle.mdmp_dump.specs.Part.{part_in};
 ghost use Rattle.mdmp_dump.specs.Reading.{
   AreBytesOf,
   Fetches,
+  FindsRead,
   HasBytesAt,
   HasOneRecord,
   IsEntryRead,
@@ -23,8 +25,8 @@ ghost use Rattle.mdmp_dump.specs.Reading.{
   IsNameTaken,
   IsNext,
   IsNextStream,
+  IsOfType,
   IsToldGoing,
-  IsToldOf,
   NoRowFirst,
   Settles,
   TakesSteps,
@@ -32,18 +34,19 @@ ghost use Rattle.mdmp_dump.specs.Reading.{
   owed,
   refusal_found,
 };
-ghost use Rattle.mdmp_dump.specs.Refusal.{Take, location_steps, name_steps, part_steps};
-ghost use Rattle.mdmp_dump.specs.Telling.{FoundHasClasses, record_told};
+ghost use Rattle.mdmp_dump.specs.RecordParts.{ArePartsOf, IsSlotPart};
+ghost use Rattle.mdmp_dump.specs.Refusal.{Take, location_steps, name_steps, part_steps, parts_asked, slot_steps};
 ghost use Rattle.mdmp_dump.specs.declared.part.Part.TheVariants as parts;
 
 use crate::bytes::Bytes;
 use crate::fault::{PartName, ReadFault};
 use crate::part::{Part, PositiveSize};
+use crate::record_parts::{RecordParts, empty_part};
 use crate::records::Records;
-use crate::row::{RecordPlace, Row, ToldRecord};
-use mdmp_lister::{Item, Lister, Name, StreamItem};
+use crate::row::{RecordPlace, Row};
+use mdmp_lister::{Item, ItemRead, Lister, Name, RecordRead, StreamItem, range_extent};
 use mdmp_source::{Extent, Location, Store};
-use mdmp_wire::Units;
+use mdmp_wire::{Slot, Units};
 use std::alloc::{AllocError, Allocator};
 
 /// A lister, what its values take their memory of, and how many bytes of parts they may still take.
@@ -54,10 +57,10 @@ pub(crate) struct Reader<S: Store + Drop, A: Allocator + Copy> {
     pub(crate) left: u64,
 }
 
-/// What an item tells: a record and its name, or what stands behind the records.
+/// What is found of an item: a record and its name, or what stands behind the records.
 #[derive(Drop)]
-pub(crate) enum Told<F: Copy + Drop, A: Allocator> {
-    Record(ToldRecord<F>, Option<Units<A>>),
+pub(crate) enum Told<A: Allocator> {
+    Record(RecordRead, Option<Units<A>>),
     Behind(Option<StreamItem>),
 }
 
@@ -88,6 +91,9 @@ impl<S: Store + Drop, A: Allocator + Copy> Reader<S, A> {
                 entry: place.entry,
                 index: place.index,
             });
+        }
+        if size == 0 {
+            return Ok(Bytes::new(Vec::new(self.alloc)));
         }
         let mut bytes = match vec![in self.alloc; 0; size as usize] {
             Ok(bytes) => bytes,
@@ -151,6 +157,51 @@ impl<S: Store + Drop, A: Allocator + Copy> Reader<S, A> {
         }
     }
 
+    /// The part behind a slot of a record: the bytes of a 64-bit range stand at `far`.
+    fn slot(&mut self, place: RecordPlace, far: u128, slot: Slot) -> Result<Part<A>, ReadFault>
+        ensures takes { TakesSteps (slot_steps self.old.lister.source.size place.entry place.index far names.None slot) self.old result self.new }
+        ensures of_file { (file : List ℕ) → self.old.lister.source.store.content ≡ Some file → IfOk result (IsSlotPart file far slot) }
+    {
+        let size = self.lister.size();
+        match slot {
+            Slot::Empty => Ok(empty_part(self.alloc)),
+            Slot::Name(_) => Ok(empty_part(self.alloc)),
+            Slot::Part(name, location) => self.part(place, name, location, location.classify(size)),
+            Slot::Behind(count) => {
+                let class = range_extent(far, count, size);
+                let bytes = self.bytes_at(place, PartName::Memory, far, count, class)?;
+                Ok(Part::Bytes(bytes))
+            }
+        }
+    }
+
+    /// The parts of a record that was read, beside its name.
+    fn parts(
+        &mut self,
+        read: RecordRead,
+        name: Option<Units<A>>,
+    ) -> Result<RecordParts<A>, ReadFault>
+        ensures takes { TakesSteps (parts_asked self.old.lister.source.size read) self.old result self.new }
+        ensures of_file { (file : List ℕ) → self.old.lister.source.store.content ≡ Some file → IfOk result (ArePartsOf file read.offset read.fields) }
+        ensures name { IfOk result (λ parts. parts.name ≡ name) }
+    {
+        let place = RecordPlace {
+            entry: read.entry,
+            index: read.index,
+        };
+        let [one, two, three] = read.fields.slots();
+        let first = self.slot(place, read.offset, one)?;
+        let second = self.slot(place, read.offset, two)?;
+        let third = self.slot(place, read.offset, three)?;
+        Ok(RecordParts {
+            alloc: self.alloc,
+            name,
+            first,
+            second,
+            third,
+        })
+    }
+
     /// The next Stream item, or none at the end of the listing.
     pub(crate) fn behind(&mut self) -> Result<Option<StreamItem>, ReadFault>
         requires { self.old.lister.stop ≡ None }
@@ -168,50 +219,54 @@ impl<S: Store + Drop, A: Allocator + Copy> Reader<S, A> {
         }
     }
 
-    /// What the next item tells.
-    fn find<T: Row<S, A>>(&mut self) -> Result<Told<T::Fields, A>, ReadFault>
+    /// The next record, and its name, or what stands behind the records.
+    fn find(&mut self) -> Result<Told<A>, ReadFault>
         requires { self.old.lister.stop ≡ None }
         ensures fetches { Fetches result self.old.lister.source self.new.lister.source }
         ensures keeps { KeepsStep result self.old self.new }
         ensures left { self.new.left ≡ self.old.left }
-        ensures of_file { (file : List ℕ) (limit : ℕ) (x : Numbered) (k : ℕ) (xs : List Numbered) → self.old.lister.source.store.content ≡ Some file
-            → self.old.lister.left ≡ Some (left_from file limit x k xs) → kind_of x.entry.stream_type ≡ Some T.kind
-            → IfOk result (λ told. IsFoundOrBehind file limit x k xs T.kind (record_told T.told) told self.new.lister.left)
-            × Settles (owed file self.old.left None self.old.lister.left) result (λ told. refusal_found file self.new.left T.steps told self.new.lister.left) }
+        ensures of_file { (file : List ℕ) (limit : ℕ) (x : Numbered) (k : ℕ) (xs : List Numbered) (kind : StreamKind) → self.old.lister.source.store.content ≡ Some file
+            → self.old.lister.left ≡ Some (left_from file limit x k xs) → kind_of x.entry.stream_type ≡ Some kind → IsOfType self.old.lister x.entry.stream_type
+            → IfOk result (λ told. IsFoundOrBehind file limit x k xs kind told self.new.lister.left)
+            × Settles (owed file self.old.left None self.old.lister.left) result (λ told. refusal_found file self.new.left told self.new.lister.left) }
         ensures going { IfOk result (λ told. IsToldGoing self.old.lister told self.new.lister) }
-        ensures classed { IfOk result (FoundHasClasses T.told self.new.lister.source.size) }
     {
         let alloc = self.alloc;
-        match self.lister.next() {
-            Ok(Some(item)) => told_of::<S, A, T>(alloc, &item),
+        match self.lister.next_read() {
+            Ok(Some(item)) => found(alloc, &item),
             Ok(None) => Ok(Told::Behind(None)),
             Err(fault) => Err(ReadFault::List(fault)),
         }
     }
 
     /// The next record of the current entry, or what stands behind its records.
-    fn next<T: Row<S, A>>(&mut self) -> Result<Next<T>, ReadFault>
+    fn next<T: Row<A>>(&mut self) -> Result<Next<T>, ReadFault>
         requires { self.old.lister.stop ≡ None }
         ensures fetches { Fetches result self.old.lister.source self.new.lister.source }
         ensures keeps { KeepsStep result self.old self.new }
         ensures going { IfOk result (λ next. IsGoingOn self.old.lister next self.new.lister) }
         ensures of_file { (file : List ℕ) (limit : ℕ) (x : Numbered) (k : ℕ) (xs : List Numbered) → self.old.lister.source.store.content ≡ Some file
-            → self.old.lister.left ≡ Some (left_from file limit x k xs) → kind_of x.entry.stream_type ≡ Some T.kind
+            → self.old.lister.left ≡ Some (left_from file limit x k xs) → kind_of x.entry.stream_type ≡ Some T.kind → IsOfType self.old.lister x.entry.stream_type
             → IfOk result (λ next. IsNext file limit x k xs T.kind (T.IsAt file x.entry.location.rva) next self.new.lister.left)
             × Settles (owed file self.old.left None self.old.lister.left) result (λ next. owed file self.new.left (next_behind next) self.new.lister.left) }
     {
         // Its answer is the length of the file.
         let _size = self.lister.size();
-        match self.find::<T>()? {
-            Told::Record(found, mut name) => {
-                Ok(Next::Row(T::read(self, found.place, found.fields, &mut name)?))
+        match self.find()? {
+            Told::Record(read, name) => {
+                let mut parts = self.parts(read, name)?;
+                match T::of(read.fields, &mut parts) {
+                    Some(row) => Ok(Next::Row(row)),
+                    // No record of another kind stands where those of this one are read.
+                    None => Ok(Next::Behind(None)),
+                }
             }
             Told::Behind(next) => Ok(Next::Behind(next)),
         }
     }
 
     /// The records of the current entry, and what stands behind them.
-    pub(crate) fn rows<T: Row<S, A>>(
+    pub(crate) fn rows<T: Row<A>>(
         &mut self,
     ) -> Result<(Records<T, A>, Option<StreamItem>), ReadFault>
         requires { self.old.lister.stop ≡ None }
@@ -219,7 +274,7 @@ impl<S: Store + Drop, A: Allocator + Copy> Reader<S, A> {
         ensures keeps { KeepsStep result self.old self.new }
         ensures going { IfOk result (λ r. IsGoing self.old.lister r.1 self.new.lister) }
         ensures of_file { (file : List ℕ) (limit : ℕ) (x : Numbered) (xs : List Numbered) → self.old.lister.source.store.content ≡ Some file
-            → self.old.lister.left ≡ Some (left_from file limit x 0 xs) → kind_of x.entry.stream_type ≡ Some T.kind
+            → self.old.lister.left ≡ Some (left_from file limit x 0 xs) → kind_of x.entry.stream_type ≡ Some T.kind → IsOfType self.old.lister x.entry.stream_type
             → IsEntryRead file limit xs (HasRecords file x.entry.location T.kind (T.IsAt file x.entry.location.rva)) (owed file self.old.left None self.old.lister.left) result self.new }
     {
         let mut rows = Vec::new(self.alloc);
@@ -240,15 +295,13 @@ impl<S: Store + Drop, A: Allocator + Copy> Reader<S, A> {
     }
 
     /// The one record of the current entry, and what stands behind it.
-    pub(crate) fn single<T: Row<S, A>>(
-        &mut self,
-    ) -> Result<(Option<T>, Option<StreamItem>), ReadFault>
+    pub(crate) fn single<T: Row<A>>(&mut self) -> Result<(Option<T>, Option<StreamItem>), ReadFault>
         requires { self.old.lister.stop ≡ None }
         ensures fetches { Fetches result self.old.lister.source self.new.lister.source }
         ensures keeps { KeepsStep result self.old self.new }
         ensures going { IfOk result (λ r. IsGoing self.old.lister r.1 self.new.lister) }
         ensures of_file { (file : List ℕ) (limit : ℕ) (x : Numbered) (xs : List Numbered) → self.old.lister.source.store.content ≡ Some file
-            → self.old.lister.left ≡ Some (left_from file limit x 0 xs) → kind_of x.entry.stream_type ≡ Some T.kind → HasOneRecord file x T.kind
+            → self.old.lister.left ≡ Some (left_from file limit x 0 xs) → kind_of x.entry.stream_type ≡ Some T.kind → IsOfType self.old.lister x.entry.stream_type → HasOneRecord file x T.kind
             → IsEntryRead file limit xs (λ row. (one : T) × ((row ≡ Some one) × HasRecords file x.entry.location T.kind (T.IsAt file x.entry.location.rva) (one ∷ []))) (owed file self.old.left None self.old.lister.left) result self.new }
     {
         match self.next::<T>()? {
@@ -272,27 +325,20 @@ pub(crate) fn absent<A: Allocator>(size: u64) -> Result<Part<A>, ReadFault>
     }
 }
 
-/// What an item tells of a record of one kind, or that it is a Stream item. One of another kind
-/// tells nothing: it never stands where records of this one are read.
-fn told_of<S: Store + Drop, A: Allocator + Copy, T: Row<S, A>>(
-    alloc: A,
-    item: &Item<'_>,
-) -> Result<Told<T::Fields, A>, ReadFault>
-    ensures { IsToldOf (record_told T.told) (plain item.now) result }
+/// What is found of an item: a record, whose name it takes, or a Stream item.
+fn found<A: Allocator>(alloc: A, item: &ItemRead<'_>) -> Result<Told<A>, ReadFault>
+    ensures { FindsRead item.now result }
 {
-    if let Item::Stream(stream) = item {
-        return Ok(Told::Behind(Some(*stream)));
-    }
-    match T::find(item) {
-        Some(fields) => {
+    match item {
+        ItemRead::Stream(stream) => Ok(Told::Behind(Some(*stream))),
+        ItemRead::Record(read, name) => {
             let place = RecordPlace {
-                entry: item.entry(),
-                index: item.index(),
+                entry: read.entry,
+                index: read.index,
             };
-            let name = owned_name(alloc, place, item.name())?;
-            Ok(Told::Record(ToldRecord { place, fields }, name))
+            let name = owned_name(alloc, place, name)?;
+            Ok(Told::Record(*read, name))
         }
-        None => Ok(Told::Behind(None)),
     }
 }
 

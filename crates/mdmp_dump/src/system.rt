@@ -1,17 +1,13 @@
 //! The system of a dump.
-ghost use Rattle.std.specs.Prelude.{[], ◌≡◌, length};
+ghost use Rattle.std.specs.Prelude.{◌≡◌, length};
 ghost use Rattle.mdmp_lister.specs.declared.kind.StreamKind.TheVariants as kinds;
-ghost use Rattle.mdmp_dump.specs.System.{IsSystem, SystemFits, system_seen, system_told};
-ghost use Rattle.mdmp_dump.specs.TellingLaws.{system_tells};
+ghost use Rattle.mdmp_dump.specs.System.{IsSystem, SystemFits, system_seen};
 
-use crate::fault::ReadFault;
 use crate::fits::{Fitting, name_fits};
 use crate::given::{Given, name_size, unit_bytes};
-use crate::reader::Reader;
-use crate::row::{RecordPlace, Row};
+use crate::record_parts::RecordParts;
+use crate::row::Row;
 use crate::view::{Fields, PartSize};
-use mdmp_lister::Item;
-use mdmp_source::Store;
 use mdmp_wire::{AnyRecord, SystemRecord, Units};
 use std::alloc::Allocator;
 
@@ -72,49 +68,32 @@ impl<A: Allocator> Fitting for System<A> {
     }
 }
 
-impl<S: Store + Drop, A: Allocator + Copy> Row<S, A> for System<A> {
-    type Fields = SystemRecord;
-
+impl<A: Allocator + Copy> Row<A> for System<A> {
     ghost kind = { kinds.System };
-
-    ghost told = { system_told };
-
-    ghost steps = { λ x. [] };
 
     ghost IsAt = { λ file at k. IsSystem file };
 
-    fn find(item: &Item<'_>) -> Option<SystemRecord> {
-        match item {
-            Item::System(system) => Some(system.fields),
-            _ => None,
-        }
-    }
-
-    fn read(
-        reader: &mut Reader<S, A>,
-        place: RecordPlace,
-        fields: SystemRecord,
-        name: &mut Option<Units<A>>,
-    ) -> Result<Self, ReadFault> {
-        let cpu = fields.cpu;
-        Ok(System {
-            processor_architecture: fields.processor_architecture,
-            processor_level: fields.processor_level,
-            processor_revision: fields.processor_revision,
-            number_of_processors: fields.number_of_processors,
-            product_type: fields.product_type,
-            major_version: fields.major_version,
-            minor_version: fields.minor_version,
-            build_number: fields.build_number,
-            platform_id: fields.platform_id,
-            name: name.take(),
-            suite_mask: fields.suite_mask,
-            reserved2: fields.reserved2,
+    fn of(wire: AnyRecord, parts: &mut RecordParts<A>) -> Option<Self> {
+        let AnyRecord::System(system) = wire else {
+            return None;
+        };
+        let cpu = system.cpu;
+        Some(System {
+            processor_architecture: system.processor_architecture,
+            processor_level: system.processor_level,
+            processor_revision: system.processor_revision,
+            number_of_processors: system.number_of_processors,
+            product_type: system.product_type,
+            major_version: system.major_version,
+            minor_version: system.minor_version,
+            build_number: system.build_number,
+            platform_id: system.platform_id,
+            name: parts.name.take(),
+            suite_mask: system.suite_mask,
+            reserved2: system.reserved2,
             cpu,
         })
     }
-
-    ghost tells = { system_tells };
 }
 
 impl<A: Allocator> Given for System<A> {

@@ -1,18 +1,14 @@
 //! A thread of a dump.
 ghost use Rattle.mdmp_lister.specs.declared.kind.StreamKind.TheVariants as kinds;
-ghost use Rattle.mdmp_dump.specs.Thread.{IsThread, ThreadFits, thread_seen, thread_steps, thread_told};
-ghost use Rattle.mdmp_dump.specs.TellingLaws.{thread_tells};
+ghost use Rattle.mdmp_dump.specs.Thread.{IsThread, ThreadFits, thread_seen};
 
-use crate::fault::{PartName, ReadFault};
 use crate::fits::Fitting;
 use crate::given::{Given, bytes_of, nowhere, size_of};
 use crate::part::Part;
-use crate::reader::Reader;
-use crate::row::{RecordPlace, Row};
+use crate::record_parts::{RecordParts, take_part};
+use crate::row::Row;
 use crate::view::{Fields, PartSize};
-use mdmp_lister::{Item, ThreadItem};
-use mdmp_source::Store;
-use mdmp_wire::{AnyRecord, Descriptor, ThreadRecord, Units};
+use mdmp_wire::{AnyRecord, Descriptor, ThreadRecord};
 use std::alloc::Allocator;
 
 /// A thread of the dumped process: `MINIDUMP_THREAD`.
@@ -52,51 +48,26 @@ impl<A: Allocator> Fitting for Thread<A> {
     }
 }
 
-impl<S: Store + Drop, A: Allocator + Copy> Row<S, A> for Thread<A> {
-    type Fields = ThreadItem;
-
+impl<A: Allocator + Copy> Row<A> for Thread<A> {
     ghost kind = { kinds.Threads };
-
-    ghost told = { thread_told };
-
-    ghost steps = { thread_steps };
 
     ghost IsAt = { λ file at k. IsThread file };
 
-    fn find(item: &Item<'_>) -> Option<ThreadItem> {
-        match item {
-            Item::Thread(thread) => Some(*thread),
-            _ => None,
-        }
-    }
-
-    fn read(
-        reader: &mut Reader<S, A>,
-        place: RecordPlace,
-        fields: ThreadItem,
-        name: &mut Option<Units<A>>,
-    ) -> Result<Self, ReadFault> {
-        let thread = fields.fields;
-        let stack = reader.part(place, PartName::Stack, thread.stack.memory, fields.stack)?;
-        let context = reader.part(
-            place,
-            PartName::Context,
-            thread.thread_context,
-            fields.context,
-        )?;
-        Ok(Thread {
+    fn of(wire: AnyRecord, parts: &mut RecordParts<A>) -> Option<Self> {
+        let AnyRecord::Thread(thread) = wire else {
+            return None;
+        };
+        Some(Thread {
             thread_id: thread.thread_id,
             suspend_count: thread.suspend_count,
             priority_class: thread.priority_class,
             priority: thread.priority,
             teb: thread.teb,
             stack_start: thread.stack.start_of_memory_range,
-            stack,
-            context,
+            stack: take_part(&mut parts.first, parts.alloc),
+            context: take_part(&mut parts.second, parts.alloc),
         })
     }
-
-    ghost tells = { thread_tells };
 }
 
 impl<A: Allocator> Given for Thread<A> {

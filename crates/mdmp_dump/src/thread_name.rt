@@ -1,17 +1,12 @@
 //! The name of a thread of a dump.
-ghost use Rattle.std.specs.Prelude.{[]};
 ghost use Rattle.mdmp_lister.specs.declared.kind.StreamKind.TheVariants as kinds;
-ghost use Rattle.mdmp_dump.specs.ThreadName.{IsThreadName, ThreadNameFits, thread_name_seen, thread_name_told};
-ghost use Rattle.mdmp_dump.specs.TellingLaws.{thread_name_tells};
+ghost use Rattle.mdmp_dump.specs.ThreadName.{IsThreadName, ThreadNameFits, thread_name_seen};
 
-use crate::fault::ReadFault;
 use crate::fits::{Fitting, name_fits};
 use crate::given::{Given, name_size, unit_bytes};
-use crate::reader::Reader;
-use crate::row::{RecordPlace, Row};
+use crate::record_parts::RecordParts;
+use crate::row::Row;
 use crate::view::{Fields, PartSize};
-use mdmp_lister::Item;
-use mdmp_source::Store;
 use mdmp_wire::{AnyRecord, ThreadNameRecord, Units};
 use std::alloc::Allocator;
 
@@ -34,37 +29,20 @@ impl<A: Allocator> Fitting for ThreadName<A> {
     }
 }
 
-impl<S: Store + Drop, A: Allocator + Copy> Row<S, A> for ThreadName<A> {
-    type Fields = ThreadNameRecord;
-
+impl<A: Allocator + Copy> Row<A> for ThreadName<A> {
     ghost kind = { kinds.ThreadNames };
-
-    ghost told = { thread_name_told };
-
-    ghost steps = { λ x. [] };
 
     ghost IsAt = { λ file at k. IsThreadName file };
 
-    fn find(item: &Item<'_>) -> Option<ThreadNameRecord> {
-        match item {
-            Item::ThreadName(thread) => Some(thread.fields),
-            _ => None,
-        }
-    }
-
-    fn read(
-        reader: &mut Reader<S, A>,
-        place: RecordPlace,
-        fields: ThreadNameRecord,
-        name: &mut Option<Units<A>>,
-    ) -> Result<Self, ReadFault> {
-        Ok(ThreadName {
-            thread_id: fields.thread_id,
-            name: name.take(),
+    fn of(wire: AnyRecord, parts: &mut RecordParts<A>) -> Option<Self> {
+        let AnyRecord::ThreadName(thread) = wire else {
+            return None;
+        };
+        Some(ThreadName {
+            thread_id: thread.thread_id,
+            name: parts.name.take(),
         })
     }
-
-    ghost tells = { thread_name_tells };
 }
 
 impl<A: Allocator> Given for ThreadName<A> {

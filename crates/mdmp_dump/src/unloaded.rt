@@ -1,17 +1,12 @@
 //! An unloaded module of a dump.
-ghost use Rattle.std.specs.Prelude.{[]};
 ghost use Rattle.mdmp_lister.specs.declared.kind.StreamKind.TheVariants as kinds;
-ghost use Rattle.mdmp_dump.specs.Unloaded.{IsUnloaded, UnloadedFits, unloaded_seen, unloaded_told};
-ghost use Rattle.mdmp_dump.specs.TellingLaws.{unloaded_tells};
+ghost use Rattle.mdmp_dump.specs.Unloaded.{IsUnloaded, UnloadedFits, unloaded_seen};
 
-use crate::fault::ReadFault;
 use crate::fits::{Fitting, name_fits};
 use crate::given::{Given, name_size, unit_bytes};
-use crate::reader::Reader;
-use crate::row::{RecordPlace, Row};
+use crate::record_parts::RecordParts;
+use crate::row::Row;
 use crate::view::{Fields, PartSize};
-use mdmp_lister::Item;
-use mdmp_source::Store;
 use mdmp_wire::{AnyRecord, Units, UnloadedRecord};
 use std::alloc::Allocator;
 
@@ -43,40 +38,23 @@ impl<A: Allocator> Fitting for Unloaded<A> {
     }
 }
 
-impl<S: Store + Drop, A: Allocator + Copy> Row<S, A> for Unloaded<A> {
-    type Fields = UnloadedRecord;
-
+impl<A: Allocator + Copy> Row<A> for Unloaded<A> {
     ghost kind = { kinds.Unloaded };
-
-    ghost told = { unloaded_told };
-
-    ghost steps = { λ x. [] };
 
     ghost IsAt = { λ file at k. IsUnloaded file };
 
-    fn find(item: &Item<'_>) -> Option<UnloadedRecord> {
-        match item {
-            Item::Unloaded(module) => Some(module.fields),
-            _ => None,
-        }
-    }
-
-    fn read(
-        reader: &mut Reader<S, A>,
-        place: RecordPlace,
-        fields: UnloadedRecord,
-        name: &mut Option<Units<A>>,
-    ) -> Result<Self, ReadFault> {
-        Ok(Unloaded {
-            base_of_image: fields.base_of_image,
-            size_of_image: fields.size_of_image,
-            checksum: fields.checksum,
-            time_date_stamp: fields.time_date_stamp,
-            name: name.take(),
+    fn of(wire: AnyRecord, parts: &mut RecordParts<A>) -> Option<Self> {
+        let AnyRecord::Unloaded(module) = wire else {
+            return None;
+        };
+        Some(Unloaded {
+            base_of_image: module.base_of_image,
+            size_of_image: module.size_of_image,
+            checksum: module.checksum,
+            time_date_stamp: module.time_date_stamp,
+            name: parts.name.take(),
         })
     }
-
-    ghost tells = { unloaded_tells };
 }
 
 impl<A: Allocator> Given for Unloaded<A> {

@@ -67,7 +67,7 @@ returns-in_ok-exception-in-6-clause-of_file g c =
     let cases = rw has.1.0 at c.map.ensures.cases in
     let same : c.map.result ≡ Some (streams.Exception has.0) = search rules in
     (streams.Exception has.0, (same, record { type_is = type; stands = has.1.1 })))
-    (λ F limit x xs known left kind. r.ensures.of_file F limit x xs known left kind (one_single F x kinds.Exception refl))
+    (λ F limit x xs known left kind current. r.ensures.of_file F limit x xs known left kind current (one_single F x kinds.Exception refl))
 
 pub returns-in_err-exception-in-6-clause-of_file : goal.returns-in_err-exception-in-6-clause-of_file
 returns-in_err-exception-in-6-clause-of_file g c =
@@ -75,7 +75,7 @@ returns-in_err-exception-in-6-clause-of_file g c =
     let is = refused_by c.from_residual-in_err-exception-in-6.result fault c.from_residual-in_err-exception-in-6.ensures.1 in
     rw is (stream_refused c.args.reader.now c.single.new.self c.args.item 6 c.in-6.is (λ size e at. refl) kinds.Exception refl
     (λ F at row. (one : _) × ((row ≡ Some one) × HasRecords F at kinds.Exception (λ k. IsException F) (one ∷ []))) fault
-    (λ F limit x xs known left kind. c.in_err-exception-in-6.ensures.of_file F limit x xs known left kind (one_single F x kinds.Exception refl)))
+    (λ F limit x xs known left kind current. c.in_err-exception-in-6.ensures.of_file F limit x xs known left kind current (one_single F x kinds.Exception refl)))
 
 pub returns-in_ok-system-in-7-clause-of_file : goal.returns-in_ok-system-in-7-clause-of_file
 returns-in_ok-system-in-7-clause-of_file g c =
@@ -86,7 +86,7 @@ returns-in_ok-system-in-7-clause-of_file g c =
     let cases = rw has.1.0 at c.map-in-7.ensures.cases in
     let same : c.map-in-7.result ≡ Some (streams.System has.0) = search rules in
     (streams.System has.0, (same, record { type_is = type; stands = has.1.1 })))
-    (λ F limit x xs known left kind. r.ensures.of_file F limit x xs known left kind (one_single F x kinds.System refl))
+    (λ F limit x xs known left kind current. r.ensures.of_file F limit x xs known left kind current (one_single F x kinds.System refl))
 
 pub returns-in_err-system-in-7-clause-of_file : goal.returns-in_err-system-in-7-clause-of_file
 returns-in_err-system-in-7-clause-of_file g c =
@@ -94,7 +94,7 @@ returns-in_err-system-in-7-clause-of_file g c =
     let is = refused_by c.from_residual-in_err-system-in-7.result fault c.from_residual-in_err-system-in-7.ensures.1 in
     rw is (stream_refused c.args.reader.now c.single-in-7.new.self c.args.item 7 c.in-7.is (λ size e at. refl) kinds.System refl
     (λ F at row. (one : _) × ((row ≡ Some one) × HasRecords F at kinds.System (λ k. IsSystem F) (one ∷ []))) fault
-    (λ F limit x xs known left kind. c.in_err-system-in-7.ensures.of_file F limit x xs known left kind (one_single F x kinds.System refl)))
+    (λ F limit x xs known left kind current. c.in_err-system-in-7.ensures.of_file F limit x xs known left kind current (one_single F x kinds.System refl)))
 
 pub returns-in_ok-next-in-0-clause-of_file : goal.returns-in_ok-next-in-0-clause-of_file
 returns-in_ok-next-in-0-clause-of_file g c =

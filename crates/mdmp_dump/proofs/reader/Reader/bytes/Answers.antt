@@ -1,7 +1,8 @@
-use Rattle.std.proofs.Common.{◌≡◌, ◌∙◌, ◌≤◌, length, arith, refl, sym}
-use Rattle.mdmp_dump.proofs.Budget.{array_is, Fetches-none, Fetches-read, inside_is, taken-all, take-refused, take-taken}
+use Rattle.std.proofs.Common.{◌≡◌, ◌∙◌, ◌≤◌, ◌-◌, ℕ, ap, length, arith, refl, sym}
+use Rattle.mdmp_dump.proofs.Budget.{array_is, Fetches-none, Fetches-read, inside_is, none-bytes, taken-all, take-refused, take-taken}
 use Rattle.mdmp_dump.proofs.Keeping.{keeps_none, keeps_taken, keeps_till, keeps_untaken}
-use Rattle.mdmp_dump.proofs.Taking.{Fetches_only, Takes_memory}
+use Rattle.mdmp_dump.specs.Refusal.{first_refusal}
+use Rattle.mdmp_dump.proofs.Taking.{FetchesSome_none, Fetches_only, Takes_memory}
 use Rattle.mdmp_dump.proofs.reader.Reader.bytes.Goals as goal
 
 pub returns-then-size-self-clause-takes : goal.returns-then-size-self-clause-takes
@@ -11,6 +12,23 @@ returns-then-size-self-clause-takes g c = record {
   settles = λ rest last own. take-refused c.args.self.now.left c.args.place.entry c.args.place.index c.args.size rest last c.if-size-self.true;
   keeps = keeps_till c.args.self.now c.args.self.now _ tt (keeps_none c.args.self.now);
 }
+
+pub returns-then-size-eq0-clause-takes : goal.returns-then-size-eq0-clause-takes
+returns-then-size-eq0-clause-takes g c =
+    let left = c.args.self.now.left in
+    let none : left - c.args.size ≡ left = omega (arith, c.if-size-eq0.true) in
+    record {
+      same = refl;
+      fetches = Fetches_only _ c.args.self.now.lister.source _ (FetchesSome_none c.args.self.now.lister.source);
+      settles = λ rest last.
+          take-taken left c.args.place.entry c.args.place.index c.args.size rest last (omega (arith, c.if-size-self.false))
+          ∙ ap (λ (n : ℕ). first_refusal n 0 rest last) none;
+      keeps = keeps_none c.args.self.now;
+    }
+
+pub returns-then-size-eq0-clause-of_file : goal.returns-then-size-eq0-clause-of_file
+returns-then-size-eq0-clause-of_file g c = λ file known.
+    none-bytes file c.args.at c.args.size _ c.if-size-eq0.true (c.new-then-size-eq0.ensures ∙ c.new.ensures.items)
 
 pub returns-clause-takes : goal.returns-clause-takes
 returns-clause-takes g c =
@@ -37,7 +55,7 @@ returns-in-Err-read_part-clause-takes g c =
       same = reads.same;
       fetches = Fetches-read _ fault c.args.self.now.lister.source _ reads.fetches reads.told (λ file good. let no = reads.good file good in cc);
       settles = λ rest last own. absurd (own tt);
-      keeps = keeps_untaken c.args.self.now _ c.args.size reads.same (rw len at reads.aside) reads.fetches fits _ tt;
+      keeps = keeps_untaken c.args.self.now _ c.args.size reads.same (rw len at reads.aside) reads.fetches fits _ (omega (arith, fits, c.if-size-eq0.false));
     }
 
 pub returns-clause-of_file : goal.returns-clause-of_file
@@ -46,7 +64,7 @@ returns-clause-of_file g c = λ file known.
     let same = c.in-Ok-read_part.ensures.bytes file known in
     let all = taken-all c.read_part.new.out c.in-Ok.bytes.items c.in-Ok.bytes.len (omega (arith, len, c.in-Ok.ensures.len)) in
     record {
-      len = rw (c.new.ensures, all) len;
+      len = rw (c.new-2.ensures, all) len;
       inside = inside_is file c.args.at c.args.size _ c.requires.inside (rw known at c.requires.sized);
-      same = array_is file c.args.at c.args.size ∙ sym (rw len at same) ∙ sym (c.new.ensures ∙ all);
+      same = array_is file c.args.at c.args.size ∙ sym (rw len at same) ∙ sym (c.new-2.ensures ∙ all);
     }

@@ -1,4 +1,5 @@
-use Rattle.std.proofs.Common.{◌≡◌, ◌∙◌, ◌+◌, ◌∷◌, [], ◌++◌, ℕ, length, length-append, Some, arith, subst, sym}
+use Rattle.std.proofs.Common.{◌≡◌, ◌∙◌, ◌+◌, ◌∷◌, [], ◌++◌, ℕ, length, length-append, Some, ap, arith, subst, sym}
+use Rattle.mdmp_wire.specs.declared.entry.Entry.{Entry}
 use Rattle.mdmp_dump.specs.Left.{left_from}
 use Rattle.mdmp_dump.proofs.Keeping.{keeps_err, keeps_memory, keeps_then}
 use Rattle.mdmp_dump.proofs.Settled.{rows-all, rows-more}
@@ -20,13 +21,14 @@ loop-rows-preserved g c =
     let pushed : c.push_reserved.new.self.items ≡ rows ++ (row ∷ []) = rw c.reserve_exact.ensures.items at c.push_reserved.ensures.items in
     let len : length rows + 1 ≡ length c.push_reserved.new.self.items = rw pushed (sym (length-append rows (row ∷ []))) in
     record {
-      going = going.0;
+      going = going.0.0;
+      current = going.1 ∙ before.current;
       fetches = FetchesSome_then c.args.self.now.lister.source c.loop-rows.self.lister.source c.next.new.self.lister.source before.fetches c.in_ok-row.ensures.fetches.fetches;
       keeps = keeps_then c.args.self.now c.loop-rows.self c.next.new.self before.keeps c.in_ok-row.ensures.keeps;
-      rests = omega (arith, before.rests, going.1);
-      of_file = λ file limit x xs known left kind.
-          let so_far = before.of_file file limit x xs known left kind in
-          let given = rw c.in-Row.is at (c.in_ok-row.ensures.of_file file limit x (length rows) xs (before.fetches.fetches.same_content ∙ known) so_far.0 kind) in (
+      rests = omega (arith, before.rests, going.0.1);
+      of_file = λ file limit x xs known left kind current.
+          let so_far = before.of_file file limit x xs known left kind current in
+          let given = rw c.in-Row.is at (c.in_ok-row.ensures.of_file file limit x (length rows) xs (before.fetches.fetches.same_content ∙ known) so_far.0 kind (ap (λ (e : Entry). e.stream_type) before.current ∙ current)) in (
             subst (λ (n : ℕ). c.next.new.self.lister.left ≡ Some (left_from file limit x n xs)) len given.0.1,
             (rw pushed (rows-more file x g.T.Row.kind (g.T.Row.IsAt file x.entry.location.rva) rows row so_far.1.0 given.0.0), so_far.1.1 ∙ given.1),
           );
@@ -42,11 +44,11 @@ returns-in-Behind-clause-fetches g c =
     fetches_ok c.args.self.now.lister.source c.loop-rows.self.lister.source c.next.new.self.lister.source c.loop-rows.invariant.fetches _ c.in_ok-row.ensures.fetches.fetches
 
 pub returns-in-Behind-clause-of_file : goal.returns-in-Behind-clause-of_file
-returns-in-Behind-clause-of_file g c = λ file limit x xs known left kind.
+returns-in-Behind-clause-of_file g c = λ file limit x xs known left kind current.
     let before = c.loop-rows.invariant in
     let rows = c.loop-rows.rows.items in
-    let so_far = before.of_file file limit x xs known left kind in
-    let given = rw c.in-Behind.is at (c.in_ok-row.ensures.of_file file limit x (length rows) xs (before.fetches.fetches.same_content ∙ known) so_far.0 kind) in
+    let so_far = before.of_file file limit x xs known left kind current in
+    let given = rw c.in-Behind.is at (c.in_ok-row.ensures.of_file file limit x (length rows) xs (before.fetches.fetches.same_content ∙ known) so_far.0 kind (ap (λ (e : Entry). e.stream_type) before.current ∙ current)) in
     record {
       value = (rw c.new.ensures (rows-all file x g.T.Row.kind (g.T.Row.IsAt file x.entry.location.rva) rows kind so_far.1.0 given.0.0), given.0.1);
       settles = so_far.1.1 ∙ given.1;
@@ -57,9 +59,9 @@ returns-in_err-row-clause-of_file g c =
     let before = c.loop-rows.invariant in
     let fault = c.in_err-row.field-0.0 in
     let is = refused_by c.from_residual.result fault c.from_residual.ensures.1 in
-    rw is (λ file limit x xs known left kind.
-    let so_far = before.of_file file limit x xs known left kind in
-    let given = c.in_err-row.ensures.of_file file limit x (length c.loop-rows.rows.items) xs (before.fetches.fetches.same_content ∙ known) so_far.0 kind in
+    rw is (λ file limit x xs known left kind current.
+    let so_far = before.of_file file limit x xs known left kind current in
+    let given = c.in_err-row.ensures.of_file file limit x (length c.loop-rows.rows.items) xs (before.fetches.fetches.same_content ∙ known) so_far.0 kind (ap (λ (e : Entry). e.stream_type) before.current ∙ current) in
     record { value = tt; settles = λ own. so_far.1.1 ∙ given.1 own })
 
 pub returns-in_err-row-clause-keeps : goal.returns-in_err-row-clause-keeps

@@ -11,10 +11,10 @@ returns-in_err-behind-in-Row-clause-fetches g c =
     rw is (fetches_err c.args.self.now.lister.source c.next.new.self.lister.source c.behind.new.self.lister.source c.in_ok-row.ensures.fetches.fetches fault c.in_err-behind-in-Row.ensures.fetches)
 
 pub returns-in_err-behind-in-Row-clause-of_file : goal.returns-in_err-behind-in-Row-clause-of_file
-returns-in_err-behind-in-Row-clause-of_file g c = λ file limit x xs known left kind one.
+returns-in_err-behind-in-Row-clause-of_file g c = λ file limit x xs known left kind current one.
     let fault = c.in_err-behind-in-Row.field-0.0 in
     let is = refused_by c.from_residual-in_err-behind-in-Row.result fault c.from_residual-in_err-behind-in-Row.ensures.1 in
-    let given = rw c.in-Row.is at (c.in_ok-row.ensures.of_file file limit x 0 xs known left kind) in
+    let given = rw c.in-Row.is at (c.in_ok-row.ensures.of_file file limit x 0 xs known left kind current) in
     let first = no-row-after-one file limit x xs g.T.Row.kind (g.T.Row.IsAt file x.entry.location.rva) kind one c.in-Row.row given.0.0 in
     let behind = c.in_err-behind-in-Row.ensures.gives file _ (c.in_ok-row.ensures.fetches.fetches.fetches.same_content ∙ known) given.0.1 first in
     rw is (record { value = tt; settles = λ own. given.1 ∙ behind.1 own })
@@ -24,8 +24,8 @@ returns-in_ok-behind-in-Row-clause-fetches g c =
     fetches_ok c.args.self.now.lister.source c.next.new.self.lister.source c.behind.new.self.lister.source c.in_ok-row.ensures.fetches.fetches _ c.in_ok-behind-in-Row.ensures.fetches.fetches
 
 pub returns-in_ok-behind-in-Row-clause-of_file : goal.returns-in_ok-behind-in-Row-clause-of_file
-returns-in_ok-behind-in-Row-clause-of_file g c = λ file limit x xs known left kind one.
-    let given = rw c.in-Row.is at (c.in_ok-row.ensures.of_file file limit x 0 xs known left kind) in
+returns-in_ok-behind-in-Row-clause-of_file g c = λ file limit x xs known left kind current one.
+    let given = rw c.in-Row.is at (c.in_ok-row.ensures.of_file file limit x 0 xs known left kind current) in
     let first = no-row-after-one file limit x xs g.T.Row.kind (g.T.Row.IsAt file x.entry.location.rva) kind one c.in-Row.row given.0.0 in
     let behind = c.in_ok-behind-in-Row.ensures.gives file _ (c.in_ok-row.ensures.fetches.fetches.fetches.same_content ∙ known) given.0.1 first in
     let all = behind-given file limit x 1 xs c.in_ok-behind-in-Row.field-0 c.behind.new.self.lister.left behind.0 in
@@ -60,4 +60,4 @@ pub returns-in_err-row-clause-of_file : goal.returns-in_err-row-clause-of_file
 returns-in_err-row-clause-of_file g c =
     let fault = c.in_err-row.field-0.0 in
     let is = refused_by c.from_residual.result fault c.from_residual.ensures.1 in
-    rw is (λ file limit x xs known left kind one. record { value = tt; settles = λ own. (c.in_err-row.ensures.of_file file limit x 0 xs known left kind).1 own })
+    rw is (λ file limit x xs known left kind current one. record { value = tt; settles = λ own. (c.in_err-row.ensures.of_file file limit x 0 xs known left kind current).1 own })
