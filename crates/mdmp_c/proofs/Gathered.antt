@@ -17,7 +17,7 @@ use Rattle.mdmp_lister.specs.Sink.{names_of_all}
 use Rattle.mdmp_lister.proofs.Handing.{rose_exactly}
 use Rattle.mdmp_lister.proofs.Naming.{names_of-plain}
 use Rattle.mdmp_source.specs.Count.{raised}
-use Rattle.mdmp_c.specs.Table.{Collects, collects_all, collects_some}
+use Rattle.mdmp_c.specs.Table.{Collects, PutsOne, collects_all, collects_some}
 use Rattle.mdmp_c.proofs.Stopping.{of_budget}
 
 pub put_front-nothing : {X : Type 0} (before : List X) → put_front [] before ≡ before
@@ -88,7 +88,7 @@ module _ {T : Type 0} (row : Item → Option T) where
   length-more (y ∷ ys) x = let more = length-more ys x in omega (arith, more)
 
   -- the row of the next item is put behind the others
-  pub HasCollected-taken : (run left : Run) (count next : ℕ) (before now after : List T) (item : Item) (x : T) → HasCollected row run left count before now
+  HasCollected-taken : (run left : Run) (count next : ℕ) (before now after : List T) (item : Item) (x : T) → HasCollected row run left count before now
       → slice_get left.items 0 ≡ Some item → row item ≡ Some x → next ≡ min (count + 1) (2 ^ 64 - 1)
       → ((rows : List T) (b : List T) → now ≡ put_front rows b → count ≡ told_count (length rows) → after ≡ put_front (rows ++ x ∷ []) b)
       → HasCollected row run (tail left) next before after
@@ -104,7 +104,7 @@ module _ {T : Type 0} (row : Item → Option T) where
   }
 
   -- an item that has none is passed over
-  pub HasCollected-passed : (run left : Run) (count : ℕ) (before now : List T) (item : Item) → HasCollected row run left count before now
+  HasCollected-passed : (run left : Run) (count : ℕ) (before now : List T) (item : Item) → HasCollected row run left count before now
       → slice_get left.items 0 ≡ Some item → row item ≡ None → HasCollected row run (tail left) count before now
   HasCollected-passed run left count before now item h first is = record {
     given = h.given ++ item ∷ [];
@@ -113,6 +113,12 @@ module _ {T : Type 0} (row : Item → Option T) where
     count_is = h.count_is ∙ ap (λ (xs : List T). told_count (length xs)) (sym (row_passed h.given item is));
     out = h.out ∙ ap (λ (xs : List T). put_front xs before) (sym (row_passed h.given item is));
   }
+
+  -- either way
+  pub HasCollected-more : (run left : Run) (count next : ℕ) (before now after : List T) (item : Item) (x : Option T) → HasCollected row run left count before now
+      → slice_get left.items 0 ≡ Some item → row item ≡ x → PutsOne x count now next after → HasCollected row run (tail left) next before after
+  HasCollected-more run left count next before now after item (Some x) h first is puts = HasCollected-taken run left count next before now after item x h first is puts.0 puts.1
+  HasCollected-more run left count next before now after item None h first is puts = rw (puts.0, puts.1) (HasCollected-passed run left count before now item h first is)
 
   -- nothing is left, but this fault or none
   pub Collects-end : (MayEnd : ListFault → Type 0) (AreGivenSo : List Item → Type 0) (run left : Run) (count : ℕ) (fault : Option ListFault) (before now : List T) → HasCollected row run left count before now

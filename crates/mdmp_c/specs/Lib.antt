@@ -12,6 +12,7 @@ pub mod Texts
 pub mod ToolFault
 pub mod Names
 pub mod NextRead
+pub mod GivenRows
 pub mod Copies
 pub mod Symbols
 pub mod Verdicts

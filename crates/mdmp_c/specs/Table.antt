@@ -1,5 +1,5 @@
 -- What the calls give that give an array.
-use Rattle.std.specs.Prelude.{◌≡◌, ◌≤◌, ◌+◌, ◌++◌, ℕ, IfSome, IsTrue, List, [], Option, Some, None, filter_map, length, max}
+use Rattle.std.specs.Prelude.{◌≡◌, ◌≤◌, ◌+◌, ◌-◌, ◌^◌, ◌++◌, ◌∷◌, ℕ, IfSome, IsTrue, List, [], Option, Some, None, filter_map, length, max, min}
 use Rattle.mdmp_source.specs.Range.{IsInside}
 use Rattle.mdmp_c.specs.declared.fault.PlainFault.{PlainFault}
 use Rattle.mdmp_c.specs.Fault.{list_told, told_unless}
@@ -29,6 +29,13 @@ pub record IsTable {T : Type 0} (row : Item → Option T) (F : List ℕ) (choice
 pub record PutsRows {T : Type 0} (row : Item → Option T) (items : List Item) (count : ℕ) (before after : List T) : Type 0 where
   pub count_is : count ≡ told_count (length (filter_map row items))
   pub out : after ≡ put_front (filter_map row items) before
+
+module _ {T : Type 0} where
+  -- a row, if there is one, was put behind those that an array has at its front, and counted
+  abbrev pub PutsOne : Option T → ℕ → List T → ℕ → List T → Type 0
+  PutsOne None count before count_new after = (count_new ≡ count) × (after ≡ before)
+  PutsOne (Some row) count before count_new after =
+      (count_new ≡ min (count + 1) (2 ^ 64 - 1)) × ((rows start : List T) → before ≡ put_front rows start → count ≡ told_count (length rows) → after ≡ put_front (rows ++ row ∷ []) start)
 
 -- a lister v did not read these bytes, which came next, since with them it would have read more than its budget; without them it has not.
 -- With them it would have read at most so many bytes, if that is said

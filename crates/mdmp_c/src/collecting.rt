@@ -2,7 +2,7 @@
 ghost use Rattle.std.specs.Prelude.{◌≡◌, ◌+◌, ◌∷◌, ◌++◌, [], None, Some, ℕ, List, length};
 ghost use Rattle.mdmp_c.specs.Giving.{put_front, told_count};
 ghost use Rattle.mdmp_c.specs.Limits.{most_read};
-ghost use Rattle.mdmp_c.specs.Table.{Collects, EndsListAt};
+ghost use Rattle.mdmp_c.specs.Table.{Collects, EndsListAt, PutsOne};
 ghost use Rattle.mdmp_lister.specs.Format.Listing.{Run};
 ghost use Rattle.mdmp_lister.specs.Requested.{GivesByRequests};
 ghost use Rattle.mdmp_lister.specs.Sink.{names_of_all};
@@ -34,12 +34,7 @@ pub(crate) fn collect<T: PlainRow, S: Store + Drop, A: Allocator + Copy>(
     loop {
         match lister.next() {
             Ok(None) => return Collected { count, fault: None },
-            Ok(Some(item)) => {
-                if let Some(row) = T::of(&item) {
-                    set_row(out, count, row);
-                    count = count.saturating_add(1);
-                }
-            }
+            Ok(Some(item)) => count = take_row(out, count, T::of(&item)),
             Err(fault) => {
                 // The proof learns here within which bounds the lister stayed.
                 let _counts = lister.counts();
@@ -49,6 +44,19 @@ pub(crate) fn collect<T: PlainRow, S: Store + Drop, A: Allocator + Copy>(
                 };
             }
         }
+    }
+}
+
+/// Puts a row, if there is one, behind those that an array has at its front, and returns how many there are.
+fn take_row<T: Copy>(out: &mut [T], count: u64, row: Option<T>) -> u64
+    ensures { PutsOne row count out.old result out.new }
+{
+    match row {
+        Some(row) => {
+            set_row(out, count, row);
+            count.saturating_add(1)
+        }
+        None => count,
     }
 }
 

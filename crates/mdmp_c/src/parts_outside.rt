@@ -5,16 +5,16 @@ ghost use Rattle.mdmp_c.specs.Limits.{AreLimits, EndsChecking, KeepsMemory};
 ghost use Rattle.mdmp_c.specs.PartsOutside.{ArePartsOutside};
 ghost use Rattle.mdmp_lister.specs.declared.choice.Choice.TheVariants.{All};
 
-use crate::fault::{PlainFault, of_kind, open_fault};
-use crate::giving::refuse;
-use crate::kinds;
-use crate::limits::{PlainLimits, limits_of};
-use crate::outside_rows::lost_rows;
-use crate::table::tell;
-use crate::verdicts::ending_told;
-use mdmp_lister::{Choice, Lister};
-use mdmp_source::{MemoryStore, Source};
-use std::alloc::Global;
+use crate::collecting::set_row;
+use crate::fault::PlainFault;
+use crate::given_rows::{FaultRows, GivenRows, give_checked};
+use crate::limits::PlainLimits;
+use crate::summary_rows::outside_fault;
+use mdmp_engines::bad_in;
+use mdmp_lister::{Lister, RunFault, Stopped};
+use mdmp_source::Store;
+use mdmp_summary::{CheckRow, CheckRowSink, check_parts_into};
+use std::alloc::{Allocator, Global};
 
 /// Gives the parts of records that lie outside the file, as `mdmp check --parts` prints them: of each entry its records
 /// up to its own error. As many as `out` has room for, and in `count` how many there are. `fault` says why the file
@@ -31,22 +31,50 @@ pub extern "C" fn mdmp_parts_outside_(
 ) -> u32
     ensures { Ends (ArePartsOutside file.now limits.now.name) (AreLimits limits.now) (KeepsMemory limits.now file.now All) (EndsChecking limits.now file.now) bad_limits result count.new fault.new out.old out.new }
 {
-    let Some(limits) = limits_of(limits) else {
-        return refuse(of_kind(kinds::BAD_LIMITS), count, fault);
-    };
-    let source = Source::new(MemoryStore::new(file));
-    let mut lister = match Lister::open(alloc, source, limits, Choice::All) {
-        Ok(lister) => lister,
-        Err(refused) => return refuse(open_fault(refused.fault), count, fault),
-    };
-    // The prover needs that a directory has fewer than 2^32 entries: so no count is at its greatest.
-    let _entries = lister.header().number_of_streams;
-    let lost = lost_rows(&mut lister, out);
-    tell(
-        lost.count,
-        ending_told(lost.bad, lost.fault),
-        out.len(),
-        count,
-        fault,
-    )
+    give_checked(alloc, file, limits, GivenParts, out, count, fault)
+}
+
+/// The parts outside the file, which are given, and the results of checking all entries, which are counted.
+#[derive(Clone, Copy)]
+struct GivenParts;
+
+impl GivenRows for GivenParts {
+    ghost use Rattle.mdmp_c.specs.PartsOutside.{outside_given};
+    ghost use Rattle.mdmp_engines.specs.CheckParts.{row_count};
+    ghost use Rattle.mdmp_summary.specs.CheckRows.{check_rows};
+
+    type Row = CheckRow;
+
+    ghost rows_of = { check_rows };
+
+    ghost given = { outside_given };
+
+    ghost is_bad = { row_count };
+
+    fn check_into<S: Store + Drop, A: Allocator + Copy>(
+        self,
+        lister: &mut Lister<S, A>,
+        sink: &mut FaultRows<'_>,
+    ) -> Result<(), RunFault> {
+        check_parts_into(lister, sink)
+    }
+}
+
+impl<'a> CheckRowSink for FaultRows<'a> {
+    ghost use Rattle.std.specs.Prelude.{◌≡◌};
+    ghost use Rattle.mdmp_c.specs.GivenRows.{TakesRow};
+    ghost use Rattle.mdmp_c.specs.PartsOutside.{outside_given};
+    ghost use Rattle.mdmp_engines.specs.CheckParts.{row_count};
+
+    ghost step = { λ old row result new. (new.out.ghost_name ≡ old.out.ghost_name)
+        × TakesRow outside_given row_count old.out.now old.count old.bad row result new.out.now new.count new.bad };
+
+    fn take(&mut self, row: &CheckRow) -> Result<(), Stopped> {
+        if let CheckRow::Part(part) = row {
+            set_row(self.out, self.count, outside_fault(*part));
+            self.count = self.count.saturating_add(1);
+        }
+        self.bad = self.bad.saturating_add(bad_in(row));
+        Ok(())
+    }
 }

@@ -2,19 +2,16 @@
 ghost use Rattle.std.specs.Prelude.{◌≡◌};
 ghost use Rattle.mdmp_c.specs.Giving.{Ends, bad_limits};
 ghost use Rattle.mdmp_c.specs.Limits.{AreLimits, EndsChecking, KeepsMemory};
-ghost use Rattle.mdmp_c.specs.Verdicts.{AreVerdicts, ending_told};
+ghost use Rattle.mdmp_c.specs.Verdicts.{AreVerdicts, verdict_row};
 ghost use Rattle.mdmp_lister.specs.declared.choice.Choice.TheVariants.{All};
 
-use crate::fault::{PlainFault, of_kind, open_fault, plain_list_fault};
-use crate::giving::refuse;
-use crate::kinds;
-use crate::limits::{PlainLimits, limits_of};
-use crate::table::tell;
-use crate::tool_fault::check_answer;
-use crate::verdict_rows::judge;
-use mdmp_lister::{Choice, ListFault, Lister};
-use mdmp_source::{MemoryStore, Source};
-use std::alloc::Global;
+use crate::collecting::set_row;
+use crate::fault::{NO_FAULT, PlainFault, plain_list_fault};
+use crate::given_rows::{FaultRows, GivenRows, give_checked};
+use crate::limits::PlainLimits;
+use mdmp_lister::{Lister, RunFault, Stopped, Verdict, VerdictSink};
+use mdmp_source::Store;
+use std::alloc::{Allocator, Global};
 
 /// Gives the result of checking each entry of a file: its first error, or none and the entry's number. As many
 /// as `out` has room for, and in `count` how many there are. `fault` says why the file can't be opened,
@@ -31,32 +28,64 @@ pub extern "C" fn mdmp_verdicts_(
 ) -> u32
     ensures { Ends (AreVerdicts file.now limits.now.name) (AreLimits limits.now) (KeepsMemory limits.now file.now All) (EndsChecking limits.now file.now) bad_limits result count.new fault.new out.old out.new }
 {
-    let Some(limits) = limits_of(limits) else {
-        return refuse(of_kind(kinds::BAD_LIMITS), count, fault);
-    };
-    let source = Source::new(MemoryStore::new(file));
-    let mut lister = match Lister::open(alloc, source, limits, Choice::All) {
-        Ok(lister) => lister,
-        Err(refused) => return refuse(open_fault(refused.fault), count, fault),
-    };
-    // The prover needs that a directory has fewer than 2^32 entries: so no count is at its greatest.
-    let _entries = lister.header().number_of_streams;
-    let judged = judge(&mut lister, out);
-    tell(
-        judged.count,
-        ending_told(judged.bad, judged.fault),
-        out.len(),
-        count,
-        fault,
-    )
+    give_checked(alloc, file, limits, GivenVerdicts, out, count, fault)
 }
 
-/// What is told where verdicts end so. The store is memory, which does not fail, so a fault is the budget's.
-pub(crate) fn ending_told(bad: u64, fault: Option<ListFault>) -> PlainFault
-    ensures { result ≡ ending_told bad fault }
+/// The results of checking all entries, each of which is given.
+#[derive(Clone, Copy)]
+struct GivenVerdicts;
+
+impl GivenRows for GivenVerdicts {
+    ghost use Rattle.mdmp_c.specs.Verdicts.{verdict_given};
+    ghost use Rattle.mdmp_engines.specs.CheckText.{verdict_count};
+    ghost use Rattle.mdmp_lister.specs.Format.Listing.{verdicts};
+    ghost use Rattle.mdmp_lister.specs.declared.choice.Choice.TheVariants.{All};
+
+    type Row = Verdict;
+
+    ghost rows_of = { λ file limit. verdicts file All limit };
+
+    ghost given = { verdict_given };
+
+    ghost is_bad = { verdict_count };
+
+    fn check_into<S: Store + Drop, A: Allocator + Copy>(
+        self,
+        lister: &mut Lister<S, A>,
+        sink: &mut FaultRows<'_>,
+    ) -> Result<(), RunFault> {
+        lister.check_into(sink)
+    }
+}
+
+impl<'a> VerdictSink for FaultRows<'a> {
+    ghost use Rattle.std.specs.Prelude.{◌≡◌};
+    ghost use Rattle.mdmp_c.specs.GivenRows.{TakesRow};
+    ghost use Rattle.mdmp_c.specs.Verdicts.{verdict_given};
+    ghost use Rattle.mdmp_engines.specs.CheckText.{verdict_count};
+
+    ghost step = { λ old verdict result new. (new.out.ghost_name ≡ old.out.ghost_name)
+        × TakesRow verdict_given verdict_count old.out.now old.count old.bad verdict result new.out.now new.count new.bad };
+
+    fn take(&mut self, verdict: &Verdict) -> Result<(), Stopped> {
+        set_row(self.out, self.count, verdict_row(verdict));
+        self.count = self.count.saturating_add(1);
+        if verdict.fault.is_some() {
+            self.bad = self.bad.saturating_add(1);
+        }
+        Ok(())
+    }
+}
+
+/// A verdict as a plain structure: the first fault of the entry, or none, and the entry's number.
+fn verdict_row(verdict: &Verdict) -> PlainFault
+    ensures { result ≡ verdict_row verdict.now }
 {
-    match fault {
-        Some(found) => plain_list_fault(found),
-        None => check_answer(Ok(bad)),
+    match verdict.fault {
+        Some(fault) => plain_list_fault(fault),
+        None => PlainFault {
+            entry: verdict.entry,
+            ..NO_FAULT
+        },
     }
 }

@@ -3,8 +3,8 @@ use crate::commands::Shown;
 use mdmp_source::{PatchyOut, PatchyStore, Source};
 use mdmp_test_support::{MeteredHeap, limits};
 use mdmp_tool::{
-    CheckEngine, Engine, HexEngine, LINE_ROOM, Limits, LineForm, LineOut, ListEngine, TypeSet,
-    copy_and_report, print_and_report,
+    CheckEngine, Engine, EntryRows, HexEngine, LINE_ROOM, Limits, LineForm, LineOut, ListEngine,
+    TypeSet, copy_and_report, print_and_report,
 };
 use std::alloc::Global;
 use std::process::Abort;
@@ -39,7 +39,8 @@ fn check_status(
     out: &mut PatchyOut<Global>,
     err: &mut PatchyOut<Global>,
 ) -> u8 {
-    let engine = CheckEngine { form };
+    let rows = EntryRows;
+    let engine = CheckEngine { form, rows };
     engine_status(rt, alloc, heap, engine, store, limits, out, err)
 }
 

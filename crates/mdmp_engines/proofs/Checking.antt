@@ -1,85 +1,112 @@
--- A run of `check`, from its parts.
-use Rattle.std.proofs.Common.{◌≡◌, ◌∙◌, ◌≤◌, ◌<◌, ◌+◌, ◌^◌, ◌++◌, ℕ, zero, suc, List, [], ◌∷◌, Option, Some, None, ap, refl, length, map, subst, arith, inl, inr}
-use Rattle.std.specs.Prelude.{Result, Err}
+-- A run of `check`, or of `check --parts`, from its parts.
+use Rattle.std.proofs.Common.{◌≡◌, ◌∙◌, ◌≤◌, ◌<◌, ◌+◌, ◌^◌, ◌++◌, ℕ, zero, suc, List, [], ◌∷◌, Option, Some, None, ap, refl, sym, length, map, subst, arith, inl, inr}
+use Rattle.std.specs.Prelude.{IfErr, Result, Ok, Err, flat_map, sum_by}
 use Rattle.std.proofs.lemmas.List.Concat.{flat_map-append}
+use Rattle.std.proofs.lemmas.List.Sums.{sum_by-cons}
 use Rattle.mdmp_source.specs.declared.fault.SourceFault.{SourceFault}
 use Rattle.mdmp_source.specs.declared.fault.SourceFault.TheVariants.{Changed}
 use Rattle.mdmp_source.specs.Source.{SourceState}
+use Rattle.mdmp_source.specs.Store.{IsGood}
 use Rattle.mdmp_wire.specs.declared.entry.Entry.{Entry}
 use Rattle.mdmp_source.specs.Output.{OutState, PutsAll, PutsPrefix}
 use Rattle.mdmp_source.specs.OutputLaws.{PutsAll-PutsAll, PutsAll-nothing, PutsPrefix-front, PutsPrefix-last, TakesPrefix-front}
+use Rattle.mdmp_lister.specs.declared.choice.Choice.{Choice}
 use Rattle.mdmp_lister.specs.declared.choice.Choice.TheVariants.{All}
 use Rattle.mdmp_lister.specs.declared.fault.FaultKind.{FaultKind}
 use Rattle.mdmp_lister.specs.declared.fault.FaultKind.TheVariants as kinds
 use Rattle.mdmp_lister.specs.declared.fault.ListFault.{ListFault}
+use Rattle.mdmp_lister.specs.declared.sink.RunFault.{RunFault}
+use Rattle.mdmp_lister.specs.declared.sink.RunFault.TheVariants as run
 use Rattle.mdmp_lister.specs.declared.sink.Stopped.{Stopped}
 use Rattle.mdmp_lister.specs.declared.verdict.Verdict.{Verdict}
-use Rattle.mdmp_lister.specs.Fault.{IsUnobtained, IsToldByFetch, IsToldIn}
+use Rattle.mdmp_lister.specs.Check.{AreFirstVerdicts, CheckLeaves}
+use Rattle.mdmp_lister.specs.Fault.{IsOfStore, IsUnobtained, IsToldByFetch, IsToldIn}
 use Rattle.mdmp_lister.specs.Format.Listing.{Numbered, entries_from, entry_count, only_chosen, verdicts}
+use Rattle.mdmp_lister.specs.Lister.{IsRefusedIn, ListerState}
 use Rattle.mdmp_lister.specs.Sink.{Taken, TakenToStop}
+use Rattle.mdmp_summary.specs.InEntry.{EndsInEntry}
+use Rattle.mdmp_summary.proofs.InEntries.{check_ends}
 use Rattle.mdmp_dump.specs.Reading.{IsLastTold}
 use Rattle.mdmp_engines.specs.declared.fault.ToolFault.{ToolFault}
 use Rattle.mdmp_engines.specs.declared.fault.ToolFault.TheVariants.{Source, Budget}
-use Rattle.mdmp_engines.specs.CheckRuns.{TakesVerdict}
-use Rattle.mdmp_engines.specs.CheckText.{bad_count, fault_count, verdict_lines}
+use Rattle.mdmp_engines.specs.CheckRuns.{AreFirstChecked, HandsChecked, TakesLine, TellsRun}
+use Rattle.mdmp_engines.specs.CheckText.{bad_count, fault_count, verdict_count}
 use Rattle.mdmp_engines.specs.Engines.{StopsShort}
-use Rattle.mdmp_print.specs.Forms.{verdict_line_in}
 use Rattle.mdmp_engines.specs.Telling.{told_by}
 use Rattle.mdmp_print.specs.declared.form.LineForm.{LineForm}
 
 -- ---- what the sink has put, whose output, count and form are these
 
-module _ {K N : Type 0} (out : K → OutState) (bad : K → ℕ) (name : K → N) (form : K → LineForm) where
-  abbrev step : K → Verdict → Result (Unit {0}) Stopped → K → Type 0
-  step old v result new = (name new ≡ name old) × ((form new ≡ form old) × TakesVerdict (form old) (out old) (bad old) v result (out new) (bad new))
+module _ {K N R : Type 0} (line : LineForm → R → List ℕ) (count : R → ℕ) (out : K → OutState) (bad : K → ℕ) (name : K → N) (form : K → LineForm) where
+  abbrev step : K → R → Result (Unit {0}) Stopped → K → Type 0
+  step old row result new = (name new ≡ name old) × ((form new ≡ form old) × TakesLine (line (form old)) count (out old) (bad old) row result (out new) (bad new))
 
-  pub lines-taken : (vs : List Verdict) (k l : K) → Taken step k vs l → PutsAll (out k) (verdict_lines (form k) vs) (out l)
+  pub lines-taken : (rows : List R) (k l : K) → Taken step k rows l → PutsAll (out k) (flat_map (line (form k)) rows) (out l)
   lines-taken [] k l same = rw same (PutsAll-nothing (out k))
-  lines-taken (v ∷ vs) k l (m, ((same, (as_before, put)), more)) =
-      PutsAll-PutsAll (out k) (out m) (out l) (verdict_line_in (form k) v) (verdict_lines (form k) vs) put.line
-      (subst (λ (f : LineForm). PutsAll (out m) (verdict_lines f vs) (out l)) as_before (lines-taken vs m l more))
+  lines-taken (row ∷ rows) k l (m, ((same, (as_before, taken)), more)) =
+      PutsAll-PutsAll (out k) (out m) (out l) (line (form k) row) (flat_map (line (form k)) rows) taken.put
+      (subst (λ (f : LineForm). PutsAll (out m) (flat_map (line f) rows) (out l)) as_before (lines-taken rows m l more))
 
-  pub bad-taken : (vs : List Verdict) (k l : K) → Taken step k vs l → bad k + bad_count vs < 2 ^ 64 → bad l ≡ bad k + bad_count vs
-  bad-taken [] k l same few = rw same (omega arith)
-  bad-taken (v ∷ vs) k l (m, ((same, (as_before, put)), more)) few =
-      let sum : bad_count (v ∷ vs) ≡ fault_count v.fault + bad_count vs = refl in
-      let now : bad m ≡ bad k + fault_count v.fault = put.counts (omega (arith, few, sum)) in
-      let rest : bad l ≡ bad m + bad_count vs = bad-taken vs m l more (omega (arith, few, now, sum)) in
+  pub count-taken : (rows : List R) (k l : K) → Taken step k rows l → bad k + sum_by count rows < 2 ^ 64 → bad l ≡ bad k + sum_by count rows
+  count-taken [] k l same few = let none : sum_by count [] ≡ 0 = refl in rw same (omega (arith, none))
+  count-taken (row ∷ rows) k l (m, ((same, (as_before, taken)), more)) few =
+      let sum : sum_by count (row ∷ rows) ≡ count row + sum_by count rows = sum_by-cons count row rows in
+      let now : bad m ≡ bad k + count row = taken.counts (omega (arith, few, sum)) in
+      let rest : bad l ≡ bad m + sum_by count rows = count-taken rows m l more (omega (arith, few, now, sum)) in
       omega (arith, now, rest, sum)
 
-  pub lines-stopped : (vs : List Verdict) (k l : K) → TakenToStop step k vs l → PutsPrefix (out k) (verdict_lines (form k) vs) (out l)
+  pub lines-stopped : (rows : List R) (k l : K) → TakenToStop step k rows l → PutsPrefix (out k) (flat_map (line (form k)) rows) (out l)
   lines-stopped [] k l never = absurd never
-  lines-stopped (v ∷ vs) k l (inl last) = PutsPrefix-front (out k) (out l) (verdict_line_in (form k) v) (verdict_lines (form k) vs) last.1.1.1
-  lines-stopped (v ∷ vs) k l (inr (m, ((same, (as_before, put)), more))) =
-      PutsPrefix-last (out k) (out m) (out l) (verdict_line_in (form k) v) (verdict_lines (form k) vs) put.line
-      (subst (λ (f : LineForm). PutsPrefix (out m) (verdict_lines f vs) (out l)) as_before (lines-stopped vs m l more))
+  lines-stopped (row ∷ rows) k l (inl last) = PutsPrefix-front (out k) (out l) (line (form k) row) (flat_map (line (form k)) rows) last.1.1.1
+  lines-stopped (row ∷ rows) k l (inr (m, ((same, (as_before, taken)), more))) =
+      PutsPrefix-last (out k) (out m) (out l) (line (form k) row) (flat_map (line (form k)) rows) taken.put
+      (subst (λ (f : LineForm). PutsPrefix (out m) (flat_map (line f) rows) (out l)) as_before (lines-stopped rows m l more))
 
   -- it is the same output
-  pub name-taken : (vs : List Verdict) (k l : K) → Taken step k vs l → name l ≡ name k
+  pub name-taken : (rows : List R) (k l : K) → Taken step k rows l → name l ≡ name k
   name-taken [] k l same = ap name same
-  name-taken (v ∷ vs) k l (m, ((same, put), more)) = name-taken vs m l more ∙ same
+  name-taken (row ∷ rows) k l (m, ((same, taken), more)) = name-taken rows m l more ∙ same
 
-  pub name-stopped : (vs : List Verdict) (k l : K) → TakenToStop step k vs l → name l ≡ name k
+  pub name-stopped : (rows : List R) (k l : K) → TakenToStop step k rows l → name l ≡ name k
   name-stopped [] k l never = absurd never
-  name-stopped (v ∷ vs) k l (inl last) = last.1.0
-  name-stopped (v ∷ vs) k l (inr (m, ((same, put), more))) = name-stopped vs m l more ∙ same
+  name-stopped (row ∷ rows) k l (inl last) = last.1.0
+  name-stopped (row ∷ rows) k l (inr (m, ((same, taken), more))) = name-stopped rows m l more ∙ same
 
--- ---- the lines of the first verdicts are the first lines
+-- ---- the lines of the first rows are the first lines
 
-lines_split : (form : LineForm) (all vs rest : List Verdict) → all ≡ vs ++ rest → verdict_lines form all ≡ verdict_lines form vs ++ verdict_lines form rest
-lines_split form all vs rest split = ap (verdict_lines form) split ∙ flat_map-append (verdict_line_in form) vs rest
+module _ {R : Type 0} (line : R → List ℕ) (all rows rest : List R) (before after : OutState) where
+  lines_split : all ≡ rows ++ rest → flat_map line all ≡ flat_map line rows ++ flat_map line rest
+  lines_split split = ap (flat_map line) split ∙ flat_map-append line rows rest
 
-pub StopsShort-first : (form : LineForm) (all vs rest : List Verdict) (before after : OutState) → all ≡ vs ++ rest → PutsAll before (verdict_lines form vs) after
-    → StopsShort before (verdict_lines form all) after
-StopsShort-first form all vs rest before after split put = record {
-  took = rw (lines_split form all vs rest split) (TakesPrefix-front before.taken after.taken (verdict_lines form vs) (verdict_lines form rest) put.took);
-  steady = put.steady;
-}
+  pub StopsShort-first : all ≡ rows ++ rest → PutsAll before (flat_map line rows) after → StopsShort before (flat_map line all) after
+  StopsShort-first split put = record {
+    took = rw (lines_split split) (TakesPrefix-front before.taken after.taken (flat_map line rows) (flat_map line rest) put.took);
+    steady = put.steady;
+  }
 
-pub PutsPrefix-first : (form : LineForm) (all vs rest : List Verdict) (before after : OutState) → all ≡ vs ++ rest → PutsPrefix before (verdict_lines form vs) after
-    → PutsPrefix before (verdict_lines form all) after
-PutsPrefix-first form all vs rest before after split cut =
-    rw (lines_split form all vs rest split) (PutsPrefix-front before after (verdict_lines form vs) (verdict_lines form rest) cut)
+  pub PutsPrefix-first : all ≡ rows ++ rest → PutsPrefix before (flat_map line rows) after → PutsPrefix before (flat_map line all) after
+  PutsPrefix-first split cut = rw (lines_split split) (PutsPrefix-front before after (flat_map line rows) (flat_map line rest) cut)
+
+-- the first verdicts are the first rows of a check
+first_verdicts : (all vs : List Verdict) (result : Result (Unit {0}) RunFault) → AreFirstVerdicts all vs result → AreFirstChecked all vs result
+first_verdicts all vs (Ok done) first = first
+first_verdicts all vs (Err fault) first = first
+
+-- how a run told its end
+pub tells_run : (old : ListerState) (result : Result (Unit {0}) RunFault) (new : ListerState)
+    → IfErr result (λ r. (f : ListFault) → r ≡ run.At f → IsUnobtained f.kind × IsToldIn new.current f old.source new.source)
+    → ((file : List ℕ) → IsGood old.source.store file → IfErr result (λ r. (f : ListFault) → r ≡ run.At f → IsOfStore f.kind → ⊥))
+    → IfErr result (λ r. (f : ListFault) → r ≡ run.At f → IsRefusedIn f new) → TellsRun old result new
+tells_run old (Ok done) new told good refused = tt
+tells_run old (Err run.Stopped) new told good refused = tt
+tells_run old (Err (run.At f)) new told good refused = record { unobtained = (told f refl).0; told = (told f refl).1; good = λ file of. good file of f refl; refused = refused f refl }
+
+-- a check names the entry in which it ends
+pub ends_in_entry : {K : Type 0} (step : K → Verdict → Result (Unit {0}) Stopped → K → Type 0) (old : ListerState) (k : K) (result : Result (Unit {0}) RunFault) (new : ListerState) (l : K)
+    → CheckLeaves step old k result new l → EndsInEntry old result new
+ends_in_entry step old k (Ok done) new l checks = record { next = checks.next; chosen = λ stands. tt; names = tt }
+ends_in_entry step old k (Err run.Stopped) new l checks = record { next = checks.next; chosen = λ stands. tt; names = tt }
+ends_in_entry step old k (Err (run.At f)) new l checks = record { next = checks.next; chosen = λ stands. check_ends step old k new l f checks; names = sym checks.passed }
 
 -- ---- a directory has no more bad entries than entries
 
@@ -102,12 +129,8 @@ one_at_most None = omega arith
 one_at_most (Some fault) = omega arith
 
 few_bad : (vs : List Verdict) → bad_count vs ≤ length vs
-few_bad [] = omega arith
-few_bad (v ∷ vs) =
-    let one = one_at_most v.fault in
-    let more = few_bad vs in
-    let sum : bad_count (v ∷ vs) ≡ fault_count v.fault + bad_count vs = refl in
-    omega (arith, one, more, sum)
+few_bad [] = let none : bad_count [] ≡ 0 = refl in omega (arith, none)
+few_bad (v ∷ vs) = let sum = sum_by-cons verdict_count v vs in omega (arith, one_at_most v.fault, few_bad vs, sum)
 
 pub bad_entries : (F : List ℕ) (limit : ℕ) → bad_count (verdicts F All limit) ≤ entry_count F
 bad_entries F limit =
@@ -115,6 +138,19 @@ bad_entries F limit =
     let count : length (verdicts F All limit) ≡ entry_count F =
     count_map _ (only_chosen All (entries_from F (entry_count F) 0)) ∙ ap length (all_chosen (entries_from F (entry_count F) 0)) ∙ count_entries F (entry_count F) 0 in
     omega (arith, few, count)
+
+-- ---- a sink was handed the verdicts on all entries
+
+pub hands_verdicts : {K : Type 0} (step : K → Verdict → Result (Unit {0}) Stopped → K → Type 0) (old : ListerState) (k : K) (result : Result (Unit {0}) RunFault) (new : ListerState) (l : K)
+    → old.choice ≡ All → CheckLeaves step old k result new l → HandsChecked k step verdict_count (λ file limit. verdicts file All limit) old result new l
+hands_verdicts step old k result new l all checks = record {
+  rows = checks.judged;
+  handed = checks.handed;
+  of_file = λ file known. subst (λ (choice : Choice). AreFirstChecked (verdicts file choice old.limit) checks.judged result) all
+      (first_verdicts (verdicts file old.choice old.limit) checks.judged result (checks.of_file file known));
+  few = λ file. bad_entries file old.limit;
+  fetches = record { count = _; fetches = checks.fetches };
+}
 
 -- ---- a fault of the store or the budget, as it is told
 

@@ -36,3 +36,4 @@ pub mod Summarizing
 pub mod SummaryNames
 pub mod SymbolRooms
 pub mod Symbols
+pub mod Unsummed

@@ -1,5 +1,5 @@
 -- A summary that was refused, or whose bytes were not read, of whatever file.
-use Rattle.std.proofs.Common.{◌≡◌, ◌∙◌, ℕ, List, None, ap, refl, subst}
+use Rattle.std.proofs.Common.{◌≡◌, ℕ, List, None, refl, subst}
 use Rattle.std.specs.Prelude.{Result, Ok, Err, IfErr}
 use Rattle.mdmp_source.specs.Output.{OutState}
 use Rattle.mdmp_source.specs.Source.{FetchesAtMost, FetchesSome, IsTold, SourceState}
@@ -22,20 +22,13 @@ use Rattle.mdmp_summary.specs.Summing.{IsCallFault, IsUnreadIn}
 use Rattle.mdmp_summary.specs.declared.summary.SummaryFault.{SummaryFault}
 use Rattle.mdmp_summary.specs.declared.summary.SummaryFault.TheVariants as faults
 use Rattle.mdmp_engines.specs.Causes.{HasOutCause, HasSourceCause, IsNoSourceFault}
-use Rattle.mdmp_engines.specs.SummaryRuns.{IsNameEnd, IsPrintedOrUnread, IsQuietSummary, IsUnreadFault, Summarizes, summary_told, within_names}
+use Rattle.mdmp_engines.specs.SummaryRuns.{IsNameEnd, IsPrintedOrUnread, IsUnreadFault, Summarizes, summary_told, within_names}
 use Rattle.mdmp_engines.specs.Telling.{opening_beside, opening_told, told_by}
 use Rattle.mdmp_engines.specs.declared.fault.ToolFault.{ToolFault}
 use Rattle.mdmp_engines.specs.declared.fault.ToolFault.TheVariants as tool
 use Rattle.mdmp_dump.specs.Reading.{IsLastTold}
 
 -- ---- a file that was not opened
-
-pub quiet-refused : (beside : ℕ) (fault : OpenFault) (untouched : Type 0) → untouched → IsQuietSummary (Err (opening_beside beside fault)) untouched
-quiet-refused beside (opening.Source f) untouched is = is
-quiet-refused beside (opening.Budget offset size) untouched is = is
-quiet-refused beside opening.Memory untouched is = is
-quiet-refused beside (opening.MemoryLimit held) untouched is = is
-quiet-refused beside fault untouched is = is
 
 pub out-refused : (beside : ℕ) (fault : OpenFault) (before : OutState) → HasOutCause {T = ℕ} before (Err (opening_beside beside fault)) before
 out-refused beside (opening.Source f) before = refl
@@ -119,15 +112,15 @@ cause-named first old new n (Err tool.Out) fetches end = tt
 cause-named first old new n (Err tool.Memory) fetches end = tt
 cause-named first old new n (Err fault) fetches end = absurd end
 
--- the lines are those of the file, if the summary is
+-- the lines are those of the file
 lines_of : (name F : List ℕ) (limits : Limits) (before : OutState) (answer : Result ℕ ToolFault) (after : OutState) → walk_fault (within_names limits) F ≡ None
     → IsPrintedOrUnread name F limits.name (file_summary F limits.name) before answer after → Summarizes name F limits before answer after
 lines_of name F limits before answer after walks (IsPrintedOrUnread.unread fault unread is same) = Summarizes.unread fault walks unread is same
 lines_of name F limits before answer after walks (IsPrintedOrUnread.printed tells puts) = Summarizes.printed walks tells puts
 
-pub summarizes_told : (name F : List ℕ) (limits : Limits) (limit : ℕ) (summary : FileSummary) (before : OutState) (answer : Result ℕ ToolFault) (after : OutState)
-    → walk_fault (within_names limits) F ≡ None → limit ≡ limits.name → summary ≡ file_summary F limit
+-- if the summary is
+pub summarizes_told : (name F : List ℕ) (limits : Limits) (summary : FileSummary) (before : OutState) (answer : Result ℕ ToolFault) (after : OutState)
+    → walk_fault (within_names limits) F ≡ None → summary ≡ file_summary F limits.name
     → IsPrintedOrUnread name F limits.name summary before answer after → Summarizes name F limits before answer after
-summarizes_told name F limits limit summary before answer after walks same is told =
-    lines_of name F limits before answer after walks
-    (subst (λ (s : FileSummary). IsPrintedOrUnread name F limits.name s before answer after) (is ∙ ap (file_summary F) same) told)
+summarizes_told name F limits summary before answer after walks is told =
+    lines_of name F limits before answer after walks (subst (λ (s : FileSummary). IsPrintedOrUnread name F limits.name s before answer after) is told)

@@ -1,10 +1,9 @@
 -- What `check --parts` prints and answers, and what it leaves written.
-use Rattle.std.specs.Prelude.{◌≡◌, ◌+◌, ◌<◌, ◌^◌, ℕ, List, Bool, true, false, Option, Some, None, Result, Ok, Err, sum_by}
+use Rattle.std.specs.Prelude.{ℕ, List, Bool, true, false, Option, Some, None, Result, sum_by}
 use Rattle.std.specs.List.{flat_map}
-use Rattle.mdmp_source.specs.Output.{OutState, PutsAll, PutsPrefix}
+use Rattle.mdmp_source.specs.Output.{OutState}
 use Rattle.mdmp_lister.specs.declared.choice.Choice.TheVariants.{All}
 use Rattle.mdmp_lister.specs.declared.fault.ListFault.{ListFault}
-use Rattle.mdmp_lister.specs.declared.sink.Stopped.{Stopped}
 use Rattle.mdmp_lister.specs.Format.Refusal.{opening_fault}
 use Rattle.mdmp_summary.specs.CheckRows.{check_rows}
 use Rattle.mdmp_summary.specs.declared.check_row.CheckRow.{CheckRow}
@@ -12,7 +11,7 @@ use Rattle.mdmp_summary.specs.declared.check_row.CheckRow.TheVariants.{Part, Ent
 use Rattle.mdmp_print.specs.PartLines.{row_line_in}
 use Rattle.mdmp_print.specs.declared.form.LineForm.{LineForm}
 use Rattle.mdmp_engines.specs.declared.fault.ToolFault.{ToolFault}
-use Rattle.mdmp_engines.specs.declared.fault.ToolFault.TheVariants.{Source, Budget, Out}
+use Rattle.mdmp_engines.specs.CheckRuns.{EndsCounted}
 use Rattle.mdmp_engines.specs.Engines.{Runs, RunsThrough, past_faults, unless_refused}
 
 -- ---- the text
@@ -41,27 +40,11 @@ row_count (Entry row) = loss_count row.verdict.fault row.loses_parts
 abbrev pub bad_rows : List CheckRow → ℕ
 bad_rows rows = sum_by row_count rows
 
--- ---- a row
-
--- the line of a row was put, and a bad entry counted; or the output refused
-pub record PutsCheckRow (form : LineForm) (before : OutState) (bad_before : ℕ) (row : CheckRow) (after : OutState) (bad_after : ℕ) : Type 0 where
-  pub line : PutsAll before (row_line_in form row) after
-  pub counts : bad_before + row_count row < 2 ^ 64 → bad_after ≡ bad_before + row_count row
-
-abbrev pub TakesCheckRow : LineForm → OutState → ℕ → CheckRow → Result (Unit {0}) Stopped → OutState → ℕ → Type 0
-TakesCheckRow form before bad_before row (Ok x) after bad_after = PutsCheckRow form before bad_before row after bad_after
-TakesCheckRow form before bad_before row (Err x) after bad_after = PutsPrefix before (row_line_in form row) after
-
 -- ---- a run
 
--- what may end the check of F and its parts, with names up to a limit: it answers how many entries are bad, or the store or the
--- output failed, or the budget was reached
+-- what may end the check of F and its parts, with names up to a limit
 abbrev pub CheckPartsEnds : List ℕ → ℕ → Result ℕ ToolFault → Type 0
-CheckPartsEnds F limit (Ok bad) = bad ≡ bad_rows (check_rows F limit)
-CheckPartsEnds F limit (Err (Source fault)) = Unit {0}
-CheckPartsEnds F limit (Err (Budget offset size)) = Unit {0}
-CheckPartsEnds F limit (Err Out) = Unit {0}
-CheckPartsEnds F limit (Err fault) = ⊥
+CheckPartsEnds F limit = EndsCounted (bad_rows (check_rows F limit))
 
 -- a run of `check --parts` over F, of which the text is printed while it is read
 abbrev pub ChecksParts : LineForm → List ℕ → ℕ → OutState → Result ℕ ToolFault → OutState → Type 0

@@ -1,34 +1,77 @@
 -- What a run of `check` answers, and what it leaves written.
-use Rattle.std.specs.Prelude.{◌≡◌, ◌+◌, ◌<◌, ◌^◌, ℕ, List, Result, Ok, Err}
+use Rattle.std.specs.Prelude.{◌≡◌, ◌+◌, ◌++◌, ◌<◌, ◌≤◌, ◌^◌, ℕ, List, Result, Ok, Err, Some, sum_by}
 use Rattle.mdmp_source.specs.Output.{OutState, PutsAll, PutsPrefix}
+use Rattle.mdmp_source.specs.Source.{FetchesSome}
+use Rattle.mdmp_source.specs.Store.{IsGood}
 use Rattle.mdmp_lister.specs.declared.choice.Choice.TheVariants.{All}
+use Rattle.mdmp_lister.specs.declared.fault.ListFault.{ListFault}
+use Rattle.mdmp_lister.specs.declared.sink.RunFault.{RunFault}
+use Rattle.mdmp_lister.specs.declared.sink.RunFault.TheVariants as run
 use Rattle.mdmp_lister.specs.declared.sink.Stopped.{Stopped}
-use Rattle.mdmp_lister.specs.declared.verdict.Verdict.{Verdict}
-use Rattle.mdmp_lister.specs.Format.Listing.{verdicts}
+use Rattle.mdmp_lister.specs.Format.Listing.{entry_count, verdicts}
+use Rattle.mdmp_lister.specs.Fault.{IsOfStore, IsToldIn, IsUnobtained}
+use Rattle.mdmp_lister.specs.Lister.{IsRefusedIn, ListerState}
+use Rattle.mdmp_lister.specs.Sink.{Handed}
 use Rattle.mdmp_engines.specs.declared.fault.ToolFault.{ToolFault}
 use Rattle.mdmp_engines.specs.declared.fault.ToolFault.TheVariants.{Source, Budget, Out}
-use Rattle.mdmp_engines.specs.CheckText.{bad_count, check_text, fault_count}
+use Rattle.mdmp_engines.specs.CheckText.{bad_count, check_text}
 use Rattle.mdmp_engines.specs.Engines.{Runs, RunsThrough, past_faults}
-use Rattle.mdmp_print.specs.Forms.{verdict_line_in}
 use Rattle.mdmp_print.specs.declared.form.LineForm.{LineForm}
 
--- the line of a verdict was put, and a bad entry counted; or the output refused
-pub record PutsVerdict (form : LineForm) (before : OutState) (bad_before : ℕ) (v : Verdict) (after : OutState) (bad_after : ℕ) : Type 0 where
-  pub line : PutsAll before (verdict_line_in form v) after
-  pub counts : bad_before + fault_count v.fault < 2 ^ 64 → bad_after ≡ bad_before + fault_count v.fault
+-- ---- the rows of a check: each has a line, and a count, which is 1 if it tells of a bad entry
 
-abbrev pub TakesVerdict : LineForm → OutState → ℕ → Verdict → Result (Unit {0}) Stopped → OutState → ℕ → Type 0
-TakesVerdict form before bad_before v (Ok x) after bad_after = PutsVerdict form before bad_before v after bad_after
-TakesVerdict form before bad_before v (Err x) after bad_after = PutsPrefix before (verdict_line_in form v) after
+-- the line of a row was put, and its count added
+pub record PutsRow {R : Type 0} (line : R → List ℕ) (count : R → ℕ) (before : OutState) (bad_before : ℕ) (row : R) (after : OutState) (bad_after : ℕ) : Type 0 where
+  pub put : PutsAll before (line row) after
+  pub counts : bad_before + count row < 2 ^ 64 → bad_after ≡ bad_before + count row
 
--- what may end the check of F, with names up to a limit: it answers how many entries are bad, or the store or the output
--- failed, or the budget was reached
+-- so it was; or the output refused
+abbrev pub TakesLine : {R : Type 0} → (R → List ℕ) → (R → ℕ) → OutState → ℕ → R → Result (Unit {0}) Stopped → OutState → ℕ → Type 0
+TakesLine line count before bad_before row (Ok x) after bad_after = PutsRow line count before bad_before row after bad_after
+TakesLine line count before bad_before row (Err x) after bad_after = PutsPrefix before (line row) after
+
+module _ {R : Type 0} where
+  -- these rows are the first of all, and after the last entry they are all
+  abbrev pub AreFirstChecked : List R → List R → Result (Unit {0}) RunFault → Type 0
+  AreFirstChecked all rows (Ok done) = all ≡ rows
+  AreFirstChecked all rows (Err fault) = (rest : List R) × (all ≡ rows ++ rest)
+
+-- a sink was handed some rows, of a known file the first of all
+pub record HandsChecked {K R : Type 0} (k : K) (step : K → R → Result (Unit {0}) Stopped → K → Type 0) (count : R → ℕ) (all : List ℕ → ℕ → List R)
+    (old : ListerState) (result : Result (Unit {0}) RunFault) (new : ListerState) (l : K) : Type 0 where
+  pub rows : List R
+  pub handed : Handed step k rows result l
+  pub of_file : (file : List ℕ) → old.source.store.content ≡ Some file → AreFirstChecked (all file old.limit) rows result
+  -- no more entries are bad than the directory has
+  pub few : (file : List ℕ) → sum_by count (all file old.limit) ≤ entry_count file
+  pub fetches : FetchesSome old.source new.source
+
+-- the fault by which a run of rows ended: bytes were not obtained. It has its cause in this run
+pub record IsRunFault (old : ListerState) (fault : ListFault) (new : ListerState) : Type 0 where
+  pub unobtained : IsUnobtained fault.kind
+  pub told : IsToldIn new.current fault old.source new.source
+  pub good : (file : List ℕ) → IsGood old.source.store file → IsOfStore fault.kind → ⊥
+  pub refused : IsRefusedIn fault new
+
+-- so it was, unless the sink stopped it
+abbrev pub TellsRun : ListerState → Result (Unit {0}) RunFault → ListerState → Type 0
+TellsRun old (Err (run.At fault)) new = IsRunFault old fault new
+TellsRun old result new = Unit {0}
+
+-- ---- a run
+
+-- what may end a check that counts so many bad entries: it answers how many, or the store or the output failed, or the budget was
+-- reached
+abbrev pub EndsCounted : ℕ → Result ℕ ToolFault → Type 0
+EndsCounted count (Ok bad) = bad ≡ count
+EndsCounted count (Err (Source fault)) = Unit {0}
+EndsCounted count (Err (Budget offset size)) = Unit {0}
+EndsCounted count (Err Out) = Unit {0}
+EndsCounted count (Err fault) = ⊥
+
+-- what may end the check of F, with names up to a limit
 abbrev pub CheckEnds : List ℕ → ℕ → Result ℕ ToolFault → Type 0
-CheckEnds F limit (Ok bad) = bad ≡ bad_count (verdicts F All limit)
-CheckEnds F limit (Err (Source fault)) = Unit {0}
-CheckEnds F limit (Err (Budget offset size)) = Unit {0}
-CheckEnds F limit (Err Out) = Unit {0}
-CheckEnds F limit (Err fault) = ⊥
+CheckEnds F limit = EndsCounted (bad_count (verdicts F All limit))
 
 -- a run of `check` over F, of which the text is printed while it is read
 abbrev pub Checks : LineForm → List ℕ → ℕ → OutState → Result ℕ ToolFault → OutState → Type 0

@@ -1,5 +1,5 @@
 -- What `check` prints.
-use Rattle.std.specs.Prelude.{ℕ, ◌+◌, List, [], ◌∷◌, Option, Some, None, codes}
+use Rattle.std.specs.Prelude.{ℕ, List, [], ◌∷◌, Option, Some, None, codes, sum_by}
 use Rattle.std.specs.List.{concat, flat_map}
 use Rattle.std.specs.Fmt.{decimal}
 use Rattle.mdmp_lister.specs.declared.choice.Choice.TheVariants.{All}
@@ -25,10 +25,13 @@ abbrev pub fault_count : Option ListFault → ℕ
 fault_count None = 0
 fault_count (Some fault) = 1
 
+-- 1 for the verdict on a bad entry
+abbrev pub verdict_count : Verdict → ℕ
+verdict_count v = fault_count v.fault
+
 -- how many entries have a fault
 abbrev pub bad_count : List Verdict → ℕ
-bad_count [] = 0
-bad_count (v ∷ vs) = fault_count v.fault + bad_count vs
+bad_count vs = sum_by verdict_count vs
 
 -- `<n> bad entries`
 abbrev pub bad_text : ℕ → List ℕ

@@ -1,10 +1,10 @@
 -- What `summary` answers, and what it writes.
-use Rattle.std.specs.Prelude.{◌≡◌, ◌*◌, ℕ, List, None, Result, Ok, Err, IfErr, MatchResult}
+use Rattle.std.specs.Prelude.{◌≡◌, ◌*◌, ℕ, List, None, Some, Result, Ok, Err, IfErr, MatchResult, false}
 use Rattle.mdmp_source.specs.Output.{OutState, Puts}
-use Rattle.mdmp_source.specs.Source.{FetchesAtMost, IsTold, SourceState}
+use Rattle.mdmp_source.specs.Source.{FetchesAtMost, FetchesSome, IsTold, SourceState}
 use Rattle.mdmp_lister.specs.Memory.{IsWalkRefusal, leaving, walk_fault}
 use Rattle.mdmp_lister.specs.Refused.{IsRefusedWalker}
-use Rattle.mdmp_lister.specs.Walker.{IsNewWalker, WalkerState}
+use Rattle.mdmp_lister.specs.Walker.{IsNewWalker, WalkerState, is_failed}
 use Rattle.mdmp_lister.specs.declared.choice.Choice.TheVariants.{All}
 use Rattle.mdmp_lister.specs.declared.fault.OpenFault.{OpenFault}
 use Rattle.mdmp_lister.specs.declared.limits.Limits.{Limits}
@@ -34,6 +34,33 @@ abbrev pub summary_told : SummaryFault → ToolFault
 summary_told (faults.Opening fault) = opening_told fault
 summary_told (faults.List fault) = listing_told fault
 summary_told (faults.Source fault) = tool.Source fault
+
+-- ---- a summary, for a command that holds so many bytes beside the walk
+
+-- the file was opened, and both passes were made
+pub record IsSummed (beside : ℕ) (limits : Limits) (old : SourceState) (walker : WalkerState) (summary : FileSummary) : Type 0 where
+  pub opened : WalkerState
+  pub is_new : IsNewWalker old All (leaving beside limits) opened
+  pub spends : SpendsPasses 2 1 opened walker
+  pub same : IsSameListing opened.list walker.list
+  pub fetches : FetchesSome old walker.list.source
+  pub choice_is : walker.list.choice ≡ All
+  pub limit_is : walker.list.limit ≡ limits.name
+  pub going : is_failed walker.list.stop ≡ false
+  pub opens : (file : List ℕ) → old.store.content ≡ Some file → walk_fault (leaving beside limits) file ≡ None
+  pub sums : (file : List ℕ) → old.store.content ≡ Some file → summary ≡ file_summary file limits.name
+
+-- the file was not opened; or the passes ended by an error, which has its cause and its place in them
+pub data IsUnsummed (beside : ℕ) (limits : Limits) (old : SourceState) (answer : Result ℕ ToolFault) (new : SourceState) : Type 0 where
+  refused : (fault : OpenFault) → IsRefusedWalker (leaving beside limits) old fault new
+      → ((file : List ℕ) → old.store.content ≡ Some file → IsWalkRefusal (leaving beside limits) file fault)
+      → answer ≡ Err (opening_beside beside fault) → IsUnsummed beside limits old answer new
+  unread : (opened ended : WalkerState) (fault : SummaryFault) → IsNewWalker old All (leaving beside limits) opened
+      → ((file : List ℕ) → old.store.content ≡ Some file → walk_fault (leaving beside limits) file ≡ None) → SpendsToFault fault opened ended
+      → IsSameListing opened.list ended.list → IsCallFault opened.list ended.list fault → answer ≡ Err (summary_told fault) → new ≡ ended.list.source
+      → IsUnsummed beside limits old answer new
+
+-- ---- a run
 
 -- the summary of F, a file of this name
 abbrev pub file_lines : (name F : List ℕ) → ℕ → List ℕ

@@ -1,18 +1,15 @@
 //! The command `check`.
-ghost use Rattle.std.specs.Prelude.{◌≡◌, ◌≤◌, ℕ, List, None, Some};
-ghost use Rattle.mdmp_lister.specs.declared.choice.Choice.TheVariants.{All};
-ghost use Rattle.mdmp_lister.specs.Format.Listing.{verdicts};
-ghost use Rattle.mdmp_engines.specs.CheckRuns.{CheckEnds, Checks};
-ghost use Rattle.mdmp_engines.specs.CheckText.{verdict_lines};
-ghost use Rattle.mdmp_engines.specs.Causes.{EndsByBudget, KeepsAside, MayReachAside, MayReachBudget, MayReachMemory};
+ghost use Rattle.std.specs.Prelude.{◌≡◌, ℕ, List, None, Some};
+ghost use Rattle.mdmp_engines.specs.CheckRuns.{Checks};
+ghost use Rattle.mdmp_engines.specs.Causes.{MayReachAside, MayReachBudget, MayReachMemory};
 ghost use Rattle.mdmp_engines.specs.Dropping.{DropsStore};
-ghost use Rattle.mdmp_engines.specs.Engines.{IsOpened, IsSameRun, IsReadThrough, KeepsReads, Leaves, ReadsSource, Tells, WritesText, at_most, directly, past_faults, check_access};
+ghost use Rattle.mdmp_engines.specs.Engines.{IsReadThrough, ReadsSource, Tells, directly, past_faults, check_access};
 
-use crate::engine::{Engine, run, run_source};
-use crate::fault::{ToolFault, told_list};
+use crate::check_engine::{CheckEngine, CheckedRows, RowLines};
+use crate::engine::{run, run_source};
+use crate::fault::ToolFault;
 use crate::outcome::Outcome;
-use crate::reporting::report_check;
-use mdmp_lister::{Choice, Limits, Lister, RunFault, Stopped, Verdict, VerdictSink};
+use mdmp_lister::{Limits, Lister, RunFault, Stopped, Verdict, VerdictSink};
 use mdmp_print::{LineForm, Printer, print_verdict};
 use mdmp_source::{LetGo, Out, OutFailed, Source, Store};
 use std::alloc::Allocator;
@@ -39,7 +36,8 @@ where
     ensures aside { MayReachAside None limits (S.state store).size result }
     ensures read { DropsStore ⟦<Source<S> as LetGo>⟧.may_go (check_access limits) (S.state store) result }
 {
-    run(CheckEngine { form }, alloc, store, limits, out)
+    let rows = EntryRows;
+    run(CheckEngine { form, rows }, alloc, store, limits, out)
 }
 
 /// Does what `run_check` does, and hands the source back, whose counts tell the cause of its faults.
@@ -55,114 +53,45 @@ pub fn check_source<S: Store + Drop, A: Allocator + Copy, O: Printer>(
     ensures reads { ReadsSource source result.answer result.source }
     ensures through { IsReadThrough (check_access limits) source result.answer result.source }
 {
-    run_source(CheckEngine { form }, alloc, source, limits, out)
+    let rows = EntryRows;
+    run_source(CheckEngine { form, rows }, alloc, source, limits, out)
 }
 
-/// The engine of `check`, which prints the line of an entry as it was read.
+/// The rows of `check`: the result of checking each entry.
 #[derive(Clone, Copy)]
-pub struct CheckEngine {
-    /// How the lines are printed.
-    pub form: LineForm,
-}
+pub struct EntryRows;
 
-impl Engine for CheckEngine {
+impl CheckedRows for EntryRows {
     ghost use Rattle.mdmp_lister.specs.declared.choice.Choice.TheVariants.{All};
     ghost use Rattle.mdmp_lister.specs.Format.Listing.{verdicts};
-    ghost use Rattle.mdmp_engines.specs.CheckRuns.{CheckEnds};
-    ghost use Rattle.mdmp_engines.specs.CheckText.{verdict_lines};
-    ghost use Rattle.mdmp_engines.specs.Engines.{at_most, past_faults};
-    ghost use Rattle.mdmp_engines.specs.Reports.{IsCheckEnd};
+    ghost use Rattle.mdmp_print.specs.Forms.{verdict_line_in};
+    ghost use Rattle.mdmp_engines.specs.CheckText.{verdict_count};
 
-    type Answer = u64;
+    type Row = Verdict;
 
-    ghost choice = { All };
+    ghost rows_of = { λ file limit. verdicts file All limit };
 
-    ghost pace = { past_faults };
+    ghost line = { verdict_line_in };
 
-    ghost can_print = { λ _. Unit {0} };
+    ghost count = { verdict_count };
 
-    ghost aside = { λ _. None };
-
-    ghost held = { λ _. 0 };
-
-    ghost reads = { λ _. at_most 0 };
-
-    ghost Ends = { λ _ file limit. CheckEnds file limit };
-
-    ghost text = { λ e file limit. verdict_lines e.form (verdicts file All limit) };
-
-    ghost IsReported = { IsCheckEnd };
-
-    fn chosen(&self) -> Choice {
-        Choice::All
-    }
-
-    fn beside(&self) -> u64 {
-        0
-    }
-
-    fn print<S: Store + Drop, A: Allocator + Copy, O: Printer>(
-        &self,
+    fn check_into<S: Store + Drop, A: Allocator + Copy, O: Printer>(
+        self,
         lister: &mut Lister<S, A>,
-        out: &mut O,
-    ) -> Result<u64, ToolFault> {
-        let mut lines = VerdictLines {
-            out,
-            form: self.form,
-            bad: 0,
-        };
-        check_listed(lister, &mut lines)
-    }
-
-    fn report<W: Out>(answer: Result<u64, ToolFault>, err: &mut W) -> u8
-        ensures { IsCheckEnd answer result (W.state err.old) (W.state err.new) }
-    {
-        report_check(answer, err)
+        lines: &mut RowLines<'_, O>,
+    ) -> Result<(), RunFault> {
+        lister.check_into(lines)
     }
 }
 
-/// Prints the lines of all entries, and answers how many are bad.
-// Apart from what calls it, it keeps more numbers in registers: `check` takes fewer instructions for a record.
-#[inline(never)]
-fn check_listed<S: Store + Drop, A: Allocator + Copy, O: Printer>(
-    lister: &mut Lister<S, A>,
-    lines: &mut VerdictLines<'_, O>,
-) -> Result<u64, ToolFault>
-    requires opened { IsOpened All lister.old }
-    requires none { lines.old.bad ≡ 0 }
-    ensures same_output { lines.new.out.ghost_name ≡ lines.old.out.ghost_name }
-    ensures ends { (file : List ℕ) → lister.old.source.store.content ≡ Some file → CheckEnds file lister.old.limit result }
-    ensures writes { (file : List ℕ) → lister.old.source.store.content ≡ Some file
-        → WritesText past_faults (verdict_lines lines.old.form (verdicts file All lister.old.limit)) (O.state lines.old.out.now) result (O.state lines.new.out.now) }
-    ensures leaves { Leaves past_faults (O.state lines.new.out.now ≡ O.state lines.old.out.now) lister.old.source (O.state lines.old.out.now) result lister.new.source (O.state lines.new.out.now) }
-    ensures same { IsSameRun lister.old lister.new }
-    ensures over { EndsByBudget lister.old result lister.new }
-    ensures aside { KeepsAside None result lister.new }
-    ensures read { KeepsReads (at_most 0) past_faults lister.new }
-{
-    // The prover needs that a directory has fewer than 2^32 entries: so the count is never at its greatest.
-    let _entries = lister.header().number_of_streams;
-    match lister.check_into(lines) {
-        Ok(()) => Ok(lines.bad),
-        Err(RunFault::At(fault)) => Err(told_list(fault)),
-        Err(RunFault::Stopped) => Err(ToolFault::Out),
-    }
-}
-
-/// A sink that prints a line for each verdict, and counts the bad entries.
-#[derive(Drop)]
-struct VerdictLines<'a, O: Printer> {
-    out: &'a mut O,
-    form: LineForm,
-    bad: u64,
-}
-
-impl<'a, O: Printer> VerdictSink for VerdictLines<'a, O> {
+impl<'a, O: Printer> VerdictSink for RowLines<'a, O> {
     ghost use Rattle.std.specs.Prelude.{◌≡◌};
-    ghost use Rattle.mdmp_engines.specs.CheckRuns.{TakesVerdict};
+    ghost use Rattle.mdmp_print.specs.Forms.{verdict_line_in};
+    ghost use Rattle.mdmp_engines.specs.CheckRuns.{TakesLine};
+    ghost use Rattle.mdmp_engines.specs.CheckText.{verdict_count};
 
     ghost step = { λ old verdict result new. (new.out.ghost_name ≡ old.out.ghost_name) × ((new.form ≡ old.form)
-        × TakesVerdict old.form (O.state old.out.now) old.bad verdict result (O.state new.out.now) new.bad) };
+        × TakesLine (verdict_line_in old.form) verdict_count (O.state old.out.now) old.bad verdict result (O.state new.out.now) new.bad) };
 
     fn take(&mut self, verdict: &Verdict) -> Result<(), Stopped> {
         match print_verdict(self.form, verdict, self.out) {

@@ -1,17 +1,15 @@
 //! The command `check --parts`.
-ghost use Rattle.std.specs.Prelude.{◌≡◌, ◌≤◌, ℕ, List, None, Some};
-ghost use Rattle.mdmp_lister.specs.declared.choice.Choice.TheVariants.{All};
-ghost use Rattle.mdmp_summary.specs.CheckRows.{check_rows};
-ghost use Rattle.mdmp_engines.specs.Causes.{EndsByBudget, KeepsAside, MayReachAside, MayReachBudget, MayReachMemory};
-ghost use Rattle.mdmp_engines.specs.CheckParts.{CheckPartsEnds, ChecksParts, row_count, row_lines};
+ghost use Rattle.std.specs.Prelude.{◌≡◌, ℕ, List, None, Some};
+ghost use Rattle.mdmp_engines.specs.Causes.{MayReachAside, MayReachBudget, MayReachMemory};
+ghost use Rattle.mdmp_engines.specs.CheckParts.{ChecksParts, row_count};
 ghost use Rattle.mdmp_engines.specs.Dropping.{DropsStore};
-ghost use Rattle.mdmp_engines.specs.Engines.{IsOpened, IsSameRun, IsReadThrough, KeepsReads, Leaves, ReadsSource, Tells, WritesText, at_most, directly, past_faults, check_access};
+ghost use Rattle.mdmp_engines.specs.Engines.{IsReadThrough, ReadsSource, Tells, directly, past_faults, check_access};
 
-use crate::engine::{Engine, run, run_source};
-use crate::fault::{ToolFault, told_list};
+use crate::check_engine::{CheckEngine, CheckedRows, RowLines};
+use crate::engine::{run, run_source};
+use crate::fault::ToolFault;
 use crate::outcome::Outcome;
-use crate::reporting::report_check;
-use mdmp_lister::{Choice, Limits, Lister, RunFault, Stopped};
+use mdmp_lister::{Limits, Lister, RunFault, Stopped};
 use mdmp_print::{LineForm, Printer, print_check_row};
 use mdmp_source::{LetGo, Out, OutFailed, Source, Store};
 use mdmp_summary::{CheckRow, CheckRowSink, check_parts_into};
@@ -39,7 +37,8 @@ where
     ensures aside { MayReachAside None limits (S.state store).size result }
     ensures read { DropsStore ⟦<Source<S> as LetGo>⟧.may_go (check_access limits) (S.state store) result }
 {
-    run(CheckPartsEngine { form }, alloc, store, limits, out)
+    let rows = PartRows;
+    run(CheckEngine { form, rows }, alloc, store, limits, out)
 }
 
 /// Does what [`run_check_parts`] does, and hands the source back, whose counts tell the cause of its errors.
@@ -55,113 +54,45 @@ pub fn check_parts_source<S: Store + Drop, A: Allocator + Copy, O: Printer>(
     ensures reads { ReadsSource source result.answer result.source }
     ensures through { IsReadThrough (check_access limits) source result.answer result.source }
 {
-    run_source(CheckPartsEngine { form }, alloc, source, limits, out)
+    let rows = PartRows;
+    run_source(CheckEngine { form, rows }, alloc, source, limits, out)
 }
 
-/// The engine of `check --parts`, which prints the line of a part as its record was read, and the line of an entry
-/// after those of its parts.
+/// The rows of `check --parts`: each part outside the file as its record was read, and the result of an entry after
+/// its parts.
 #[derive(Clone, Copy)]
-pub struct CheckPartsEngine {
-    /// How the lines are printed.
-    pub form: LineForm,
-}
+pub struct PartRows;
 
-impl Engine for CheckPartsEngine {
-    ghost use Rattle.mdmp_lister.specs.declared.choice.Choice.TheVariants.{All};
+impl CheckedRows for PartRows {
+    ghost use Rattle.mdmp_print.specs.PartLines.{row_line_in};
     ghost use Rattle.mdmp_summary.specs.CheckRows.{check_rows};
-    ghost use Rattle.mdmp_engines.specs.CheckParts.{CheckPartsEnds, row_lines};
-    ghost use Rattle.mdmp_engines.specs.Engines.{at_most, past_faults};
-    ghost use Rattle.mdmp_engines.specs.Reports.{IsCheckEnd};
+    ghost use Rattle.mdmp_engines.specs.CheckParts.{row_count};
 
-    type Answer = u64;
+    type Row = CheckRow;
 
-    ghost choice = { All };
+    ghost rows_of = { check_rows };
 
-    ghost pace = { past_faults };
+    ghost line = { row_line_in };
 
-    ghost can_print = { λ _. Unit {0} };
+    ghost count = { row_count };
 
-    ghost aside = { λ _. None };
-
-    ghost held = { λ _. 0 };
-
-    ghost reads = { λ _. at_most 0 };
-
-    ghost Ends = { λ _ file limit. CheckPartsEnds file limit };
-
-    ghost text = { λ e file limit. row_lines e.form (check_rows file limit) };
-
-    ghost IsReported = { IsCheckEnd };
-
-    fn chosen(&self) -> Choice {
-        Choice::All
-    }
-
-    fn beside(&self) -> u64 {
-        0
-    }
-
-    fn print<S: Store + Drop, A: Allocator + Copy, O: Printer>(
-        &self,
+    fn check_into<S: Store + Drop, A: Allocator + Copy, O: Printer>(
+        self,
         lister: &mut Lister<S, A>,
-        out: &mut O,
-    ) -> Result<u64, ToolFault> {
-        let mut lines = RowLines {
-            out,
-            form: self.form,
-            bad: 0,
-        };
-        check_parts_listed(lister, &mut lines)
+        lines: &mut RowLines<'_, O>,
+    ) -> Result<(), RunFault> {
+        check_parts_into(lister, lines)
     }
-
-    fn report<W: Out>(answer: Result<u64, ToolFault>, err: &mut W) -> u8
-        ensures { IsCheckEnd answer result (W.state err.old) (W.state err.new) }
-    {
-        report_check(answer, err)
-    }
-}
-
-/// Prints the lines of all parts outside the file and of all entries, and answers how many entries are bad.
-#[inline(never)]
-fn check_parts_listed<S: Store + Drop, A: Allocator + Copy, O: Printer>(
-    lister: &mut Lister<S, A>,
-    lines: &mut RowLines<'_, O>,
-) -> Result<u64, ToolFault>
-    requires opened { IsOpened All lister.old }
-    requires none { lines.old.bad ≡ 0 }
-    ensures same_output { lines.new.out.ghost_name ≡ lines.old.out.ghost_name }
-    ensures ends { (file : List ℕ) → lister.old.source.store.content ≡ Some file → CheckPartsEnds file lister.old.limit result }
-    ensures writes { (file : List ℕ) → lister.old.source.store.content ≡ Some file
-        → WritesText past_faults (row_lines lines.old.form (check_rows file lister.old.limit)) (O.state lines.old.out.now) result (O.state lines.new.out.now) }
-    ensures leaves { Leaves past_faults (O.state lines.new.out.now ≡ O.state lines.old.out.now) lister.old.source (O.state lines.old.out.now) result lister.new.source (O.state lines.new.out.now) }
-    ensures same { IsSameRun lister.old lister.new }
-    ensures over { EndsByBudget lister.old result lister.new }
-    ensures aside { KeepsAside None result lister.new }
-    ensures read { KeepsReads (at_most 0) past_faults lister.new }
-{
-    // The prover needs that a directory has fewer than 2^32 entries: so the count is never at its greatest.
-    let _entries = lister.header().number_of_streams;
-    match check_parts_into(lister, lines) {
-        Ok(()) => Ok(lines.bad),
-        Err(RunFault::At(fault)) => Err(told_list(fault)),
-        Err(RunFault::Stopped) => Err(ToolFault::Out),
-    }
-}
-
-/// A sink that prints a line for each row, and counts the bad entries.
-#[derive(Drop)]
-struct RowLines<'a, O: Printer> {
-    out: &'a mut O,
-    form: LineForm,
-    bad: u64,
 }
 
 impl<'a, O: Printer> CheckRowSink for RowLines<'a, O> {
     ghost use Rattle.std.specs.Prelude.{◌≡◌};
-    ghost use Rattle.mdmp_engines.specs.CheckParts.{TakesCheckRow};
+    ghost use Rattle.mdmp_print.specs.PartLines.{row_line_in};
+    ghost use Rattle.mdmp_engines.specs.CheckParts.{row_count};
+    ghost use Rattle.mdmp_engines.specs.CheckRuns.{TakesLine};
 
     ghost step = { λ old row result new. (new.out.ghost_name ≡ old.out.ghost_name) × ((new.form ≡ old.form)
-        × TakesCheckRow old.form (O.state old.out.now) old.bad row result (O.state new.out.now) new.bad) };
+        × TakesLine (row_line_in old.form) row_count (O.state old.out.now) old.bad row result (O.state new.out.now) new.bad) };
 
     fn take(&mut self, row: &CheckRow) -> Result<(), Stopped> {
         match print_check_row(self.form, row, self.out) {

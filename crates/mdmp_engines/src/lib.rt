@@ -21,6 +21,7 @@
 #![tactic(auto)]
 
 mod check;
+mod check_engine;
 mod check_parts;
 mod copy;
 mod engine;
@@ -39,8 +40,9 @@ mod summary;
 mod summary_json;
 mod thread_objects;
 
-pub use crate::check::{CheckEngine, check_source, run_check};
-pub use crate::check_parts::{CheckPartsEngine, bad_in, check_parts_source, run_check_parts};
+pub use crate::check::{EntryRows, check_source, run_check};
+pub use crate::check_engine::{CheckEngine, CheckedRows, RowLines};
+pub use crate::check_parts::{PartRows, bad_in, check_parts_source, run_check_parts};
 pub use crate::copy::{copied, copy_source, first_not_copied, run_copy};
 pub use crate::engine::{Engine, run_in_blocks};
 pub use crate::fault::{ToolFault, status};

@@ -7,7 +7,7 @@ ghost use Rattle.mdmp_summary_lines.specs.SummaryText.{summary_text};
 ghost use Rattle.mdmp_engines.specs.Causes.{HasOutCause, IsNoSourceFault};
 ghost use Rattle.mdmp_engines.specs.Engines.{ReadsSource};
 ghost use Rattle.mdmp_engines.specs.KeptNames.{kept_names, names_room};
-ghost use Rattle.mdmp_engines.specs.SummaryRuns.{IsNameEnd, IsPrintedOrUnread, IsQuietSummary, IsSummedThrough, Summarizes, summary_told};
+ghost use Rattle.mdmp_engines.specs.SummaryRuns.{IsNameEnd, IsPrintedOrUnread, IsQuietSummary, IsSummed, IsSummedThrough, IsUnsummed, Summarizes, summary_told};
 
 use crate::engine::refused_beside;
 use crate::fault::{ToolFault, told_list, told_opening};
@@ -28,6 +28,44 @@ pub(crate) fn told_summary(fault: SummaryFault) -> ToolFault
         SummaryFault::Opening(fault) => told_opening(fault),
         SummaryFault::List(fault) => told_list(fault),
         SummaryFault::Source(fault) => ToolFault::Source(fault),
+    }
+}
+
+/// A file that was opened for its summary, and the summary.
+pub(crate) struct Summed<S: Store + Drop, A: Allocator + Copy> {
+    /// What walks over the file, after both passes.
+    pub(crate) walker: Walker<S, A>,
+    pub(crate) summary: FileSummary,
+}
+
+/// Opens a file for a command that holds so many bytes beside the walk, and makes its summary; or says why there is
+/// none, and hands the source back.
+pub(crate) fn sum_source<S: Store + Drop, A: Allocator + Copy>(
+    alloc: A,
+    source: Source<S>,
+    limits: Limits,
+    beside: u64,
+) -> Result<Summed<S, A>, Outcome<Result<u64, ToolFault>, S>>
+    ensures summed { IfOk result (λ summed. IsSummed beside limits source summed.walker summed.summary) }
+    ensures unsummed { IfErr result (λ ended. IsUnsummed beside limits source ended.answer ended.source) }
+    ensures good { (bytes : List ℕ) → IsGood source.store bytes → IfErr result (λ ended. IsNoSourceFault ended.answer) }
+    ensures reads { IfErr result (λ ended. ReadsSource source ended.answer ended.source) }
+{
+    let mut walker = match Walker::open(alloc, source, limits.leave_memory(beside), Choice::All) {
+        Ok(walker) => walker,
+        Err(refused) => {
+            return Err(Outcome {
+                answer: Err(refused_beside(refused.fault, beside)),
+                source: refused.source,
+            });
+        }
+    };
+    match summarize_listing(&mut walker) {
+        Ok(summary) => Ok(Summed { walker, summary }),
+        Err(fault) => Err(Outcome {
+            answer: Err(told_summary(fault)),
+            source: walker.into_source(),
+        }),
     }
 }
 
@@ -52,27 +90,17 @@ pub fn summary_source<S: Store + Drop, A: Allocator + Copy, O: Printer>(
     ensures out_cause { HasOutCause (O.state out.old) result.answer (O.state out.new) }
 {
     let beside = 3 * u64::from(limits.name);
-    let mut walker = match Walker::open(alloc, source, limits.leave_memory(beside), Choice::All) {
-        Ok(walker) => walker,
-        Err(refused) => {
-            return Outcome {
-                answer: Err(refused_beside(refused.fault, beside)),
-                source: refused.source,
-            };
-        }
+    let Summed {
+        mut walker,
+        summary,
+    } = match sum_source(alloc, source, limits, beside) {
+        Ok(summed) => summed,
+        Err(ended) => return ended,
     };
-    match summarize_listing(&mut walker) {
-        Ok(summary) => {
-            let answer = print_told(alloc, &mut walker, limits.name, file, &summary, out);
-            Outcome {
-                answer,
-                source: walker.into_source(),
-            }
-        }
-        Err(fault) => Outcome {
-            answer: Err(told_summary(fault)),
-            source: walker.into_source(),
-        },
+    let answer = print_told(alloc, &mut walker, limits.name, file, &summary, out);
+    Outcome {
+        answer,
+        source: walker.into_source(),
     }
 }
 

@@ -13,19 +13,17 @@ ghost use Rattle.mdmp_engines.specs.ObjectRuns.{IsObjectThrough, IsQuietObject, 
 ghost use Rattle.mdmp_engines.specs.ObjectVisits.{HasSymbolsRoom, module_room, thread_room};
 ghost use Rattle.mdmp_engines.specs.SummaryObject.{crashed_id, found_among, lists_text, modules_text, named_object, symbols_most, threads_and_end, threads_text, told_object};
 
-use crate::engine::{flush_after, refused_beside};
+use crate::engine::flush_after;
 use crate::fault::{ToolFault, told_list};
 use crate::kept_name::{KeptNames, read_names};
 use crate::module_objects::ModuleObjects;
 use crate::outcome::Outcome;
-use crate::summary::told_summary;
+use crate::summary::{Summed, sum_source};
 use crate::thread_objects::ThreadObjects;
-use mdmp_lister::{Choice, Limits, Name, Walker};
+use mdmp_lister::{Limits, Name, Walker};
 use mdmp_print::{LineOut, Printer};
 use mdmp_source::{Out, OutFailed, Source, Store};
-use mdmp_summary::{
-    Crash, FileSummary, VisitEnd, VisitFault, Visitor, summarize_listing, visit_all,
-};
+use mdmp_summary::{Crash, FileSummary, VisitEnd, VisitFault, Visitor, visit_all};
 use mdmp_summary_lines::{print_summary_end, print_summary_head, print_threads_front};
 use std::alloc::Allocator;
 
@@ -57,36 +55,26 @@ pub fn summary_json_source<S: Store + Drop, A: Allocator + Copy, O: Out>(
     ensures flushed { IsFlushed result.answer blocks.new.pending }
 {
     let beside = 4 * u64::from(limits.name);
-    let mut walker = match Walker::open(alloc, source, limits.leave_memory(beside), Choice::All) {
-        Ok(walker) => walker,
-        Err(refused) => {
-            return Outcome {
-                answer: Err(refused_beside(refused.fault, beside)),
-                source: refused.source,
-            };
-        }
+    let Summed {
+        mut walker,
+        summary,
+    } = match sum_source(alloc, source, limits, beside) {
+        Ok(summed) => summed,
+        Err(ended) => return ended,
     };
-    match summarize_listing(&mut walker) {
-        Ok(summary) => {
-            let symbols = symbols_most(limits, summary.counts.modules);
-            let answer = print_object(
-                alloc,
-                &mut walker,
-                limits.name,
-                symbols,
-                file,
-                &summary,
-                blocks,
-            );
-            Outcome {
-                answer,
-                source: walker.into_source(),
-            }
-        }
-        Err(fault) => Outcome {
-            answer: Err(told_summary(fault)),
-            source: walker.into_source(),
-        },
+    let symbols = symbols_most(limits, summary.counts.modules);
+    let answer = print_object(
+        alloc,
+        &mut walker,
+        limits.name,
+        symbols,
+        file,
+        &summary,
+        blocks,
+    );
+    Outcome {
+        answer,
+        source: walker.into_source(),
     }
 }
 

@@ -22,8 +22,8 @@ pub use crate::running::{copy_and_report, print_and_report, summarize_and_report
 pub use crate::standing::what_is_copied_stands;
 pub use crate::words::{run_on_disk, run_words};
 pub use mdmp_engines::{
-    CheckEngine, CheckPartsEngine, Engine, FaultKind, HexEngine, LINE_ROOM, LayoutFault, Limits,
-    LineForm, LineOut, ListEngine, ListFault, OpenFault, Outcome, PartName, Printer, ReadFault,
+    CheckEngine, Engine, EntryRows, FaultKind, HexEngine, LINE_ROOM, LayoutFault, Limits, LineForm,
+    LineOut, ListEngine, ListFault, OpenFault, Outcome, PartName, PartRows, Printer, ReadFault,
     ToolFault, TypeSet, check_parts_source, check_source, copied, copy_source, fault_line,
     first_not_copied, hex_source, list_next, list_source, objects_are_json_texts, print_dump,
     report, report_summary, run_check, run_check_parts, run_copy, run_hex, run_in_blocks, run_list,

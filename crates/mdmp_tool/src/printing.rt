@@ -8,7 +8,7 @@ use crate::running::{BLOCK, print_and_report};
 use crate::standard_input::{input_fault, input_most, is_input};
 use crate::words::refuse_name;
 use mdmp_disk::Disk;
-use mdmp_engines::{CheckEngine, CheckPartsEngine, Engine, ToolFault, report};
+use mdmp_engines::{CheckEngine, Engine, EntryRows, PartRows, ToolFault, report};
 use mdmp_lister::Limits;
 use mdmp_print::{LineForm, LineOut};
 use mdmp_source::{MemoryStore, Out, Source, Store};
@@ -38,17 +38,13 @@ pub(crate) fn check_file<D: Disk, A: Allocator + Copy, O: Out, W: Out>(
 {
     let form = how.form;
     if how.parts {
-        return print_file(
-            disk,
-            alloc,
-            CheckPartsEngine { form },
-            limits,
-            file,
-            out,
-            err,
-        );
+        let rows = PartRows;
+        let engine = CheckEngine { form, rows };
+        return print_file(disk, alloc, engine, limits, file, out, err);
     }
-    print_file(disk, alloc, CheckEngine { form }, limits, file, out, err)
+    let rows = EntryRows;
+    let engine = CheckEngine { form, rows };
+    print_file(disk, alloc, engine, limits, file, out, err)
 }
 
 /// Prints what an engine prints of the file of this name, or of standard input.

@@ -9,8 +9,8 @@ use mdmp_lister::{Choice, Lister, TypeSet};
 use mdmp_source::{Out, PatchyOut, Source, Store, write_all};
 use mdmp_test_support::Room;
 use mdmp_tool::{
-    CheckEngine, CheckPartsEngine, HexEngine, LINE_ROOM, Limits, LineForm, LineOut, ListEngine,
-    OpenFault, Outcome, ToolFault, check_parts_source, check_source, copy_source, hex_source,
+    CheckEngine, EntryRows, HexEngine, LINE_ROOM, Limits, LineForm, LineOut, ListEngine, OpenFault,
+    Outcome, PartRows, ToolFault, check_parts_source, check_source, copy_source, hex_source,
     list_next, list_source, print_dump, run_check, run_check_parts, run_copy, run_hex,
     run_in_blocks, run_list,
 };
@@ -222,11 +222,15 @@ fn end_by_blocks<S: Store + Drop, A: Allocator + Copy, O: Out>(
     let text = LineForm::Text;
     match run.task {
         Task::Check => {
-            let engine = CheckEngine { form: text };
+            let engine = CheckEngine {
+                form: text,
+                rows: EntryRows,
+            };
             end_of(run_in_blocks(engine, heap, source, limits, blocks))
         }
         Task::CheckParts(form) => {
-            let engine = CheckPartsEngine { form };
+            let rows = PartRows;
+            let engine = CheckEngine { form, rows };
             end_of(run_in_blocks(engine, heap, source, limits, blocks))
         }
         Task::List | Task::Symbols => {

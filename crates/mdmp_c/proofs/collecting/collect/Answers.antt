@@ -17,7 +17,7 @@ use Rattle.mdmp_engines.proofs.Asking.{given_end, given_fault}
 use Rattle.mdmp_lister.proofs.Standpoints.{run_fetch}
 use Rattle.mdmp_summary.proofs.InEntries.{answers_fault, answers_item}
 use Rattle.mdmp_c.proofs.Coming.{lists_on}
-use Rattle.mdmp_c.proofs.Gathered.{Collects-end, Collects-fault, HasCollected-nothing, HasCollected-passed, HasCollected-taken, names_left}
+use Rattle.mdmp_c.proofs.Gathered.{Collects-end, Collects-fault, HasCollected-more, HasCollected-nothing, names_left}
 use Rattle.mdmp_c.proofs.Stopping.{listing_over}
 use Rattle.mdmp_c.proofs.collecting.collect.Goals as goal
 
@@ -41,38 +41,6 @@ returns-in-Ok-None g c = λ file good run known.
       leaves = rw (c.in-Ok-None.is, c.in-Ok-None.field-0-is) at c.next.follows.holds-at-none;
       gives = λ left known. rw c.in-Ok-None.field-0-is at (c.in-Ok-None.ensures.gives left known);
     } known)
-
-pub loop-item-preserved-in-Some : goal.loop-item-preserved-in-Some
-loop-item-preserved-in-Some g c =
-    let so_far = c.loop-item.invariant.source in
-    let holds = c.next.follows.holds-at-none in
-    record {
-      source = record { count = so_far.count + _; fetches = fetches_then _ _ _ _ _ so_far.fetches holds.list.spends.fetches };
-      going = rw (c.in-Ok-Some.is, c.in-Ok-Some.field-0-is) at holds.list.stands.stop;
-      stands = λ in_chosen more. answers_item c.loop-item.lister c.next.follows.lender-at-none holds.list.same.choice holds.list.same.entries (c.loop-item.invariant.stands in_chosen) c.in-Ok-Some.item
-          (rw (c.in-Ok-Some.is, c.in-Ok-Some.field-0-is) at (holds.follows c.loop-item.invariant.going));
-      same = same_lister-then _ _ _ c.loop-item.invariant.same holds.list.same;
-      requested =
-          let so_far = c.loop-item.invariant.requested in
-          let x = c.in-Ok-Some.item in (
-            so_far.0 ++ plain x ∷ [],
-            requested_more _ _ _ _ so_far.0 (plain x) so_far.1 (item_requested _ x _ (rw (c.in-Ok-Some.is, c.in-Ok-Some.field-0-is) at holds) (λ left known. rw c.in-Ok-Some.field-0-is at (c.in-Ok-Some.ensures.gives left known)))
-                (aside_none _),
-          );
-      collected = λ file good run known.
-          let before = c.loop-item.invariant.collected file good run known in
-          let first : slice_get before.0.items 0 ≡ Some (plain c.in-Ok-Some.item) = rw c.in-Ok-Some.field-0-is at (c.in-Ok-Some.ensures.gives before.0 before.1.0) in (
-            tail before.0,
-            (
-              rw (c.in-Ok-Some.is, c.in-Ok-Some.field-0-is, before.1.0) at holds.list.stands.left,
-              (
-                HasCollected-taken g.T.PlainRow.row_of run before.0 _ _ _ _ _ (plain c.in-Ok-Some.item) c.in-Some.row before.1.1.0 first (sym c.of.ensures ∙ c.in-Some.is)
-                    c.saturating_add-count.ensures c.set_row.ensures,
-                names_left before.0 c.in-Ok-Some.item _ _ _ first before.1.1.1 holds.few_names (rw (c.in-Ok-Some.is, c.in-Ok-Some.field-0-is) at holds.list.spends.names),
-              ),
-            ),
-          );
-    }
 
 pub loop-item-preserved : goal.loop-item-preserved
 loop-item-preserved g c =
@@ -98,7 +66,7 @@ loop-item-preserved g c =
             (
               rw (c.in-Ok-Some.is, c.in-Ok-Some.field-0-is, before.1.0) at holds.list.stands.left,
               (
-                HasCollected-passed g.T.PlainRow.row_of run before.0 _ _ _ (plain c.in-Ok-Some.item) before.1.1.0 first (sym c.of.ensures ∙ c.in_default.is),
+                HasCollected-more g.T.PlainRow.row_of run before.0 _ _ _ _ _ (plain c.in-Ok-Some.item) c.of.result before.1.1.0 first (sym c.of.ensures) c.take_row-count.ensures,
                 names_left before.0 c.in-Ok-Some.item _ _ _ first before.1.1.1 holds.few_names (rw (c.in-Ok-Some.is, c.in-Ok-Some.field-0-is) at holds.list.spends.names),
               ),
             ),

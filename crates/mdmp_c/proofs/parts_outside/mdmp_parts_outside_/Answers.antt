@@ -1,60 +1,6 @@
-use Rattle.std.proofs.Common.{rules, ◌≡◌, ◌∙◌, ◌+◌, ◌<◌, ◌^◌, ℕ, None, Some, arith, ap, length, refl, subst}
-use Rattle.std.specs.Prelude.{nat_lt, if◌then◌else◌}
-use Rattle.mdmp_source.specs.Store.{IsGood}
-use Rattle.mdmp_lister.proofs.Fetches.{IsGood-later}
-use Rattle.mdmp_wire.specs.declared.header.Header.{Header}
-use Rattle.mdmp_lister.specs.declared.choice.Choice.TheVariants.{All}
-use Rattle.mdmp_lister.specs.Format.Listing.{entry_count}
-use Rattle.mdmp_engines.proofs.Engining.{IsOpened-new}
-use Rattle.mdmp_c.specs.Fault.{budget_fault, status_of}
-use Rattle.mdmp_lister.specs.declared.fault.ListFault.{ListFault}
-use Rattle.mdmp_c.specs.Limits.{AreLimits, EndsChecking, KeepsMemory, most_read, names_checked}
-use Rattle.mdmp_c.specs.Table.{EndsListAt, IsEndedAt}
-use Rattle.mdmp_c.specs.PartsOutside.{ArePartsOutside, GivesParts}
-use Rattle.mdmp_c.proofs.Coming.{opened_in}
-use Rattle.mdmp_c.proofs.Ending.{Ends-refused, keeps_memory}
-use Rattle.mdmp_c.proofs.Losing.{Ends-lost, all_lost, no_parts}
-use Rattle.mdmp_c.proofs.Stopping.{ended_over, least_read, most_checked, opening_over, sized}
+use Rattle.mdmp_c.proofs.Judging.{Ends-as}
+use Rattle.mdmp_c.proofs.Losing.{are_parts}
 use Rattle.mdmp_c.proofs.parts_outside.mdmp_parts_outside_.Goals as goal
 
-pub returns-in-Err : goal.returns-in-Err
-returns-in-Err c =
-    let file = c.args.file.now in
-    let good : IsGood c.new-source.result.store file = search rules in
-    let valid : AreLimits c.args.limits.now = c.in-Some.ensures.valid in
-    Ends-refused (ArePartsOutside file c.args.limits.now.name) file All (AreLimits c.args.limits.now) c.args.limits.now c.in-Some.limits c.in-Some.ensures (EndsChecking c.args.limits.now file) (no_parts file c.args.limits.now.name)
-    (all_lost file c.args.limits.now.name) c.in-Err.refused.fault _ _ _ _ _ valid (opening_over c.args.limits.now c.in-Some.limits file All _ _ _ c.in-Err.refused.fault _ c.in-Some.ensures good.known (sized file c.new-source.result good.known c.new-source.ensures.content) (search rules) c.new-source.ensures.counts.0
-    (least_read file All c.args.limits.now.name _) c.in-Err.ensures.refused.fetches.kept c.in-Err.ensures.refused.fetches.next c.in-Err.ensures.refused.over (c.in-Err.ensures.within file good.known))
-    (c.in-Err.ensures.opens file good.known) (c.in-Err.ensures.within file good.known) (c.in-Err.ensures.refused.fetches.good file good)
-    (c.refuse-in-Err.ensures.status ∙ ap status_of c.open_fault.ensures) c.refuse-in-Err.ensures.count
-    (c.refuse-in-Err.ensures.fault ∙ c.open_fault.ensures) refl
-
 pub returns : goal.returns
-returns c =
-    let file = c.args.file.now in
-    let good : IsGood c.new-source.result.store file = search rules in
-    let valid : AreLimits c.args.limits.now = c.in-Some.ensures.valid in
-    let new = c.in-Ok.ensures.new in
-    let now : IsGood c.in-Ok.lister.source.store file = IsGood-later file _ _ _ new.fetches good in
-    let found = c.lost_rows-lost.ensures file now in
-    let lister = c.in-Ok.lister in
-    let MayEnd = EndsListAt lister (most_read file lister.choice lister.limit (lister.counts.names + names_checked file lister.choice lister.limit)) in
-    let limit : c.in-Ok.lister.limit ≡ c.args.limits.now.name = new.list.asked.limit_is ∙ c.in-Some.ensures.name in
-    let named = subst (λ (n : ℕ). GivesParts file n MayEnd c.lost_rows-lost.result c.args.out.now c.lost_rows-lost.new.out) limit found in
-    let entries : c.header-entries.result.number_of_streams ≡ entry_count file = ap (λ (h : Header). h.number_of_streams) (c.header-entries.ensures ∙ new.list.read.header_is file good.known) in
-    let few : entry_count file < 2 ^ 32 = omega (arith, entries) in
-    let size : lister.source.size ≡ length file = new.fetches.same_size ∙ sized file c.new-source.result good.known c.new-source.ensures.content in
-    let most = most_checked file All c.args.limits.now.name lister new.list.asked.choice_is limit new.list.counts.names in
-    let can : (f : ListFault) → MayEnd f → EndsChecking c.args.limits.now file (budget_fault f.offset f.size) =
-    λ f ended. ended_over c.args.limits.now c.in-Some.limits file All (Some All) _ lister f.offset f.size c.in-Some.ensures (opened_in _ All c.in-Some.limits file lister good.known size new.list)
-    (subst (λ n. IsEndedAt lister (Some n) f.offset f.size) most ended) in
-    Ends-lost file c.args.limits.now.name (AreLimits c.args.limits.now) (KeepsMemory c.args.limits.now file All) (EndsChecking c.args.limits.now file) MayEnd c.lost_rows-lost.result c.tell.result c.tell.new.count c.ending_told.result
-    c.tell.new.fault c.args.out.now c.lost_rows-lost.new.out valid
-    (keeps_memory c.args.limits.now c.in-Some.limits file All None c.in-Some.ensures (c.in-Ok.ensures.within file good.known) (c.in-Ok.ensures.opens file good.known) (λ _. c.in-Ok.ensures.new.opening file good.known)) can
-    (c.in-Ok.ensures.opens file good.known) few named c.ending_told.ensures
-    (λ n is. subst (λ (m : ℕ). c.tell.result ≡ (if nat_lt m n then 4 else status_of c.ending_told.result)) c.lost_rows-lost.auto.out (c.tell.ensures.status n is)) c.tell.ensures.count c.tell.ensures.fault
-
-pub lost_rows-lost-requires : goal.lost_rows-lost-requires
-lost_rows-lost-requires c =
-    let opened = IsOpened-new _ All _ _ c.in-Ok.ensures.new in
-    record { choice_is = opened.choice_is; stop = opened.stop; header_is = opened.header_is; left = opened.left }
+returns c = Ends-as _ _ (are_parts c.args.file.now c.args.limits.now.name) c.give_checked.ensures
