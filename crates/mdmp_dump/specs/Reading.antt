@@ -26,7 +26,7 @@ use Rattle.mdmp_lister.specs.declared.choice.Choice.{Choice}
 use Rattle.mdmp_lister.specs.declared.limits.Limits.{Limits}
 use Rattle.mdmp_lister.specs.declared.name.Name.{Name}
 use Rattle.mdmp_lister.specs.declared.kind.StreamKind.{StreamKind}
-use Rattle.mdmp_lister.specs.declared.kind.StreamKind.TheVariants as kinds64
+use Rattle.mdmp_lister.specs.declared.kind.StreamKind.TheVariants.{Memory64}
 use Rattle.mdmp_lister.specs.declared.step.ItemRead.{ItemRead}
 use Rattle.mdmp_lister.specs.declared.step.ItemRead.TheVariants as reads
 use Rattle.mdmp_lister.specs.declared.step.RecordRead.{RecordRead}
@@ -272,7 +272,7 @@ IsToldGoing old (tolds.Behind next) new = IsGoing old next new
 -- this record stands at o, record k of the stream of this kind at `at`; the bytes of a 64-bit range stand at `far`
 pub record IsRecordIn (kind : StreamKind) (F : List ℕ) (at k o : ℕ) (w : AnyRecord) (far : ℕ) : Type 0 where
   pub fields : w ≡ record_at kind F o
-  pub range : kind ≡ kinds64.Memory64 → far ≡ range_offset F at k
+  pub range : kind ≡ Memory64 → far ≡ range_offset F at k
 
 -- the name, or none, stands where a slot says
 abbrev pub IsSlotName : List ℕ → Slot → Option (List ℕ) → Type 0
