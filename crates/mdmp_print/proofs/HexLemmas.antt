@@ -1,15 +1,15 @@
 -- The texts of a list that go out one by one, and the cells and the lines of some bytes.
-use Rattle.std.proofs.Common.{◌≡◌, ◌∙◌, ℕ, ◌+◌, ◌-◌, ◌<◌, ◌≤◌, zero, suc, min, Bool, List, [], ◌∷◌, ◌++◌, Option, length, get_or, take, drop, refl, ap, sym, subst, append-nil, zero-add, arith}
+use Rattle.std.proofs.Common.{◌≡◌, ◌∙◌, ℕ, ◌+◌, ◌-◌, ◌<◌, ◌≤◌, zero, suc, min, Bool, List, [], ◌∷◌, ◌++◌, Option, length, get_or, take, drop, refl, ap, sym, subst, zero-add, arith}
 use Rattle.std.specs.List.{flat_map}
 use Rattle.std.specs.Int.{div_ceil}
 use Rattle.std.proofs.lemmas.Grind.{common_steps}
-use Rattle.std.proofs.lemmas.List.{take_more, take_all, length-drop}
-use Rattle.std.proofs.lemmas.List.Concat.{flat_map-append}
+use Rattle.std.proofs.lemmas.List.{take_all, length-drop}
 use Rattle.std.proofs.lemmas.List.FromFn.{length-range_with_len, get_or-range_with_len}
 use Rattle.mdmp_source.specs.Output.{OutState, PutsAll, PutsPrefix}
 use Rattle.mdmp_source.specs.OutputLaws.{PutsAll-PutsAll, PutsPrefix-flat_map}
 use Rattle.mdmp_lister.specs.Addressing.{cell, cells}
 use Rattle.mdmp_print.specs.HexText.{line_numbers}
+use Rattle.mdmp_print.proofs.Texts.{texts_with}
 
 -- ---- a list of texts
 
@@ -19,12 +19,6 @@ pub record IsItem {X : Type 0} (xs : List X) (i : ℕ) (x : X) : Type 0 where
   pub is : get_or xs i x ≡ x
 
 -- the texts up to that of one are those before it, and its own
-pub texts_with : {X : Type 0} (f : X → List ℕ) (xs : List X) (i : ℕ) (d : X) → i < length xs → flat_map f (take (i + 1) xs) ≡ flat_map f (take i xs) ++ f (get_or xs i d)
-texts_with f xs i d lt =
-    ap (flat_map f) (take_more xs i d lt)
-    ∙ flat_map-append f (take i xs) (get_or xs i d ∷ [])
-    ∙ ap (λ (text : List ℕ). flat_map f (take i xs) ++ text) (append-nil (f (get_or xs i d)))
-
 pub text_more : {X : Type 0} (f : X → List ℕ) (xs : List X) (i : ℕ) (x : X) → IsItem xs i x → flat_map f (take (i + 1) xs) ≡ flat_map f (take i xs) ++ f x
 text_more {X = X} f xs i x at =
     texts_with f xs i x at.within ∙ ap (λ (y : X). flat_map f (take i xs) ++ f y) at.is

@@ -52,7 +52,7 @@ pub escape-decimal : (n : ℕ) → escape (decimal n) ≡ decimal n
 unfolding digits
 escape-decimal n = escape-onto 10 false (λ n. omega arith) 64 n [] refl
 
-escape-sixteens : (capital : Bool) (n : ℕ) → escape (digits 16 capital n) ≡ digits 16 capital n
+pub escape-sixteens : (capital : Bool) (n : ℕ) → escape (digits 16 capital n) ≡ digits 16 capital n
 unfolding digits
 escape-sixteens capital n = escape-onto 16 capital (λ n. omega arith) 64 n [] refl
 

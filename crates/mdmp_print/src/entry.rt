@@ -1,5 +1,5 @@
 //! Where a record stands: the entry of its stream, and its index there.
-ghost use Rattle.std.specs.Prelude.{[], ◌++◌, codes, refl, true};
+ghost use Rattle.std.specs.Prelude.{◌++◌, codes, refl, true};
 ghost use Rattle.std.specs.Fmt.{decimal};
 ghost use Rattle.mdmp_print.specs.Json.{of_number};
 ghost use Rattle.mdmp_print.specs.Shown.{ArePrinted-at, at_text, number-member};
@@ -85,36 +85,6 @@ impl Piece for EntryNumber {
 }
 
 impl RecordFields for EntryNumber {
-    type Members = EntryMember;
-
-    ghost members_of = { λ p. record { 0 = p.0 } };
-
-    #[inline(always)]
-    fn members(&self) -> EntryMember {
-        EntryMember(self.0)
-    }
-}
-
-/// The entry of a stream, which a line of text leaves out.
-#[derive(Clone, Copy)]
-pub struct EntryOnly(pub u32);
-
-impl Piece for EntryOnly {
-    ghost text = { λ p. [] };
-
-    ghost before = { λ p more. more };
-
-    ghost most = { 0 };
-
-    ghost joined = { λ p more. refl };
-
-    #[inline(always)]
-    fn write_at(&self, _buffer: &mut [u8], at: usize) -> usize {
-        at
-    }
-}
-
-impl RecordFields for EntryOnly {
     type Members = EntryMember;
 
     ghost members_of = { λ p. record { 0 = p.0 } };

@@ -47,6 +47,13 @@ impl Value for PartText {
     }
 }
 
+/// A class up to the size, the size, and the offset: numbers.
+macro_rules! placed_numbers {
+    ($class:expr, $size:expr, $offset:expr) => {
+        row![$class, $size, b",\"offset\":", $offset]
+    };
+}
+
 /// A part as members of an object.
 #[derive(Clone, Copy)]
 pub struct PartMembers(pub Extent, pub Location);
@@ -66,22 +73,10 @@ impl Piece for PartMembers {
             Extent::Empty => b"\"class\":\"empty\"".write_at(buffer, at),
             Extent::Absent => row![b"\"class\":\"absent\",\"size\":", size].write_at(buffer, at),
             Extent::Inside => {
-                row![
-                    b"\"class\":\"inside\",\"size\":",
-                    size,
-                    b",\"offset\":",
-                    rva
-                ]
-                .write_at(buffer, at)
+                placed_numbers!(b"\"class\":\"inside\",\"size\":", size, rva).write_at(buffer, at)
             }
             Extent::Outside => {
-                row![
-                    b"\"class\":\"outside\",\"size\":",
-                    size,
-                    b",\"offset\":",
-                    rva
-                ]
-                .write_at(buffer, at)
+                placed_numbers!(b"\"class\":\"outside\",\"size\":", size, rva).write_at(buffer, at)
             }
         }
     }
@@ -139,6 +134,13 @@ impl RecordFields for RangeText {
     }
 }
 
+/// A class up to the size, the size, and the offset: strings.
+macro_rules! placed_strings {
+    ($class:expr, $range:expr) => {
+        row![$class, $range.size, b"\",\"offset\":\"", $range.offset, b"\""]
+    };
+}
+
 /// A range as members of an object, each behind a comma; the numbers are strings.
 #[derive(Clone, Copy)]
 pub struct RangeMembers {
@@ -162,22 +164,13 @@ impl Piece for RangeMembers {
             Extent::Absent => {
                 row![b",\"class\":\"absent\",\"size\":\"", self.size, b"\""].write_at(buffer, at)
             }
-            Extent::Inside => row![
-                b",\"class\":\"inside\",\"size\":\"",
-                self.size,
-                b"\",\"offset\":\"",
-                self.offset,
-                b"\"",
-            ]
-            .write_at(buffer, at),
-            Extent::Outside => row![
+            Extent::Inside => placed_strings!(b",\"class\":\"inside\",\"size\":\"", self).write_at(
+                buffer, at,
+            ),
+            Extent::Outside => placed_strings!(
                 b",\"class\":\"outside\",\"size\":\"",
-                self.size,
-                b"\",\"offset\":\"",
-                self.offset,
-                b"\"",
-            ]
-            .write_at(buffer, at),
+                self
+            ).write_at(buffer, at),
         }
     }
 }

@@ -1,6 +1,6 @@
 //! RecordFields of records, of which each stands in a line of text and in an object.
 ghost use Rattle.mdmp_print.specs.Joined.{joined-field};
-ghost use Rattle.std.specs.Prelude.{◌≡◌, ◌+◌, ◌++◌, codes, refl};
+ghost use Rattle.std.specs.Prelude.{◌≡◌, ◌+◌, ◌++◌, [], codes, refl};
 
 use crate::piece::Piece;
 use crate::values::{Json, JsonMember, Members, NextMember};
@@ -89,6 +89,36 @@ impl RecordFields for LineEnd {
     fn members(&self) {}
 }
 
+/// Members of an object, which a line of text leaves out.
+#[derive(Clone, Copy)]
+pub struct ObjectOnly<M>(pub M);
+
+impl<M: Members> Piece for ObjectOnly<M> {
+    ghost text = { λ p. [] };
+
+    ghost before = { λ p more. more };
+
+    ghost most = { 0 };
+
+    ghost joined = { λ p more. refl };
+
+    #[inline(always)]
+    fn write_at(&self, buffer: &mut [u8], at: usize) -> usize {
+        ().write_at(buffer, at)
+    }
+}
+
+impl<M: Members + Copy> RecordFields for ObjectOnly<M> {
+    type Members = M;
+
+    ghost members_of = { λ p. p.0 };
+
+    #[inline(always)]
+    fn members(&self) -> M {
+        self.0
+    }
+}
+
 impl RecordFields for () {
     type Members = ();
 
@@ -133,18 +163,7 @@ impl<
     ghost members_of = { λ p. (A.members_of p.0, B.members_of p.1, C.members_of p.2, D.members_of p.3, E.members_of p.4, F.members_of p.5, G.members_of p.6, H.members_of p.7) };
 
     #[inline(always)]
-    fn members(
-        &self,
-    ) -> (
-        A::Members,
-        B::Members,
-        C::Members,
-        D::Members,
-        E::Members,
-        F::Members,
-        G::Members,
-        H::Members,
-    ) {
+    fn members(&self) -> Self::Members {
         (
             self.0.members(),
             self.1.members(),

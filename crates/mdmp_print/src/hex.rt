@@ -1,9 +1,9 @@
 //! Numbers in hexadecimal digits.
-ghost use Rattle.std.specs.Prelude.{◌≡◌, ◌+◌, ◌%◌, ◌≤◌, ◌<◌, ◌++◌, codes, length, refl, true};
+ghost use Rattle.std.specs.Prelude.{◌≡◌, ◌+◌, ◌%◌, ◌^◌, ◌≤◌, ◌<◌, ◌++◌, codes, false, length, refl, true};
 ghost use Rattle.std.specs.Fmt.{digit_glyph, digits};
 ghost use Rattle.mdmp_wire.specs.Digits.{hex};
 ghost use Rattle.mdmp_print.specs.Buffer.{IsPutBehind};
-ghost use Rattle.mdmp_print.specs.Escapes.{escape-hex};
+ghost use Rattle.mdmp_print.specs.Escapes.{escape-hex, escape-sixteens};
 ghost use Rattle.mdmp_print.specs.Shown.{both, escape-plain};
 ghost use Rattle.mdmp_print.specs.UpperHex.{upper_hex};
 
@@ -242,22 +242,54 @@ impl<H: PlainPiece + Copy> Value for Prefixed<H> {
     }
 }
 
+/// A number in hexadecimal digits, in lower case and without zeros in front.
+#[derive(Clone, Copy)]
+pub struct ShortHex(pub u64);
+
+impl Piece for ShortHex {
+    ghost text = { λ p. digits 16 false p.0 };
+
+    ghost before = { λ p more. digits 16 false p.0 ++ more };
+
+    ghost most = { 16 };
+
+    ghost joined = { λ p more. refl };
+
+    fn write_at(&self, buffer: &mut [u8], at: usize) -> usize {
+        short_hex_at::<16>(buffer, at, false, self.0)
+    }
+}
+
+impl PlainPiece for ShortHex {
+    ghost is_plain = { λ p. true };
+
+    ghost same = { λ p plain. escape-sixteens false p.0 };
+}
+
 /// Puts a number in hexadecimal digits, in upper case and without zeros in front, behind the first `len` bytes.
 pub(crate) fn upper_hex_at(text: &mut [u8], len: usize, number: u32) -> usize
     requires { len + 8 ≤ length text.old }
     ensures { IsPutBehind text.old len (digits 16 true number) 8 text.new result }
 {
-    short_hex_at(text, len, true, number)
+    short_hex_at::<8>(text, len, true, u64::from(number))
 }
 
-/// Puts a number in hexadecimal digits, in upper case or in lower and without zeros in front, behind the first `len`
-/// bytes.
-pub(crate) fn short_hex_at(text: &mut [u8], len: usize, upper: bool, number: u32) -> usize
-    requires { len + 8 ≤ length text.old }
-    ensures { IsPutBehind text.old len (digits 16 upper number) 8 text.new result }
+/// Puts a number of at most `N` hexadecimal digits, in upper case or in lower and without zeros in front, behind the
+/// first `len` bytes.
+pub(crate) fn short_hex_at<const N: usize>(
+    text: &mut [u8],
+    len: usize,
+    upper: bool,
+    number: u64,
+) -> usize
+    requires some { 0 < N }
+    requires most { N ≤ 16 }
+    requires few { number < 16 ^ N }
+    requires room { len + N ≤ length text.old }
+    ensures { IsPutBehind text.old len (digits 16 upper number) N text.new result }
 {
-    let mut places = [0; 8];
-    let mut first = 7;
+    let mut places = [0; N];
+    let mut first = N - 1;
     let mut left = number;
     while left >= 16 {
         places[first] = hex_digit(upper, (left % 16) as u8);
@@ -265,5 +297,6 @@ pub(crate) fn short_hex_at(text: &mut [u8], len: usize, upper: bool, number: u32
         first -= 1;
     }
     places[first] = hex_digit(upper, left as u8);
-    slice_at(text, len, &places[first..])
+    let digits = &places[..];
+    slice_at(text, len, &digits[first..])
 }

@@ -8,7 +8,6 @@ ghost use Rattle.mdmp_print.specs.Ids.{pe_id_of, stamp_id};
 ghost use Rattle.mdmp_print.specs.Json.{text_or_null};
 ghost use Rattle.mdmp_print.specs.JsonPieces.{text_or_null_text};
 
-use crate::fields::RecordFields;
 use crate::hex::{UpperHex8, short_hex_at};
 use crate::in_buffer::slice_at;
 use crate::piece::Piece;
@@ -32,7 +31,7 @@ impl Piece for StampId {
 
     fn write_at(&self, buffer: &mut [u8], at: usize) -> usize {
         let at = UpperHex8(self.0).write_at(buffer, at);
-        short_hex_at(buffer, at, false, self.1)
+        short_hex_at::<8>(buffer, at, false, u64::from(self.1))
     }
 }
 
@@ -72,38 +71,6 @@ impl Members for CodeIdMember {
     ghost is_plain = { λ p. true };
 
     ghost shown = { λ p plain. ArePrinted-code_id p.0 };
-}
-
-/// The type of a stream, whose name a line of text leaves out.
-#[derive(Clone, Copy)]
-pub struct TypeName(pub u32);
-
-impl Piece for TypeName {
-    ghost use Rattle.std.specs.Prelude.{[]};
-
-    ghost text = { λ p. [] };
-
-    ghost before = { λ p more. more };
-
-    ghost most = { 0 };
-
-    ghost joined = { λ p more. refl };
-
-    #[inline(always)]
-    fn write_at(&self, _buffer: &mut [u8], at: usize) -> usize {
-        at
-    }
-}
-
-impl RecordFields for TypeName {
-    type Members = TypeNameMember;
-
-    ghost members_of = { λ p. record { 0 = p.0 } };
-
-    #[inline(always)]
-    fn members(&self) -> TypeNameMember {
-        TypeNameMember(self.0)
-    }
 }
 
 /// The name of a type of streams as a member of an object, null if the type has none.

@@ -16,8 +16,8 @@ pub(crate) fn text_at<const N: usize>(text: &mut [u8], len: usize, piece: [u8; N
     end
 }
 
-/// Puts a text behind the first `len` bytes.
-pub(crate) fn slice_at(text: &mut [u8], len: usize, piece: &[u8]) -> usize
+/// Puts a text behind the first `len` bytes of a buffer, and returns where it ends.
+pub fn slice_at(text: &mut [u8], len: usize, piece: &[u8]) -> usize
     requires { len + length piece.now ≤ length text.old }
     ensures { IsPutBehind text.old len piece.now (length piece.now) text.new result }
 {

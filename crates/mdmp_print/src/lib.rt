@@ -51,18 +51,19 @@ mod version;
 
 pub use crate::bytes::{LongBytes, SHORT, ShortBytes};
 pub use crate::codeview::{BuildDigits, Cut, DebugId, Guid, GuidDigits, Signature};
-pub use crate::entry::{At, AtMembers, EntryMember, EntryNumber, EntryOnly};
+pub use crate::entry::{At, AtMembers, EntryMember, EntryNumber};
 pub use crate::error_line::{print_error, print_error_named};
 pub use crate::exception::{Information, InformationMember};
 pub use crate::extent::{PartMembers, PartText, RangeMembers, RangeText};
 pub use crate::fault_words::{
     BudgetWords, ItemMember, ItemWords, KindWords, ListWords, OpenWords, SourceWords,
 };
-pub use crate::fields::{Field, LineEnd, RecordFields, Value};
+pub use crate::fields::{Field, LineEnd, ObjectOnly, RecordFields, Value};
 pub use crate::form::LineForm;
-pub use crate::hex::{Hex2, Hex4, Hex8, Hex16, Prefixed, UpperHex8};
+pub use crate::hex::{Hex2, Hex4, Hex8, Hex16, Prefixed, ShortHex, UpperHex8};
 pub use crate::hex_lines::print_hex_lines;
-pub use crate::ids::{CodeIdMember, StampId, TypeName, TypeNameMember};
+pub use crate::ids::{CodeIdMember, StampId, TypeNameMember};
+pub use crate::in_buffer::slice_at;
 pub use crate::item::{print_dump, print_item};
 pub use crate::json_strings::LossyText;
 pub use crate::json_text::{BytesValue, NameValue};
@@ -79,7 +80,7 @@ pub use crate::stack::{Stack, StackStart};
 pub use crate::symbols::{ModulePlace, print_symbols};
 pub use crate::text::{LongText, print_around, print_parts};
 pub use crate::values::{
-    InQuotes, Json, JsonMember, LongValue, Members, NextMember, Null, Object, PlainPiece, Word,
+    InQuotes, Json, JsonMember, LongValue, Members, NextMember, Null, Object, PlainPiece,
 };
 pub use crate::verdict::print_verdict;
 pub use crate::version::{Build, Version};

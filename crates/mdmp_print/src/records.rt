@@ -5,13 +5,13 @@ ghost use Rattle.mdmp_print.specs.ItemLines.{entry_line, exception_line, module_
 ghost use Rattle.mdmp_print.specs.Json.{object, object_line};
 ghost use Rattle.mdmp_print.specs.JsonLines.{exception_members, module_members, range_members, region_members, stream_members, system_members, thread_members, thread_name_members, unloaded_members};
 
-use crate::entry::{At, EntryNumber, EntryOnly};
+use crate::entry::{At, EntryMember, EntryNumber};
 use crate::exception::Information;
 use crate::extent::{PartText, RangeText};
-use crate::fields::Field;
+use crate::fields::{Field, ObjectOnly};
 use crate::form::LineForm;
 use crate::hex::{Hex8, Hex16, Prefixed};
-use crate::ids::{CodeIdMember, TypeName};
+use crate::ids::{CodeIdMember, TypeNameMember};
 use crate::printer::Printer;
 use crate::record::{print_named_record, print_record};
 use crate::stack::Stack;
@@ -43,7 +43,7 @@ pub(crate) fn print_stream<O: Printer>(
             Field(b"type", item.stream_type),
             Field(b"size", item.location.size),
             Field(b"rva", item.location.rva),
-            TypeName(item.stream_type),
+            ObjectOnly(TypeNameMember(item.stream_type)),
         ],
     )
 }
@@ -123,6 +123,7 @@ pub(crate) fn print_thread<O: Printer>(
         (in_form form (thread_line item.now) (object_line (object (thread_members item.now)))) (O.state out.new) }
 {
     let stack = &item.fields.stack;
+    let context = PartText(item.context, item.fields.thread_context);
     print_record(
         form,
         out,
@@ -141,10 +142,7 @@ pub(crate) fn print_thread<O: Printer>(
                     PartText(item.stack, stack.memory)
                 )
             ),
-            Field(
-                b"context",
-                PartText(item.context, item.fields.thread_context)
-            ),
+            Field(b"context", context),
         ],
     )
 }
@@ -232,12 +230,13 @@ pub(crate) fn print_exception<O: Printer>(
     ensures { Puts result (O.state out.old)
         (in_form form (exception_line item.now) (object_line (object (exception_members item.now)))) (O.state out.new) }
 {
+    let context = PartText(item.context, item.fields.thread_context);
     print_record(
         form,
         out,
         b"exception",
         fields![
-            EntryOnly(item.entry),
+            ObjectOnly(EntryMember(item.entry)),
             Field(b"thread", item.fields.thread_id),
             Field(b"code", Prefixed(Hex8(item.fields.exception_code))),
             Field(b"flags", item.fields.exception_flags),
@@ -248,10 +247,7 @@ pub(crate) fn print_exception<O: Printer>(
                 count: item.fields.number_parameters,
                 values: &item.fields.exception_information,
             },
-            Field(
-                b"context",
-                PartText(item.context, item.fields.thread_context)
-            ),
+            Field(b"context", context),
         ],
     )
 }
@@ -270,7 +266,7 @@ pub(crate) fn print_system<O: Printer>(
         out,
         b"system",
         fields_and_name![
-            EntryOnly(item.entry),
+            ObjectOnly(EntryMember(item.entry)),
             Field(b"architecture", item.fields.processor_architecture as u32),
             Field(b"level", item.fields.processor_level as u32),
             Field(b"revision", item.fields.processor_revision as u32),

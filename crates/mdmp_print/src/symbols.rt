@@ -19,7 +19,7 @@ use crate::object_line::{print_object, print_object_around};
 use crate::printer::Printer;
 use crate::row;
 use crate::text::print_around;
-use crate::values::{InQuotes, JsonMember, NextMember, Word};
+use crate::values::{InQuotes, JsonMember, NextMember};
 use mdmp_lister::CodeViewBytes;
 use mdmp_source::OutFailed;
 use mdmp_summary::{BuildId, DebugIdentifier, Pdb20};
@@ -111,23 +111,27 @@ fn print_json<O: Printer>(
             b"pdb",
             row![
                 AtMembers(place.entry, place.index),
-                NextMember(JsonMember(b"kind", Word(b"short"))),
+                NextMember(JsonMember(b"kind", InQuotes(b"short"))),
                 NextMember(JsonMember(b"size", size)),
             ],
         ),
     }
 }
 
-/// The members of the object of a record that is not of the kind RSDS, and then these.
-macro_rules! other_members {
-    ($place:expr, $signature:expr, $size:expr $(, $more:expr)* $(,)?) => {
-        row![
-            AtMembers($place.entry, $place.index),
-            NextMember(JsonMember(b"kind", Word(b"other"))),
-            NextMember(JsonMember(b"signature", InQuotes(Signature($signature)))),
-            NextMember(JsonMember(b"size", $size)),
-            $($more),*
-        ]
+/// Prints the object of a record that is not of the kind RSDS, with these members behind those that each has.
+macro_rules! print_members {
+    ($out:expr, $place:expr, $signature:expr, $size:expr $(, $more:expr)* $(,)?) => {
+        print_object(
+            $out,
+            b"pdb",
+            row![
+                AtMembers($place.entry, $place.index),
+                NextMember(JsonMember(b"kind", InQuotes(b"other"))),
+                NextMember(JsonMember(b"signature", InQuotes(Signature($signature)))),
+                NextMember(JsonMember(b"size", $size)),
+                $($more),*
+            ],
+        )
     };
 }
 
@@ -145,17 +149,14 @@ fn print_other<O: Printer>(
         return print_build_id(place, signature, size, &id, out);
     }
     match Pdb20::read(head, size) {
-        Some(pdb) => print_object(
+        Some(pdb) => print_members!(
             out,
-            b"pdb",
-            other_members![
-                place,
-                signature,
-                size,
-                NextMember(JsonMember(b"debug_id", InQuotes(StampId(pdb.time, pdb.age)))),
-            ],
+            place,
+            signature,
+            size,
+            NextMember(JsonMember(b"debug_id", InQuotes(StampId(pdb.time, pdb.age)))),
         ),
-        None => print_object(out, b"pdb", other_members![place, signature, size]),
+        None => print_members!(out, place, signature, size),
     }
 }
 
@@ -171,17 +172,14 @@ fn print_build_id<O: Printer>(
         → Puts result (O.state out.old) (object_line (pdb_object place.entry place.index head (Other signature size))) (O.state out.new) }
 {
     let DebugIdentifier { guid, age } = DebugIdentifier::of_build_id(id.bytes);
-    print_object(
+    print_members!(
         out,
-        b"pdb",
-        other_members![
-            place,
-            signature,
-            size,
-            NextMember(JsonMember(b"build_id", InQuotes(BuildDigits { bytes: id.bytes }))),
-            NextMember(JsonMember(b"build_id_cut", id.cut)),
-            NextMember(JsonMember(b"debug_id", InQuotes(DebugId(*guid.as_bytes(), age)))),
-        ],
+        place,
+        signature,
+        size,
+        NextMember(JsonMember(b"build_id", InQuotes(BuildDigits { bytes: id.bytes }))),
+        NextMember(JsonMember(b"build_id_cut", id.cut)),
+        NextMember(JsonMember(b"debug_id", InQuotes(DebugId(*guid.as_bytes(), age)))),
     )
 }
 
@@ -200,7 +198,7 @@ fn print_rsds<O: Printer>(
         b"pdb",
         row![
             AtMembers(place.entry, place.index),
-            NextMember(JsonMember(b"kind", Word(b"rsds"))),
+            NextMember(JsonMember(b"kind", InQuotes(b"rsds"))),
             NextMember(JsonMember(b"guid", InQuotes(Guid(guid)))),
             NextMember(JsonMember(b"age", age)),
             NextMember(JsonMember(b"debug_id", InQuotes(DebugId(guid, age)))),

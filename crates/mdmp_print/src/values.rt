@@ -126,35 +126,6 @@ impl<P: PlainPiece> Json for InQuotes<P> {
     ghost shown = { λ p plain. IsPrinted-string (P.text p.0) (P.same p.0 plain) };
 }
 
-/// A word that stands in a string as it is, as a string.
-#[derive(Clone, Copy)]
-pub struct Word<'a, const N: usize>(pub &'a [u8; N]);
-
-impl<'a, const N: usize> Piece for Word<'a, N> {
-    ghost text = { λ p. in_quotes p.0.now };
-
-    ghost before = { λ p more. in_quotes p.0.now ++ more };
-
-    ghost most = { N + 2 };
-
-    ghost joined = { λ p more. refl };
-
-    #[inline(always)]
-    fn write_at(&self, buffer: &mut [u8], at: usize) -> usize {
-        let at = b"\"".write_at(buffer, at);
-        let at = self.0.write_at(buffer, at);
-        b"\"".write_at(buffer, at)
-    }
-}
-
-impl<'a, const N: usize> Json for Word<'a, N> {
-    ghost tokens = { λ p. string p.0.now ∷ [] };
-
-    ghost is_plain = { λ p. are_plain p.0.now };
-
-    ghost shown = { λ p plain. IsPrinted-string p.0.now (escape-plain p.0.now plain) };
-}
-
 /// A member: a name and a value.
 #[derive(Clone, Copy)]
 pub struct JsonMember<'a, const N: usize, V>(pub &'a [u8; N], pub V);

@@ -10,5 +10,4 @@ pub mod JsonSystem
 pub mod JsonText
 pub mod JsonThreads
 pub mod NumberWords
-pub mod ShortHex
 pub mod SummaryText

@@ -6,10 +6,9 @@ ghost use Rattle.mdmp_summary_lines.specs.NumberWords.{code_text};
 
 use crate::file_name::FileName;
 use crate::number_words::{CodeWords, FlagsWords};
-use crate::short_hex::ShortHex;
 use crate::thread_name::NameOfThread;
 use mdmp_lister::Name;
-use mdmp_print::{Hex8, Hex16, LongText, Piece, Prefixed, Printer, print_around, row};
+use mdmp_print::{Hex8, Hex16, LongText, Piece, Prefixed, Printer, ShortHex, print_around, row};
 use mdmp_source::OutFailed;
 use mdmp_summary::{AccessKind, Crash, Reached, Registers};
 use mdmp_wire::SystemRecord;

@@ -7,9 +7,10 @@ ghost use Rattle.mdmp_summary.specs.Identity.{build_id_value};
 ghost use Rattle.mdmp_summary_lines.specs.JsonIds.{built_or_pdb20_text, code_id_text, codeview_ids_text, guid_age_text, module_ids_text, pdb20_text, pe_id_text, told_ids_text};
 
 use crate::json_text::BytesString;
-use crate::short_hex::ShortHex;
 use mdmp_lister::CodeViewBytes;
-use mdmp_print::{BuildDigits, GuidDigits, InQuotes, Piece, Printer, UpperHex8, print_around, row};
+use mdmp_print::{
+    BuildDigits, GuidDigits, InQuotes, Piece, Printer, ShortHex, UpperHex8, print_around, row,
+};
 use mdmp_source::OutFailed;
 use mdmp_summary::{BuildId, CodeId, DebugIdentifier, Pdb20};
 use mdmp_wire::{CodeView, ModuleRecord};

@@ -20,7 +20,6 @@ mod counts;
 mod crash_lines;
 mod file_name;
 mod health;
-mod in_buffer;
 mod json_crash;
 mod json_end;
 mod json_head;
@@ -33,7 +32,6 @@ mod names;
 mod number_name;
 mod number_words;
 mod printing;
-mod short_hex;
 mod system_line;
 mod thread_name;
 

@@ -1,8 +1,7 @@
 //! Names of numbers, which have a few bytes.
 ghost use Rattle.std.specs.Prelude.{◌≤◌, ◌++◌, length, refl};
 
-use crate::in_buffer::put_bytes;
-use mdmp_print::Piece;
+use mdmp_print::{Piece, slice_at};
 
 /// The name of a number: at most 64 bytes, as they are.
 #[derive(Clone, Copy)]
@@ -22,6 +21,6 @@ impl<'a> Piece for NumberName<'a> {
     ghost joined = { λ p more. refl };
 
     fn write_at(&self, buffer: &mut [u8], at: usize) -> usize {
-        put_bytes(buffer, at, self.name.as_bytes())
+        slice_at(buffer, at, self.name.as_bytes())
     }
 }
