@@ -1,7 +1,7 @@
 -- Worked reads of addresses, computed by the definitions.
 use Rattle.std.proofs.Common.{◌≡◌, ℕ, true, false, List, [], ◌∷◌, Some, None, refl}
 use Rattle.mdmp_map.specs.declared.range.Range.{Range}
-use Rattle.mdmp_lister.specs.Addressing.{cells, cells_at, held_at}
+use Rattle.mdmp_lister.specs.Addressing.{cells, cells_at, held_at, stretches_at}
 
 abbrev range_of : ℕ → ℕ → ℕ → Range
 range_of start length offset = record { start = start; length = length; offset = offset }
@@ -31,3 +31,34 @@ none-cells = refl
 
 known_bytes : cells (0 ∷ 11 ∷ []) (false ∷ true ∷ []) ≡ None ∷ Some 11 ∷ []
 known_bytes = refl
+
+-- ---- stretches
+
+overlapping-stretches : stretches_at overlapping 0xfff 6 ≡ 2
+unfolding stretches_at
+overlapping-stretches = refl
+
+-- a range is listed before one that goes on behind it: that one has a stretch on either side. A third has no address of its own
+abbrev around : List Range
+around = range_of 0x1002 2 0 ∷ range_of 0x1000 6 2 ∷ range_of 0x1001 4 0 ∷ []
+
+around-stretches : stretches_at around 0x1000 6 ≡ 3
+unfolding stretches_at
+around-stretches = refl
+
+-- from an address inside a range on
+around-later : stretches_at around 0x1003 2 ≡ 2
+unfolding stretches_at
+around-later = refl
+
+-- ranges whose bytes follow each other are a stretch each, and addresses that none holds are no stretch
+abbrev touching : List Range
+touching = range_of 0x1000 2 0 ∷ range_of 0x1002 2 2 ∷ range_of 0x1006 2 4 ∷ []
+
+touching-stretches : stretches_at touching 0xfff 8 ≡ 3
+unfolding stretches_at
+touching-stretches = refl
+
+gap-stretches : stretches_at touching 0x1004 2 ≡ 0
+unfolding stretches_at
+gap-stretches = refl

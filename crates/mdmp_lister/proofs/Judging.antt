@@ -40,6 +40,7 @@ use Rattle.mdmp_lister.proofs.Classes.{step-told}
 use Rattle.mdmp_lister.proofs.Cursors.{follows_read, may_none, may_then}
 use Rattle.mdmp_lister.proofs.Fetches.{FetchesAtMost-within, told_in_later}
 use Rattle.mdmp_lister.proofs.Mapping.{kept, mapped, ranges-given, ranges_of-plain, ranges_of-within, same_file}
+use Rattle.mdmp_lister.proofs.NamesFetched.{named_one, names_later, names_more, names_none}
 use Rattle.mdmp_lister.proofs.Naming.{faulty_most, names_given, names_of-plain}
 use Rattle.mdmp_lister.proofs.Paying.{bounded_then}
 use Rattle.mdmp_lister.proofs.Requests.{Moves-none, stage-through}
@@ -118,6 +119,7 @@ module _ {S A : Type 0} where
             ∙ ap (λ (zs : List Item). record { items = zs; fault = (current_of c file).fault }) (sym (append_assoc xs ys (current_of c file).items));
         counts = moves_then (names_of_all xs) (names_of_all ys) (names_of_all (xs ++ ys)) a.meter b.meter c.meter (omega (arith, all)) first.counts then.counts;
         names = omega (arith, all, first.names, then.names);
+        named = names_more xs ys a.meter.fetched b.meter.fetched c.meter.fetched first.named then.named;
         cost = HasCost-then (unread_bytes a) (unread_bytes b) (unread_bytes c) a.meter.source b.meter.source c.meter.source xs ys first.cost then.cost;
         rests = omega (arith, first.rests, then.rests);
         may = may_then a.choice a.entries.items a.meter.source.size a.name.limit (cursor_of a) (cursor_of b) (cursor_of c) xs ys first.may
@@ -133,6 +135,7 @@ module _ {S A : Type 0} where
     left = λ file known. refl;
     counts = Moves-none 0 a.meter;
     names = omega arith;
+    named = names_none 1 a.meter.fetched;
     cost = HasCost-none (unread_bytes a) a.meter.source;
     rests = omega arith;
     may = may_none a.choice a.entries.items a.meter.source.size a.name.limit (cursor_of a);
@@ -157,6 +160,7 @@ module _ {S A : Type 0} where
           same_budget = books.same_budget;
         };
         names = omega (arith, books.same_names);
+        named = names_later 1 [] a.meter.fetched a.meter.fetched b.meter.fetched (names_none 1 a.meter.fetched) books.more;
         cost = record {
           fetches = FetchesAtMost-within _ (unread_bytes a + items_cost a.meter.source.size [] - unread_bytes b) a.meter.source b.meter.source (omega arith) books.fetches;
           within = omega (arith, head.owes);
@@ -198,6 +202,10 @@ module _ {S A : Type 0} where
             same_budget = e.counts.same_budget;
           };
           names = omega (arith, names, one, same);
+          named =
+              let begins : (summary_of x).stream ≡ stream_told step = begins_as b.meter.source.size b.name.items step x item.item in
+              let spent : item_cost x ≡ step_cost step = item_cost-step b.meter.source.size b.name.items _ step x held.0 held.1 item.item in
+              named_one (standpoint_of a) x b.meter.fetched (unread_bytes b) (rw (begins, spent) e.costs);
           cost =
               let z = a.meter.source.size in
               let fits = held.0 in
@@ -304,6 +312,7 @@ module _ {S A : Type 0} (items : List Item) (a b : Walk S A) (m n : MapState) (r
         ∙ ap (λ (xs : List Item). record { items = xs; fault = None }) (append-nil items);
     counts = moves_then (names_of_all items) 0 (names_of_all items + 0) a.meter b.meter b.meter (omega arith) read.counts (Moves-none 0 b.meter);
     names = omega (arith, read.names);
+    named = read.named;
     fetches = FetchesAtMost-within _ (unread_bytes a + items_cost a.meter.source.size items + 0) a.meter.source b.meter.source (omega arith) read.cost.fetches;
     at_end = (through-ends b.stage through, tt);
     rests = read.rests;
@@ -350,6 +359,7 @@ module _ {S A : Type 0} (items : List Item) (a b : Walk S A) (m n : MapState) (r
             same_budget = e.counts.same_budget;
           });
           names = omega (arith, read.names, named.0, small, faulty_most f.kind);
+          named = names_later 1 items a.meter.fetched b.meter.fetched c.meter.fetched read.named e.counts.more;
           fetches = fetched;
           at_end = (rw e.stage (stage_by-ends f f.kind not), (omega (arith, (e.met going).number, e.passed), not));
           rests = omega (arith, read.rests, e.rests);
@@ -383,6 +393,7 @@ module _ {S A : Type 0} (items : List Item) (a b : Walk S A) (m n : MapState) (r
             same_budget = e.counts.same_budget;
           });
           names = omega (arith, read.names, e.counts.more_names);
+          named = names_later 1 items a.meter.fetched b.meter.fetched c.meter.fetched read.named e.counts.more;
           fetches = fetched;
           at_end = record {
             of = of;

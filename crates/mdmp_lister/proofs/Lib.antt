@@ -3,6 +3,7 @@ pub mod Advancing
 pub mod Asides
 pub mod Budgets
 pub mod Beginning
+pub mod Begun
 pub mod Bodies
 pub mod Changing
 pub mod Classes
@@ -30,7 +31,9 @@ pub mod Mapping
 pub mod Memory
 pub mod Metering
 pub mod NameRows
+pub mod NamesFetched
 pub mod Naming
+pub mod NextLeft
 pub mod NextSteps
 pub mod NextWalks
 pub mod Numbers

@@ -83,11 +83,11 @@ count_put a n xs within free =
 
 -- ---- one cell
 
-some_is : (o : Option Range) → is_some o ≡ true → (q : Range) × (o ≡ Some q)
+pub some_is : (o : Option Range) → is_some o ≡ true → (q : Range) × (o ≡ Some q)
 some_is None is = absurd (cc)
 some_is (Some q) is = (q, refl)
 
-none_is : (o : Option Range) → is_some o ≡ false → o ≡ None
+pub none_is : (o : Option Range) → is_some o ≡ false → o ≡ None
 none_is None is = refl
 none_is (Some q) is = absurd (cc)
 

@@ -4,7 +4,7 @@ use Rattle.std.specs.Prelude.{IfErr, if◌then◌else◌, min, max, nat_lt, not}
 use Rattle.std.proofs.Math.Nat.{add-mul}
 use Rattle.std.proofs.lemmas.Bool.{lt-ltb}
 use Rattle.mdmp_source.specs.Count.{raised, raised_if}
-use Rattle.mdmp_source.specs.Source.{SourceState}
+use Rattle.mdmp_source.specs.Source.{FetchesAtMost, SourceState}
 use Rattle.mdmp_source.specs.SourceLaws.{fetches_then}
 use Rattle.mdmp_lister.specs.declared.fault.Fault.{Fault}
 use Rattle.mdmp_lister.specs.declared.fault.FaultKind.TheVariants.{NameOdd, NameUnitsOutside}
@@ -91,31 +91,16 @@ module _ (limit rva : ℕ) (old mid new : MeterState) (reached : mid ≡ record 
           caused = caused_read (Unit {0}) fault old.source new.source (rw reached at caused);
         }
 
+    within_length : n ≤ 4 → FetchesAtMost 4 old.source new.source
+    within_length cost = FetchesAtMost-within n 4 old.source new.source cost (rw reached at books.fetches)
+
     -- or its length has a fault
     checked_bad : n ≤ 4 → IsCaused None mid.source new.source → (odd inside : Bool) (bytes : ℕ)
         → IfErr {T = Unit {0}} {E = Fault} (if odd then Err (record { kind = NameOdd; offset = rva; size = bytes })
         else if not inside then Err (record { kind = NameUnitsOutside; offset = rva + 4; size = bytes })
         else Ok tt) (λ fault. ReadsName limit rva (Err fault) old new)
-    checked_bad cost caused true inside bytes = record {
-      fetches = FetchesAtMost-within n 4 old.source new.source cost (rw reached at books.fetches);
-      spends = spends_reached;
-      cost = tt;
-      reached = reached_some;
-      named = tt;
-      at_fault = (omega (arith, names_reached), omega (arith, names_reached));
-      over = tt;
-      caused = record { caused = rw reached at caused; placed = tt };
-    }
-    checked_bad cost caused false false bytes = record {
-      fetches = FetchesAtMost-within n 4 old.source new.source cost (rw reached at books.fetches);
-      spends = spends_reached;
-      cost = tt;
-      reached = reached_some;
-      named = tt;
-      at_fault = (omega (arith, names_reached), omega (arith, names_reached));
-      over = tt;
-      caused = record { caused = rw reached at caused; placed = tt };
-    }
+    checked_bad cost caused true inside bytes = record { fetches = within_length cost; spends = spends_reached; cost = tt; reached = reached_some; named = tt; at_fault = (omega (arith, names_reached), omega (arith, names_reached)); over = tt; caused = record { caused = rw reached at caused; placed = tt } }
+    checked_bad cost caused false false bytes = record { fetches = within_length cost; spends = spends_reached; cost = tt; reached = reached_some; named = tt; at_fault = (omega (arith, names_reached), omega (arith, names_reached)); over = tt; caused = record { caused = rw reached at caused; placed = tt } }
     checked_bad cost caused false true bytes = tt
 
     pub name_bad : n ≤ 4 → IsCaused None mid.source new.source → (odd inside : Bool) (bytes : ℕ) (fault : Fault)

@@ -5,6 +5,7 @@ use Rattle.std.proofs.lemmas.List.{append-nil}
 use Rattle.mdmp_source.specs.SourceLaws.{fetches_then}
 use Rattle.mdmp_source.specs.declared.fault.SourceFault.{SourceFault}
 use Rattle.mdmp_lister.specs.declared.fault.ListFault.{ListFault}
+use Rattle.mdmp_lister.specs.declared.meter.MeterCounts.{MeterCounts}
 use Rattle.mdmp_lister.specs.declared.sink.RunFault.{RunFault}
 use Rattle.mdmp_lister.specs.declared.sink.RunFault.TheVariants as run
 use Rattle.mdmp_lister.specs.Fault.{IsUnobtained}
@@ -12,29 +13,33 @@ use Rattle.mdmp_lister.specs.declared.item.Item.{Item}
 use Rattle.mdmp_lister.specs.Format.Item.{plain}
 use Rattle.mdmp_lister.specs.Format.Listing.{Run, nothing, only_fault}
 use Rattle.mdmp_lister.specs.Lister.{Gives, ListerLeaves, ListerState, ReadsAside, left_after, tail}
+use Rattle.mdmp_lister.specs.Meter.{SpendsAside}
 use Rattle.mdmp_lister.specs.Requested.{AnswersRequest, AreRequested, GivesByRequests, IsRequested, OnlyReadsAside, RunRequests}
 use Rattle.mdmp_lister.specs.Requested.EndsRequests.{asks_in_vain, stops_asking}
 use Rattle.mdmp_lister.specs.Sink.{give_all}
 use Rattle.mdmp_lister.proofs.Handing.{give_all-next}
 use Rattle.mdmp_lister.proofs.Fetches.{FetchesAtMost-none}
 
+pub spends_none : (c : MeterCounts) → SpendsAside 0 0 c c
+spends_none c = record {
+  aside = omega arith;
+  more = omega arith;
+  aside_calls = omega arith;
+  more_aside_calls = omega arith;
+  same_fetched = refl;
+  same_calls = refl;
+  same_names = refl;
+  same_start = refl;
+  same_budget = refl;
+  same_asked = refl;
+}
+
 pub aside_none : (v : ListerState) → OnlyReadsAside v v
 aside_none v = record {
   calls = 0;
   bytes = 0;
   same = refl;
-  aside = record {
-    aside = omega arith;
-    more = omega arith;
-    aside_calls = omega arith;
-    more_aside_calls = omega arith;
-    same_fetched = refl;
-    same_calls = refl;
-    same_names = refl;
-    same_start = refl;
-    same_budget = refl;
-    same_asked = refl;
-  };
+  aside = spends_none v.counts;
   fetches = FetchesAtMost-none v.source;
 }
 

@@ -35,7 +35,7 @@ begun_more ranges address d count begun some =
     omega (arith, first, rest)
 
 -- where the addresses before are of another range
-begins_here : (ranges : List Range) (address d : ℕ) → is_held ranges (address + d) ≡ true
+pub begins_here : (ranges : List Range) (address d : ℕ) → is_held ranges (address + d) ≡ true
     → (0 < d → is_same_range (first_range ranges (address + (d - 1))) (first_range ranges (address + d)) ≡ false) → begins_stretch ranges address d ≡ true
 begins_here ranges address zero held edge = held
 begins_here ranges address (suc k) held edge =
@@ -46,7 +46,7 @@ begins_here ranges address (suc k) held edge =
 
 -- ---- where a stretch ends
 
-same_range : (q r : Range) → is_same_range (Some q) (Some r) ≡ true → q ≡ r
+pub same_range : (q r : Range) → is_same_range (Some q) (Some r) ≡ true → q ≡ r
 same_range q r is =
     let parts = and_parts (q.start == r.start) (q.length == r.length && q.offset == r.offset) is in
     let rest = and_parts (q.length == r.length) (q.offset == r.offset) parts.1 in

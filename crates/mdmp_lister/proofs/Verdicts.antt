@@ -42,6 +42,7 @@ use Rattle.mdmp_lister.specs.Walk.Mapping.{IsMapped}
 use Rattle.mdmp_lister.specs.Walk.Owing.{HasRoom, count_told}
 use Rattle.mdmp_lister.specs.Walk.Paying.{owed_of, unread_bytes}
 use Rattle.mdmp_lister.specs.Listed.{entry_cost}
+use Rattle.mdmp_lister.specs.NamesFetched.{FetchesNames}
 use Rattle.mdmp_lister.specs.Walk.Requests.{EntrySkipped, StepTaken, standpoint_of}
 use Rattle.mdmp_lister.proofs.Costs.{stopped-unread}
 use Rattle.mdmp_lister.proofs.Ending.{left_of-ended, left_of-fault}
@@ -49,6 +50,7 @@ use Rattle.mdmp_lister.proofs.Fetches.{FetchesAtMost-none, FetchesAtMost-within,
 use Rattle.mdmp_lister.proofs.Spending.{items_cost-append}
 use Rattle.mdmp_lister.proofs.Judging.{moves_then, names_of_all-append, ranges_none, ranges_then, same_room_then}
 use Rattle.mdmp_lister.proofs.Mapping.{kept, same_file}
+use Rattle.mdmp_lister.proofs.NamesFetched.{names_more, names_none}
 use Rattle.mdmp_lister.proofs.Paying.{bounded_then}
 use Rattle.mdmp_lister.proofs.Requests.{Moves-none, fault_stage-stop, through-left}
 use Rattle.mdmp_lister.proofs.Soundness.{IsGood-after}
@@ -83,6 +85,10 @@ names_judged-more xs ys x vs v =
     let all = sum_by-append f vs (v ∷ []) in
     let one = sum_by-cons f v [] in
     omega (arith, items, names_begun x ys, all, one)
+
+-- nor is a byte fetched for one
+named_stream : (x : Numbered) (a b : ℕ) → a ≤ b → FetchesNames 1 (stream_item x ∷ []) a b
+named_stream x a b later = let one = sum_by-cons item_cost (stream_item x) [] in omega (arith, one, later)
 
 -- ---- entries judged so far
 
@@ -119,6 +125,7 @@ module _ {S A : Type 0} where
     pub passed : new.next ≡ behind_judged verdicts old.next
     pub counts : Moves (names_judged items verdicts) (counts_of old.meter) (counts_of new.meter)
     pub names : old.meter.names + names_judged items verdicts ≤ new.meter.names
+    pub named : FetchesNames 1 items old.meter.fetched new.meter.fetched
     pub fetches : FetchesAtMost (check_cost old.meter.source.size old.name.limit items verdicts) old.meter.source new.meter.source
     pub rests : work_of new ≤ work_of old
     pub follow : AreNextVerdicts old.choice old.entries.items old.meter.source.size old.name.limit old.next verdicts
@@ -134,6 +141,7 @@ module _ {S A : Type 0} where
     passed = refl;
     counts = Moves-none 0 w.meter;
     names = omega arith;
+    named = names_none 1 w.meter.fetched;
     fetches = FetchesAtMost-none w.meter.source;
     rests = omega arith;
     follow = tt;
@@ -215,6 +223,14 @@ module _ {S A : Type 0} (verdicts : List Verdict) (items : List Item) (old w ns 
       (omega (arith, items_cost-append z items (x ∷ js), first, unread, same, cost, more, is))
       (fetches_then _ _ old.meter.source w.meter.source j.meter.source so_far.fetches then)
 
+  -- the names of its items
+  named_judged : (result : Result (Option ListFault) ListFault) (judged : EntryJudged ns p result j q) → FetchesNames 1 (items ++ stream_item (entry_in ns) ∷ judged.items) old.meter.fetched j.meter.fetched
+  named_judged result judged =
+      let begun_here : ns.meter.fetched ≡ w.meter.fetched = ap (λ (m : MeterState). m.fetched) begun.meter in
+      let entry : FetchesNames 1 (stream_item (entry_in ns) ∷ []) w.meter.fetched ns.meter.fetched = named_stream (entry_in ns) w.meter.fetched ns.meter.fetched (omega (arith, begun_here)) in
+      names_more items (stream_item (entry_in ns) ∷ judged.items) old.meter.fetched w.meter.fetched j.meter.fetched so_far.named
+      (names_more (stream_item (entry_in ns) ∷ []) judged.items w.meter.fetched ns.meter.fetched j.meter.fetched entry judged.named)
+
   pub current_judged : (fault : Option ListFault) (judged : EntryJudged ns p (Ok fault) j q) (sk : Walk S A) → EntrySkipped j sk
       → slice_get old.entries.items (sk.next - 1) ≡ Some sk.current
   current_judged fault judged sk skipped =
@@ -270,6 +286,7 @@ module _ {S A : Type 0} (verdicts : List Verdict) (items : List Item) (old w ns 
         passed = next ∙ omega (arith, behind_judged-more verdicts (record { entry = ns.next - 1; fault = fault }) old.next, taken_begun);
         counts = rw moved (moves_then (names_judged items verdicts) (names_of_all judged.items + names_at fault) _ old.meter w.meter j.meter (omega (arith, names)) so_far.counts (rw begun.meter at judged.counts));
         names = rw moved (omega (arith, names, so_far.names, rw begun.meter at judged.names));
+        named = rw moved (named_judged (Ok fault) judged);
         fetches = rw moved fetched;
         rests = omega (arith, so_far.rests, taken.answered.rests, judged.rests, skipped.rests);
         follow = AreNextVerdicts-more old.choice old.entries.items old.meter.source.size old.name.limit verdicts (record { entry = ns.next - 1; fault = fault }) old.next so_far.follow (may_begun fault judged);
@@ -315,6 +332,7 @@ module _ {S A : Type 0} (verdicts : List Verdict) (items : List Item) (old w ns 
         current = current_kept j judged.same.next judged.same.current;
         counts = moves_then (names_judged items verdicts) (names_of_all judged.items + maybe_name f.kind) _ old.meter w.meter j.meter (omega (arith, names)) so_far.counts (rw begun.meter at judged.counts);
         names = omega (arith, names, so_far.names, rw begun.meter at judged.names);
+        named = named_judged (Err f) judged;
         fetches = rw append-nil at (fetched_judged (Err f) judged [] (bad_name_cost old.name.limit f.kind) (omega arith));
         failed = λ x is.
             let same : f ≡ x = cc in
@@ -363,6 +381,7 @@ module _ {S A : Type 0} (verdicts : List Verdict) (items : List Item) (old w : W
     current = current;
     counts = moves_then (names_judged items verdicts) 0 _ old.meter w.meter w.meter (omega arith) so_far.counts (Moves-none 0 w.meter);
     names = so_far.names;
+    named = so_far.named;
     fetches = FetchesAtMost-within _ _ old.meter.source w.meter.source (omega arith) so_far.fetches;
     failed = λ f is. absurd (cc);
     rests = so_far.rests;
@@ -400,6 +419,7 @@ module _ {S A : Type 0} (verdicts : List Verdict) (items : List Item) (old w : W
         current = tt;
         counts = rw end.meter (moves_then (names_judged items verdicts) 0 _ old.meter w.meter w.meter (omega arith) so_far.counts (Moves-none 0 w.meter));
         names = rw end.meter so_far.names;
+        named = rw end.meter so_far.named;
         fetches = rw end.meter (FetchesAtMost-within _ _ old.meter.source w.meter.source (omega arith) so_far.fetches);
         failed = tt;
         rests = omega (arith, so_far.rests, a.rests);

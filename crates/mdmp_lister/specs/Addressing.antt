@@ -1,6 +1,6 @@
 -- What is read of the dumped process's memory. A cell is the byte of an address, or none where no range holds the
 -- address.
-use Rattle.std.specs.Prelude.{◌≡◌, ◌≤◌, ◌<◌, ◌+◌, ◌*◌, ◌/◌, ◌^◌, ℕ, Bool, if◌then◌else◌, ◌==◌, ◌&&◌, not, false, zero, suc, List, Option, Some, None, is_some, length, map, option_map, slice_index, unwrap_or, Result, OnOk}
+use Rattle.std.specs.Prelude.{◌≡◌, ◌≤◌, ◌<◌, ◌+◌, ◌-◌, ◌*◌, ◌/◌, ◌^◌, ℕ, Bool, if◌then◌else◌, ◌==◌, ◌&&◌, not, false, zero, suc, List, Option, Some, None, is_some, length, map, option_map, slice_index, unwrap_or, Result, OnOk}
 use Rattle.std.specs.List.{range_with_len, zip}
 use Rattle.mdmp_map.specs.declared.range.Range.{Range}
 use Rattle.mdmp_map.specs.Ranges.{AreSorted, byte_at, first_range}
@@ -55,6 +55,12 @@ stretches_at ranges address (suc n) = stretches_at ranges address n + (if begins
 pub record FetchesAside (calls : ℕ) (before after : SourceState) (old new : MeterCounts) : Type 0 where
   pub calls_are : after.calls ≤ raised before.calls calls
   pub aside : new.aside.calls ≤ old.aside.calls + calls
+
+-- some addresses were read beside the listing, by at most one call of `fetch` for each of their stretches
+pub record FetchesStretches (ranges : List Range) (address count : ℕ) (before after : SourceState) (old new : MeterCounts) : Type 0 where
+  pub sorted : AreSorted ranges → FetchesAside (stretches_at ranges address count) before after old new
+  -- while the ranges are not sorted, a stretch is cut where a block of 32768 addresses ends: one more for each block behind the first
+  pub by_blocks : FetchesAside (stretches_at ranges address count + (count - 1) / 32768) before after old new
 
 -- these are the bytes of the addresses from this one on, and whether each is known
 pub record ReadsCells (content : Option (List ℕ)) (ranges : List Range) (address : ℕ) (bytes : List ℕ) (known : List Bool) : Type 0 where

@@ -18,6 +18,7 @@ use Rattle.mdmp_lister.specs.Format.Numbers.{faulty_name, maybe_name}
 use Rattle.mdmp_lister.specs.Format.Ranges.{ranges_of}
 use Rattle.mdmp_lister.specs.Lister.{IsSameLister, ListerState, listing_behind}
 use Rattle.mdmp_lister.specs.Meter.{Moves}
+use Rattle.mdmp_lister.specs.NamesFetched.{FetchesNames}
 use Rattle.mdmp_lister.specs.Sink.{ComeNext, Handed, TellsRunFetch, names_of_all}
 use Rattle.mdmp_lister.specs.Stage.{stop_after_run}
 
@@ -170,6 +171,7 @@ pub record CheckLeaves {K : Type 0} (step : K → Verdict → Result (Unit {0}) 
   pub same : IsSameLister old new
   pub counts : Moves (names_judged items judged + names_at_end result) old.counts new.counts
   pub names : old.counts.names + names_judged items judged ≤ new.counts.names
+  pub named : FetchesNames 1 items old.counts.fetched new.counts.fetched
   -- the streams of the entries that were judged, and of the one in which bytes were not obtained, and names
   pub fetches : FetchesAtMost (check_cost old.source.size old.limit items judged + end_cost old.limit result) old.source new.source
   -- of every file: the verdicts are on the chosen entries in their order, and may be those of a file

@@ -1,5 +1,6 @@
 -- What is read of a CodeView record.
 use Rattle.std.specs.Prelude.{◌≡◌, ◌≤◌, ◌+◌, ◌-◌, ◌==◌, ℕ, List, Result, Ok, Err, IfOk, drop, length, min, replicate, take, if◌then◌else◌}
+use Rattle.mdmp_source.specs.Count.{raised}
 use Rattle.mdmp_source.specs.Range.{bytes_at}
 use Rattle.mdmp_source.specs.declared.fault.SourceFault.{SourceFault}
 use Rattle.mdmp_source.specs.declared.location.Location.{Location}
@@ -8,6 +9,7 @@ use Rattle.mdmp_wire.specs.Number.{number_at}
 use Rattle.mdmp_lister.specs.declared.codeview.CodeViewBytes.{CodeViewBytes}
 use Rattle.mdmp_lister.specs.declared.codeview.CodeViewRead.{CodeViewRead}
 use Rattle.mdmp_lister.specs.Fetching.{ReadsBeside}
+use Rattle.mdmp_lister.specs.Lister.{ListerState, ReadsAside}
 use Rattle.mdmp_lister.specs.Meter.{BooksAside, MeterState}
 
 -- the first 24 bytes of a record, or all of them if it has fewer
@@ -50,6 +52,7 @@ codeview_fetches rest = 1 + min 1 rest
 pub record FetchesCodeView (at : Location) (room : ℕ) (read : CodeViewRead) (old new : MeterState) : Type 0 where
   pub fetched : AreFetched at room read.head read.rest read.size
   pub books : BooksAside (codeview_fetches read.rest) (min at.size 24 + read.rest) old new
+  pub counted : new.aside.bytes ≡ raised old.aside.bytes (min at.size 24 + read.rest)
 
 -- the bytes of a record of so many that are fetched at most: its first 24, and behind them as many as there is room for
 abbrev pub codeview_most : Location → ℕ → ℕ
@@ -71,3 +74,8 @@ pub record ReadsCodeView (at : Location) (room : ℕ) (buffer : List ℕ) (resul
   pub held : IfOk result (λ read. read.rest ≤ room)
   pub lent : IfOk result (λ read. read.rest ≤ length buffer)
   pub fetches : IfOk result (λ read. FetchesCodeView at room read old new)
+
+-- a lister read one aside, and unless the store failed it counted just the bytes that were fetched
+pub record ReadsRecordAside (at : Location) (room : ℕ) (result : Result CodeViewBytes SourceFault) (old new : ListerState) : Type 0 where
+  pub aside : ReadsAside (codeview_calls result) (codeview_cost at room result) result old new
+  pub counted : IfOk result (λ bytes. new.counts.aside.bytes ≡ raised old.counts.aside.bytes (codeview_cost at room (Ok bytes)))

@@ -18,6 +18,7 @@ pub mod Lister
 pub mod Memory
 pub mod Meter
 pub mod NameBuffer
+pub mod NamesFetched
 pub mod NextFetch
 pub mod OpenedLaws
 pub mod Opening

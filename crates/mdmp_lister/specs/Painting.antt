@@ -1,10 +1,10 @@
 -- The cells of a block of addresses, which are read range after range.
-use Rattle.std.specs.Prelude.{◌≡◌, ◌≤◌, ◌<◌, ◌+◌, ◌∷◌, ◌++◌, [], ℕ, Bool, false, if◌then◌else◌, List, Option, Some, get_or, length, slice_index}
+use Rattle.std.specs.Prelude.{◌≡◌, ◌≤◌, ◌<◌, ◌+◌, ◌∷◌, ◌++◌, ◌&&◌, [], ℕ, zero, suc, Bool, false, if◌then◌else◌, List, Option, Some, get_or, length, slice_index}
 use Rattle.mdmp_map.specs.declared.range.Range.{Range}
 use Rattle.mdmp_map.specs.Painting.{PaintState, is_painted}
 use Rattle.mdmp_map.specs.Ranges.{byte_at}
-use Rattle.mdmp_lister.specs.Addressing.{cell, is_held}
-use Rattle.mdmp_lister.specs.Meter.{BooksAside, MeterState}
+use Rattle.mdmp_lister.specs.Addressing.{FetchesAside, begins_stretch, cell, is_held}
+use Rattle.mdmp_lister.specs.Meter.{BooksAside, MeterState, counts_of}
 
 -- the byte of an address, beside which stands whether it is known, is as these ranges tell
 pub record IsCell (content : Option (List ℕ)) (ranges : List Range) (address byte : ℕ) (is_known : Bool) : Type 0 where
@@ -40,3 +40,14 @@ pub record BooksNewly (old new : List Bool) (before after : MeterState) : Type 0
   pub count : ℕ
   pub newly : count_known new ≡ count_known old + count
   pub books : BooksAside count count before after
+
+-- at how many of the first n places a stretch begins whose byte is known
+unfoldable pub count_begun : List Range → ℕ → List Bool → ℕ → ℕ
+count_begun ranges address known zero = 0
+count_begun ranges address known (suc n) = count_begun ranges address known n + (if get_or known n false && begins_stretch ranges address n then 1 else 0)
+
+-- at most one call of `fetch` was made aside for each place at which a stretch begins whose byte is newly known
+pub record FetchesBegun (ranges : List Range) (address : ℕ) (old new : List Bool) (before after : MeterState) : Type 0 where
+  pub count : ℕ
+  pub newly : count_begun ranges address old (length old) + count ≤ count_begun ranges address new (length new)
+  pub fetches : FetchesAside count before.source after.source (counts_of before) (counts_of after)

@@ -4,11 +4,11 @@ ghost use Rattle.mdmp_source.specs.Range.{IsInside, bytes_at};
 ghost use Rattle.mdmp_source.specs.Source.{fault_of};
 ghost use Rattle.mdmp_map.specs.declared.range.Range.{Range};
 ghost use Rattle.mdmp_map.specs.Ranges.{AreSorted, IsPlaced, IsWithin, first_range};
-ghost use Rattle.mdmp_lister.specs.Addressing.{FetchesAside, HalvesAtMost, IsStretch, LooksUpAtMost, ReadsAddresses, is_same_range, stretches_at};
+ghost use Rattle.mdmp_lister.specs.Addressing.{FetchesAside, FetchesStretches, HalvesAtMost, IsStretch, LooksUpAtMost, ReadsAddresses, is_same_range, stretches_at};
 ghost use Rattle.mdmp_lister.specs.Fault.{IsCaused};
 ghost use Rattle.mdmp_lister.specs.Fetching.{ReadsBeside};
 ghost use Rattle.mdmp_lister.specs.Meter.{BooksAside, counts_of};
-ghost use Rattle.mdmp_lister.specs.Painting.{AreCells, ArePainted, BooksNewly, count_known};
+ghost use Rattle.mdmp_lister.specs.Painting.{AreCells, ArePainted, BooksNewly, FetchesBegun, count_known};
 
 use crate::meter::Meter;
 use mdmp_map::{AddressMap, BLOCK, Found, Paint, PaintedRun, Range, Steps};
@@ -129,6 +129,8 @@ fn read_range<S: Store>(
     ensures cells { (seen : List Range) → AreCells meter.old.source.store.content seen paint.old.start out.old known.old
         → OnOk result (AreCells meter.old.source.store.content (seen ++ range.now ∷ []) paint.old.start out.new known.new) }
     ensures books { BooksNewly known.old known.new meter.old meter.new }
+    ensures calls { (seen rest : List Range) → AreCells meter.old.source.store.content seen paint.old.start out.old known.old
+        → FetchesBegun (seen ++ range.now ∷ rest) paint.old.start known.old known.new meter.old meter.new }
     ensures caused { IsCaused (fault_of result) meter.old.source meter.new.source }
 {
     let mut from = 0;
@@ -153,6 +155,7 @@ fn read_block<S: Store, A: Allocator, G: Ledger>(
     requires inside { All (IsWithin meter.old.source.size) map.now.ranges }
     ensures reads { ReadsAddresses map.now.ranges address result out.new known.new meter.old meter.new }
     ensures looks { steps.new ≤ steps.old + length map.now.ranges }
+    ensures calls { FetchesAside (stretches_at map.now.ranges address (length out.new)) meter.old.source meter.new.source (counts_of meter.old) (counts_of meter.new) }
 {
     out.fill(0);
     known.fill(false);
@@ -180,6 +183,7 @@ fn read_blocks<S: Store, A: Allocator, G: Ledger>(
     requires inside { All (IsWithin meter.old.source.size) map.now.ranges }
     ensures reads { ReadsAddresses map.now.ranges address result out.new known.new meter.old meter.new }
     ensures looks { steps.new ≤ steps.old + length map.now.ranges * (length out.new / 32768 + 1) }
+    ensures calls { FetchesAside (stretches_at map.now.ranges address (length out.new) + (length out.new - 1) / 32768) meter.old.source meter.new.source (counts_of meter.old) (counts_of meter.new) }
 {
     let mut done = 0;
     while done < out.len() {
@@ -234,7 +238,8 @@ fn read_stretches<S: Store, A: Allocator, G: Ledger>(
 /// Where one holds an address, its byte is put into `out`, and `known` is true there; else both are 0
 /// and false. After a fault they may hold anything. Each stretch of addresses is read by one fetch, or
 /// by none where no range holds it. While the ranges are sorted one search finds a stretch; else each
-/// range is looked at once for each block of 32768 addresses. The looks are counted.
+/// range is looked at once for each block of 32768 addresses, and a stretch is cut where a block ends.
+/// The looks are counted.
 pub(crate) fn read_addresses<S: Store, A: Allocator, G: Ledger>(
     meter: &mut Meter<S>,
     map: &AddressMap<A>,
@@ -247,7 +252,7 @@ pub(crate) fn read_addresses<S: Store, A: Allocator, G: Ledger>(
     requires inside { All (IsWithin meter.old.source.size) map.now.ranges }
     ensures reads { ReadsAddresses map.now.ranges address result out.new known.new meter.old meter.new }
     ensures looks { LooksUpAtMost map.now.ranges (length out.new) steps.old steps.new }
-    ensures calls { AreSorted map.now.ranges → FetchesAside (stretches_at map.now.ranges address (length out.new)) meter.old.source meter.new.source (counts_of meter.old) (counts_of meter.new) }
+    ensures calls { FetchesStretches map.now.ranges address (length out.new) meter.old.source meter.new.source (counts_of meter.old) (counts_of meter.new) }
 {
     if map.is_sorted() {
         read_stretches(meter, map, address, out, known, steps)

@@ -1,5 +1,6 @@
 //! What is read of the CodeView record of a module.
 ghost use Rattle.std.specs.Prelude.{◌≡◌, ◌≤◌, ◌+◌, IfOk, length, min, take};
+ghost use Rattle.mdmp_source.specs.Count.{raised};
 ghost use Rattle.mdmp_source.specs.Range.{IsInside};
 ghost use Rattle.mdmp_lister.specs.CodeView.{IsCodeViewOf, ReadsCodeView, codeview_fetches, codeview_most, fetched_behind};
 ghost use Rattle.mdmp_lister.specs.Fetching.{ReadsBeside};
@@ -65,6 +66,7 @@ fn fetch_codeview<S: Store, A: Allocator>(
     ensures holds { IfOk result (λ count. count ≤ length rest.new.items) }
     ensures room { IfOk result (λ count. count ≡ fetched_behind head.new location.size rest.new.limit) }
     ensures books { IfOk result (λ count. BooksAside (codeview_fetches count) (min location.size 24 + count) meter.old meter.new) }
+    ensures counted { IfOk result (λ count. meter.new.aside.bytes ≡ raised meter.old.aside.bytes (min location.size 24 + count)) }
     ensures reads { ReadsBeside 2 (codeview_most location rest.new.limit) (λ file count. IsCodeViewOf file location rest.new.limit head.new (take count rest.new.items) location.size) result meter.old meter.new }
 {
     let at = u64::from(location.rva);

@@ -1,5 +1,6 @@
 //! Bytes and names of a file, read through its source.
 ghost use Rattle.std.specs.Prelude.{◌≡◌, ◌≤◌, ◌<◌, ◌+◌, ◌^◌, ℕ, List, Some, length, take, IfOk};
+ghost use Rattle.mdmp_source.specs.Count.{raised};
 ghost use Rattle.mdmp_source.specs.Range.{IsInside, bytes_at};
 ghost use Rattle.mdmp_wire.specs.Number.{u32_at};
 ghost use Rattle.mdmp_lister.specs.Fetching.{Reads, ReadsBeside, ReadsName, TriesName};
@@ -52,7 +53,8 @@ pub(crate) fn fetch_front_aside<S: Store>(
 ) -> Result<(), SourceFault>
     requires room { count ≤ length buffer.old }
     requires inside { IsInside at count meter.old.source.size }
-    ensures { ReadsBeside 1 count (λ file _. take count buffer.new ≡ bytes_at file at count) result meter.old meter.new }
+    ensures reads { ReadsBeside 1 count (λ file _. take count buffer.new ≡ bytes_at file at count) result meter.old meter.new }
+    ensures counted { meter.new.aside.bytes ≡ raised meter.old.aside.bytes count }
 {
     meter.fetch_aside(at, &mut buffer[..count])
 }

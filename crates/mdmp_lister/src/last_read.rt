@@ -1,6 +1,7 @@
 //! What a walk read last, and what is read beside its listing.
-ghost use Rattle.std.specs.Prelude.{◌≡◌, ◌≤◌, length, take};
+ghost use Rattle.std.specs.Prelude.{◌≡◌, ◌≤◌, IfErr, length, take};
 ghost use Rattle.mdmp_source.specs.Range.{IsInside, bytes_at};
+ghost use Rattle.mdmp_source.specs.Source.{IsToldAmong};
 ghost use Rattle.mdmp_lister.specs.Fetching.{ReadsBeside};
 ghost use Rattle.mdmp_lister.specs.HeldStep.{AnswerHasItsBytes, HasItsBytes, TellsRange, answer_told, step_told};
 ghost use Rattle.mdmp_lister.specs.ItemRead.{IsLentOf};
@@ -100,6 +101,7 @@ impl<S: Store + Drop, A: Allocator + Copy> Walk<S, A> {
         requires { IsInside at (length out.old) self.old.meter.source.size }
         ensures same { self.new ≡ record self.old { meter = self.new.meter } }
         ensures reads { ReadsBeside 1 (length out.new) (λ file _. out.new ≡ bytes_at file at (length out.new)) result self.old.meter self.new.meter }
+        ensures told { IfErr result (λ fault. IsToldAmong at (length out.new) fault self.old.meter.source self.new.meter.source) }
     {
         self.meter.fetch_aside(at, out)
     }

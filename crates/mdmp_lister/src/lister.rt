@@ -5,13 +5,13 @@ ghost use Rattle.std.specs.Io.BufRead.{Rests};
 ghost use Rattle.mdmp_source.specs.Range.{IsInside, bytes_at};
 ghost use Rattle.mdmp_source.specs.Store.{IsGood, IsSizeOf};
 ghost use Rattle.mdmp_wire.specs.CodeView.{codeview_of};
-ghost use Rattle.mdmp_lister.specs.CodeView.{AreFetched, codeview_calls, codeview_cost, codeview_head, codeview_told, codeview_head_of};
+ghost use Rattle.mdmp_lister.specs.CodeView.{AreFetched, ReadsRecordAside, codeview_head, codeview_told, codeview_head_of};
 ghost use Rattle.mdmp_lister.specs.Opening.{IsRefusalOf};
 ghost use Rattle.mdmp_lister.specs.Refused.{IsRefusedLister};
 ghost use Rattle.mdmp_lister.specs.Format.Refusal.{opening_fault};
-ghost use Rattle.mdmp_map.specs.Ranges.{AreSorted, IsWithin};
-ghost use Rattle.mdmp_source.specs.Source.{FetchesSome};
-ghost use Rattle.mdmp_lister.specs.Addressing.{FetchesAside, LooksUpAtMost, ReadsCells, stretches_at};
+ghost use Rattle.mdmp_map.specs.Ranges.{IsWithin};
+ghost use Rattle.mdmp_source.specs.Source.{FetchesSome, IsToldAmong};
+ghost use Rattle.mdmp_lister.specs.Addressing.{FetchesStretches, LooksUpAtMost, ReadsCells};
 ghost use Rattle.mdmp_lister.specs.Meter.{IsBooked};
 ghost use Rattle.mdmp_lister.specs.Counts.{AreHeld, AreOfFile, AreSpent, numbers_of};
 ghost use Rattle.mdmp_lister.specs.Format.Listing.{Run};
@@ -29,8 +29,7 @@ use crate::fault::{ListFault, OpenFault};
 use crate::item::Item;
 use crate::limits::Limits;
 use crate::opening::OpenRefused;
-use crate::range_map::push_range;
-use crate::ranging::advance;
+use crate::ranging::advance_mapped;
 use crate::sink::{RunFault, Sink, Stopped, Unseen, VerdictSink};
 use crate::stage::Stage;
 use crate::walk::{Walk, refused};
@@ -206,20 +205,10 @@ impl<S: Store + Drop, A: Allocator + Copy> Lister<S, A> {
         ensures repeats { (stop : _) → self.old.stop ≡ Some stop → stop_after result ≡ Some stop }
         ensures good { (file : List ℕ) → IsGood self.old.source.store file → IfErr result (λ fault. IsOfStore fault.kind → ⊥) }
     {
-        match advance(&mut self.walk, self.map.free()) {
-            Ok(None) => {
-                self.walk.meter.keeps_budget();
-                Ok(None)
-            }
-            Ok(Some(held)) => {
-                self.walk.meter.keeps_budget();
-                push_range(&mut self.map, self.walk.range(&held));
-                Ok(Some(self.walk.item(&held)))
-            }
-            Err(fault) => {
-                self.walk.meter.keeps_budget();
-                Err(fault)
-            }
+        match advance_mapped(&mut self.walk, &mut self.map) {
+            Ok(Some(held)) => Ok(Some(self.walk.item(&held))),
+            Ok(None) => Ok(None),
+            Err(fault) => Err(fault),
         }
     }
 
@@ -335,7 +324,9 @@ impl<S: Store + Drop, A: Allocator + Copy> Lister<S, A> {
     /// Reads the memory of the dumped process from an address on, as far as the ranges that were given
     /// so far hold it. Where one holds an address, its byte is put into `out`, and `known` is true
     /// there; else both are 0 and false. After a fault of the store they may hold anything, and what
-    /// is listed stays as it was. The searches are those of `read_address_counted`.
+    /// is listed stays as it was. It makes at most one fetch for each stretch of addresses that one range
+    /// is the first to hold. If the ranges are not sorted, it makes at most one more for each block of
+    /// 32768 addresses behind the first. The searches are those of `read_address_counted`.
     pub fn read_address(
         &mut self,
         address: u64,
@@ -345,7 +336,7 @@ impl<S: Store + Drop, A: Allocator + Copy> Lister<S, A> {
         requires { length out.old ≡ length known.old }
         ensures cells { OnOk result (ReadsCells self.old.source.store.content self.old.ranges address out.new known.new) }
         ensures reads { ReadsAside (length out.new) (length out.new) result self.old self.new }
-        ensures stretches { AreSorted self.old.ranges → FetchesAside (stretches_at self.old.ranges address (length out.new)) self.old.source self.new.source self.old.counts self.new.counts }
+        ensures stretches { FetchesStretches self.old.ranges address (length out.new) self.old.source self.new.source self.old.counts self.new.counts }
     {
         self.read_address_under::<Brand>(address, out, known, Blank::new(1))
     }
@@ -365,7 +356,7 @@ impl<S: Store + Drop, A: Allocator + Copy> Lister<S, A> {
         requires { length out.old ≡ length known.old }
         ensures cells { OnOk result (ReadsCells self.old.source.store.content self.old.ranges address out.new known.new) }
         ensures reads { ReadsAside (length out.new) (length out.new) result self.old self.new }
-        ensures stretches { AreSorted self.old.ranges → FetchesAside (stretches_at self.old.ranges address (length out.new)) self.old.source self.new.source self.old.counts self.new.counts }
+        ensures stretches { FetchesStretches self.old.ranges address (length out.new) self.old.source self.new.source self.old.counts self.new.counts }
         ensures looks { LooksUpAtMost self.old.ranges (length out.new) steps.old steps.new }
     {
         read_addresses(&mut self.walk.meter, &self.map, address, out, known, steps)
@@ -385,7 +376,7 @@ impl<S: Store + Drop, A: Allocator + Copy> Lister<S, A> {
         requires some { 0 < blank.parts }
         ensures cells { OnOk result (ReadsCells self.old.source.store.content self.old.ranges address out.new known.new) }
         ensures reads { ReadsAside (length out.new) (length out.new) result self.old self.new }
-        ensures stretches { AreSorted self.old.ranges → FetchesAside (stretches_at self.old.ranges address (length out.new)) self.old.source self.new.source self.old.counts self.new.counts }
+        ensures stretches { FetchesStretches self.old.ranges address (length out.new) self.old.source self.new.source self.old.counts self.new.counts }
     {
         self.read_address_counted(address, out, known, &mut Steps::<G>::new(blank))
     }
@@ -398,6 +389,7 @@ impl<S: Store + Drop, A: Allocator + Copy> Lister<S, A> {
         requires { IsInside at (length out.old) self.old.source.size }
         ensures bytes { (file : List ℕ) → self.old.source.store.content ≡ Some file → OnOk result (out.new ≡ bytes_at file at (length out.new)) }
         ensures reads { ReadsAside 1 (length out.new) result self.old self.new }
+        ensures told { IfErr result (λ fault. IsToldAmong at (length out.new) fault self.old.source self.new.source) }
     {
         self.walk.read_part(at, out)
     }
@@ -411,7 +403,7 @@ impl<S: Store + Drop, A: Allocator + Copy> Lister<S, A> {
         ensures value { (file : List ℕ) → self.old.source.store.content ≡ Some file → IfOk result (λ bytes. codeview_told bytes ≡ codeview_of file location self.old.limit) }
         ensures head { (file : List ℕ) → self.old.source.store.content ≡ Some file → IfOk result (λ bytes. codeview_head bytes ≡ codeview_head_of file location) }
         ensures fetched { IfOk result (λ bytes. AreFetched location self.old.limit bytes.head (length bytes.rest.now) bytes.size) }
-        ensures* reads { sem 𝓛 (Rests (the_row S.row A.row S.Store A.Allocator) self.entry (ReadsAside (codeview_calls result) (codeview_cost location self.old.limit result) result self.old)) }
+        ensures* reads { sem 𝓛 (Rests (the_row S.row A.row S.Store A.Allocator) self.entry (ReadsRecordAside location self.old.limit result self.old)) }
         ensures good { (file : List ℕ) → IsGood self.old.source.store file → IsOk result }
     {
         let read = self.walk.fetch_codeview(location)?;

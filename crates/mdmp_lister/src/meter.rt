@@ -1,7 +1,8 @@
 //! A source that is read for a listing, which counts what the listing fetches.
-ghost use Rattle.std.specs.Prelude.{◌≡◌, ◌≤◌, ◌+◌, Err, None, OnErr, OnOk, length, min};
+ghost use Rattle.std.specs.Prelude.{◌≡◌, ◌≤◌, ◌+◌, Err, IfErr, None, OnErr, OnOk, length, min};
 ghost use Rattle.mdmp_source.specs.Count.{raised};
 ghost use Rattle.mdmp_source.specs.Range.{IsInside, bytes_at};
+ghost use Rattle.mdmp_source.specs.Source.{IsToldAmong};
 ghost use Rattle.mdmp_source.specs.Store.{IsOfBytes, IsSizeOf};
 ghost use Rattle.mdmp_source.specs.Window.{IsFilled, next_len_of};
 ghost use Rattle.mdmp_lister.specs.Fault.{IsCaused};
@@ -163,7 +164,9 @@ impl<S: Store> Meter<S> {
     /// Fetches what is not of the listing.
     pub(crate) fn fetch_aside(&mut self, at: u64, out: &mut [u8]) -> Result<(), SourceFault>
         requires { IsInside at (length out.old) self.old.source.size }
-        ensures { ReadsBeside 1 (length out.new) (λ file _. out.new ≡ bytes_at file at (length out.new)) result self.old self.new }
+        ensures reads { ReadsBeside 1 (length out.new) (λ file _. out.new ≡ bytes_at file at (length out.new)) result self.old self.new }
+        ensures told { IfErr result (λ fault. IsToldAmong at (length out.new) fault self.old.source self.new.source) }
+        ensures counted { self.new.aside.bytes ≡ raised self.old.aside.bytes (length out.new) }
     {
         self.aside = Amount {
             bytes: self.aside.bytes.saturating_add(out.len() as u128),

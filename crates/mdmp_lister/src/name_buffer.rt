@@ -27,6 +27,7 @@ impl<A: Allocator> Model for NameBuffer<A> {
 
 impl<A: Allocator> NameBuffer<A> {
     ghost use Rattle.std.specs.Prelude.{◌≡◌, ◌≤◌, [], IfOk, length, max, take};
+    ghost use Rattle.mdmp_source.specs.Count.{raised};
     ghost use Rattle.mdmp_source.specs.Range.{IsInside, bytes_at};
     ghost use Rattle.mdmp_lister.specs.Fetching.{Reads, ReadsBeside};
     ghost use Rattle.mdmp_lister.specs.Meter.{Books, TriesFetch};
@@ -86,6 +87,7 @@ impl<A: Allocator> NameBuffer<A> {
         ensures holds { count ≤ length self.new.items }
         ensures grows { length self.new.items ≤ max (length self.old.items) count }
         ensures reads { ReadsBeside 1 count (λ file _. take count self.new.items ≡ bytes_at file at count) result meter.old meter.new }
+        ensures counted { meter.new.aside.bytes ≡ raised meter.old.aside.bytes count }
     {
         lengthen(&mut self.bytes, count);
         fetch_front_aside(meter, at, &mut self.bytes, count)

@@ -10,8 +10,7 @@ ghost use Rattle.mdmp_lister.specs.Stage.{stop_after};
 
 use crate::fault::ListFault;
 use crate::lister::Lister;
-use crate::range_map::push_range;
-use crate::ranging::advance;
+use crate::ranging::advance_mapped;
 use crate::step::ItemRead;
 use mdmp_source::Store;
 use std::alloc::Allocator;
@@ -27,20 +26,10 @@ impl<S: Store + Drop, A: Allocator + Copy> Lister<S, A> {
         ensures repeats { (stop : _) → self.old.stop ≡ Some stop → stop_after result ≡ Some stop }
         ensures good { (file : List ℕ) → IsGood self.old.source.store file → IfErr result (λ fault. IsOfStore fault.kind → ⊥) }
     {
-        match advance(&mut self.walk, self.map.free()) {
-            Ok(None) => {
-                self.walk.meter.keeps_budget();
-                Ok(None)
-            }
-            Ok(Some(held)) => {
-                self.walk.meter.keeps_budget();
-                push_range(&mut self.map, self.walk.range(&held));
-                Ok(Some(self.walk.item_read(&held)))
-            }
-            Err(fault) => {
-                self.walk.meter.keeps_budget();
-                Err(fault)
-            }
+        match advance_mapped(&mut self.walk, &mut self.map) {
+            Ok(Some(held)) => Ok(Some(self.walk.item_read(&held))),
+            Ok(None) => Ok(None),
+            Err(fault) => Err(fault),
         }
     }
 }

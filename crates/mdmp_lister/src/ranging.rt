@@ -2,16 +2,20 @@
 //!
 //! A memory list whose head counts more ranges than there is room left for has changed since the file
 //! was opened, when that room was taken by the same head.
-ghost use Rattle.std.specs.Prelude.{◌≡◌, MatchResult};
+ghost use Rattle.std.specs.Prelude.{◌≡◌, ◌++◌, MatchResult};
 ghost use Rattle.mdmp_lister.specs.HeldStep.{AnswerHasItsBytes, answer_told};
+ghost use Rattle.mdmp_lister.specs.Meter.{KeepsTo};
 ghost use Rattle.mdmp_lister.specs.Walk.{IsSound};
+ghost use Rattle.mdmp_lister.specs.Walk.Mapping.{IsMapped, ranges_read};
 ghost use Rattle.mdmp_lister.specs.Walk.Owing.{HasRoom, count_answered};
 ghost use Rattle.mdmp_lister.specs.Walk.Requests.{Answered, HeadRead};
 
 use crate::fault::ListFault;
 use crate::held_step::HeldStep;
+use crate::range_map::push_range;
 use crate::stage::Stage;
 use crate::walk::Walk;
+use mdmp_map::AddressMap;
 use mdmp_source::Store;
 use std::alloc::Allocator;
 
@@ -33,6 +37,36 @@ pub(crate) fn advance<S: Store + Drop, A: Allocator + Copy>(
             walk.go_on()
         }
         _ => walk.go_on(),
+    }
+}
+
+/// Gives the next step, or the fault that is next. The range of the step that lies inside the file is put into the map.
+#[inline(always)]
+pub(crate) fn advance_mapped<S: Store + Drop, A: Allocator + Copy>(
+    walk: &mut Walk<S, A>,
+    map: &mut AddressMap<A>,
+) -> Result<Option<HeldStep>, ListFault>
+    requires { IsMapped walk.old map.old }
+    ensures answered { Answered walk.old (answer_told walk.new.window.held result) walk.new }
+    ensures whole { AnswerHasItsBytes walk.new.window.held result }
+    ensures mapped { IsMapped walk.new map.new }
+    ensures pushed { map.new ≡ record map.old { ranges = map.old.ranges ++ ranges_read walk.new.meter.source.size walk.new.name.items (answer_told walk.new.window.held result) } }
+    ensures kept { KeepsTo walk.new.meter.budget walk.new.meter.fetched }
+{
+    match advance(walk, map.free()) {
+        Ok(None) => {
+            walk.meter.keeps_budget();
+            Ok(None)
+        }
+        Ok(Some(held)) => {
+            walk.meter.keeps_budget();
+            push_range(map, walk.range(&held));
+            Ok(Some(held))
+        }
+        Err(fault) => {
+            walk.meter.keeps_budget();
+            Err(fault)
+        }
     }
 }
 

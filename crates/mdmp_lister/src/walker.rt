@@ -3,6 +3,7 @@ ghost use Rattle.std.specs.Prelude.{◌≡◌, ◌≤◌, ◌<◌, ◌+◌, ℕ,
 ghost use Rattle.std.specs.Borrow.{sem};
 ghost use Rattle.std.specs.Io.BufRead.{Rests};
 ghost use Rattle.mdmp_source.specs.Range.{IsInside, bytes_at};
+ghost use Rattle.mdmp_source.specs.Source.{IsToldAmong};
 ghost use Rattle.mdmp_source.specs.Store.{IsGood, IsOfBytes, IsSizeOf};
 ghost use Rattle.mdmp_wire.specs.Header.{header_at};
 ghost use Rattle.mdmp_lister.specs.Costs.{begun_at};
@@ -283,6 +284,7 @@ impl<S: Store + Drop, A: Allocator + Copy> Walker<S, A> {
         requires { IsInside at (length out.old) self.old.list.source.size }
         ensures bytes { (file : List ℕ) → self.old.list.source.store.content ≡ Some file → OnOk result (out.new ≡ bytes_at file at (length out.new)) }
         ensures reads { ReadsAside 1 (length out.new) result self.old.list self.new.list }
+        ensures told { IfErr result (λ fault. IsToldAmong at (length out.new) fault self.old.list.source self.new.list.source) }
         ensures same { self.new ≡ record self.old { list = self.new.list } }
     {
         self.walk.read_part(at, out)

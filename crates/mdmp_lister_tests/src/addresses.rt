@@ -178,6 +178,22 @@ fn touching_ranges_are_a_fetch_each_and_a_gap_is_none(rt: HostRuntime) {
     assert_read(&rt, rt.alloc(), &TOUCHING, 0x1006, two);
 }
 
+/// A range about an earlier one, ABCDEF about cd, and a third that has no address of its own.
+const AROUND: [u32; 18] = [
+    5, 52, 44, 3, 0x1002, 0, 2, 96, 0x1000, 0, 6, 98, 0x1001, 0, 4, 96, 0x42416463, 0x46454443,
+];
+
+#[test]
+fn range_about_an_earlier_one_is_a_fetch_on_either_side(rt: HostRuntime) {
+    let known = [false, true, true, true, true, true, true, false];
+    let all = (*b"\0ABcdEF\0", known, 3);
+    assert_read(&rt, rt.alloc(), &AROUND, 0xfff, all);
+    let inside = (*b"dE", [true; 2], 2);
+    assert_read(&rt, rt.alloc(), &AROUND, 0x1003, inside);
+    let one = (*b"EF\0", [true, true, false], 1);
+    assert_read(&rt, rt.alloc(), &AROUND, 0x1004, one);
+}
+
 /// Reads memory by three sorted ranges, at most two of which are looked at for each byte.
 fn read_among_three<S: Store + Drop, G: Ledger>(
     lister: &mut Lister<S, Global>,

@@ -159,9 +159,7 @@ fn assert_row(rt: &impl Abort, alloc: Global, number: usize, row: &HeapRow) {
 
 #[test]
 fn large_files_take_what_is_promised_and_no_more(rt: HostRuntime) {
-    let mut number: usize = 0;
-    for row in &ROWS {
+    for (number, row) in ROWS.iter().enumerate() {
         assert_row(&rt, rt.alloc(), number, row);
-        number = number.saturating_add(1);
     }
 }

@@ -153,6 +153,22 @@ fn assert_overlapping(
     assert_edge(rt, alloc, file, held, growths);
 }
 
+/// Limits of a file, how much memory it takes, and by how many growths with enough and with less.
+type EdgeRow = (Limits, u64, (u64, u64));
+
+/// Asserts it of each row.
+fn assert_edges(
+    rt: &impl Abort,
+    alloc: Global,
+    opener: Opener,
+    listed: ListOutcome,
+    rows: &[EdgeRow],
+) {
+    for (limits, held, growths) in rows {
+        assert_overlapping(rt, alloc, opener, *limits, listed, *held, *growths);
+    }
+}
+
 #[test]
 fn lister_is_opened_at_its_limit_of_memory(rt: HostRuntime) {
     assert_system(&rt, rt.alloc(), Opener::Lister);
@@ -160,18 +176,7 @@ fn lister_is_opened_at_its_limit_of_memory(rt: HostRuntime) {
         (LEAST, 168 + 12 + 48, (3, 2)),
         (NAMED, 168 + 12 + 48 + 4096, (4, 3)),
     ];
-    for (limits, held, growths) in rows {
-        let listed = all(3, 2);
-        assert_overlapping(
-            &rt,
-            rt.alloc(),
-            Opener::Lister,
-            limits,
-            listed,
-            held,
-            growths,
-        );
-    }
+    assert_edges(&rt, rt.alloc(), Opener::Lister, all(3, 2), &rows);
 }
 
 #[test]
@@ -179,18 +184,7 @@ fn walker_is_opened_at_its_limit_of_memory(rt: HostRuntime) {
     assert_system(&rt, rt.alloc(), Opener::Walker);
     // It keeps no ranges.
     let rows = [(LEAST, 168 + 12, (2, 0)), (NAMED, 168 + 12 + 4096, (3, 0))];
-    for (limits, held, growths) in rows {
-        let listed = all(3, 0);
-        assert_overlapping(
-            &rt,
-            rt.alloc(),
-            Opener::Walker,
-            limits,
-            listed,
-            held,
-            growths,
-        );
-    }
+    assert_edges(&rt, rt.alloc(), Opener::Walker, all(3, 0), &rows);
 }
 
 /// Asserts what comes of `OVERLAPPING` with a limit, with this growth refused.

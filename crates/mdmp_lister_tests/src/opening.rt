@@ -108,6 +108,12 @@ pub fn fetched_by<S: Store + Drop, A: Allocator + Copy>(lister: Lister<S, A>) ->
     (source.fetched(), source.calls())
 }
 
+/// Why an opening was refused, and the source that it hands back.
+pub fn refused_with<S: Store + Drop>(refused: OpenRefused<S>) -> (Option<OpenFault>, Source<S>) {
+    let OpenRefused { fault, source } = refused;
+    (Some(fault), source)
+}
+
 /// Opens a lister and closes it again: why it was refused, and the source.
 pub fn open_and_close<S: Store + Drop, A: Allocator + Copy>(
     alloc: A,
@@ -117,10 +123,7 @@ pub fn open_and_close<S: Store + Drop, A: Allocator + Copy>(
 ) -> (Option<OpenFault>, Source<S>) {
     match Lister::open(alloc, source, limits, choice) {
         Ok(lister) => (None, lister.into_source()),
-        Err(refused) => {
-            let OpenRefused { fault, source } = refused;
-            (Some(fault), source)
-        }
+        Err(refused) => refused_with(refused),
     }
 }
 

@@ -1,11 +1,13 @@
 //! The items of whole files, of each kind of record.
 use crate::files::padded;
 use crate::given::{
-    GivenItem, Named, What, module, nameless, range, spelled, stream, thread, thread_name, unloaded,
+    GivenItem, Named, What, module, nameless, range, spelled, stream, thread, thread_name,
 };
 use crate::opening::fault;
 use crate::playing::{assert_plays, assert_plays_numbers};
-use crate::script::{LEAST, SHORT_NAMES, ends, fails, gives, items_of_thrice};
+use crate::script::{
+    LEAST, SHORT_NAMES, ends, fails, gives, items_apart, items_of_memory64, items_of_thrice,
+};
 use mdmp_lister::FaultKind;
 use mdmp_source::Extent;
 use mdmp_test_support::{MEMORY64, THREAD_NAME, THRICE};
@@ -36,23 +38,13 @@ fn modules_stand_one_behind_the_other(rt: HostRuntime) {
 fn records_stand_as_far_apart_as_their_list_says(rt: HostRuntime) {
     // The second record stands 1000 bytes behind the first.
     let numbers = padded::<506>(&[14, 2012, 44, 12, 1000, 2, 1], &[(256, 2)]);
-    let script = [
-        gives(stream(0, 14, 2012, 44)),
-        gives(unloaded(0, 1, Named::None)),
-        gives(unloaded(1, 2, Named::None)),
-        ends(),
-    ];
+    let script = items_apart();
     assert_plays_numbers(&rt, rt.alloc(), LEAST, 1, &numbers, &script);
 }
 
 #[test]
 fn ranges_of_a_list_stand_one_behind_the_other(rt: HostRuntime) {
-    let script = [
-        gives(stream(0, 9, 48, 44)),
-        gives(range(0, 0x1000, 4, Extent::Inside, 92)),
-        gives(range(1, 0x2000, 4, Extent::Outside, 96)),
-        ends(),
-    ];
+    let script = items_of_memory64();
     assert_plays(&rt, rt.alloc(), LEAST, &MEMORY64, &script);
 }
 

@@ -1,8 +1,8 @@
 //! The calls of one lister, or of one walker, in a row, and what each is to answer.
-use crate::given::{GivenItem, stream, thread};
+use crate::given::{GivenItem, Named, range, stream, thread, unloaded};
 use mdmp_lister::{Limits, ListFault, RunFault};
 use mdmp_map::Place;
-use mdmp_source::SourceFault;
+use mdmp_source::{Extent, SourceFault};
 use mdmp_test_support::limits;
 
 /// The least window, and no room for a name.
@@ -230,6 +230,26 @@ pub fn items_of_thrice() -> [Call; 8] {
         gives(stream(2, 3, 52, 68)),
         gives(thread(2, 7)),
         ends(),
+        ends(),
+    ]
+}
+
+/// All items of `MEMORY64`, and the end.
+pub fn items_of_memory64() -> [Call; 4] {
+    [
+        gives(stream(0, 9, 48, 44)),
+        gives(range(0, 0x1000, 4, Extent::Inside, 92)),
+        gives(range(1, 0x2000, 4, Extent::Outside, 96)),
+        ends(),
+    ]
+}
+
+/// All items of two unloaded modules without names that stand 1000 bytes apart, and the end.
+pub fn items_apart() -> [Call; 4] {
+    [
+        gives(stream(0, 14, 2012, 44)),
+        gives(unloaded(0, 1, Named::None)),
+        gives(unloaded(1, 2, Named::None)),
         ends(),
     ]
 }

@@ -2,6 +2,7 @@
 use crate::same::assert_same;
 use mdmp_lister::{Fault, FaultKind, Shape, StreamKind, range_extent, shape_of};
 use mdmp_source::{Extent, Location};
+use std::process::Abort;
 
 /// The shape of a stream of so many bytes at 4, whose head is these bytes.
 fn shape(kind: StreamKind, size: u32, head: [u8; 16]) -> Result<Shape, Fault> {
@@ -37,6 +38,16 @@ fn stands(first: u64, stride: u64, count: u64) -> Result<Shape, Fault> {
     })
 }
 
+/// A kind, a size and a head of a stream, and its shape.
+type ShapeRow = (StreamKind, u32, [u8; 16], Result<Shape, Fault>);
+
+/// Asserts the shape of the stream of each row.
+fn assert_shapes(rt: &impl Abort, rows: &[ShapeRow]) {
+    for (kind, size, head, expected) in rows {
+        assert_same(rt, shape(*kind, *size, *head), *expected);
+    }
+}
+
 fn bad(kind: FaultKind, offset: u64, size: u64) -> Result<Shape, Fault> {
     Err(Fault { kind, offset, size })
 }
@@ -44,7 +55,7 @@ fn bad(kind: FaultKind, offset: u64, size: u64) -> Result<Shape, Fault> {
 #[test]
 fn list_is_padded_where_four_bytes_are_left(rt: HostRuntime) {
     let one = head(1, 0, 0);
-    for (kind, size, head, expected) in [
+    let rows = [
         (StreamKind::Threads, 52, one, stands(4, 48, 1)),
         (StreamKind::Threads, 56, one, stands(8, 48, 1)),
         (StreamKind::Threads, 60, one, stands(4, 48, 1)),
@@ -58,15 +69,14 @@ fn list_is_padded_where_four_bytes_are_left(rt: HostRuntime) {
         (StreamKind::Modules, 116, one, stands(8, 108, 1)),
         (StreamKind::Memory, 24, one, stands(8, 16, 1)),
         (StreamKind::Memory, 8, head(0, 0, 0), stands(8, 16, 0)),
-    ] {
-        assert_same(&rt, shape(kind, size, head), expected);
-    }
+    ];
+    assert_shapes(&rt, &rows);
 }
 
 #[test]
 fn single_records_have_no_count(rt: HostRuntime) {
     let any = head(9, 9, 9);
-    for (kind, size, head, expected) in [
+    let rows = [
         (StreamKind::Exception, 168, any, stands(0, 168, 1)),
         (
             StreamKind::Exception,
@@ -81,14 +91,13 @@ fn single_records_have_no_count(rt: HostRuntime) {
             any,
             bad(FaultKind::ShortStream, 4, 55),
         ),
-    ] {
-        assert_same(&rt, shape(kind, size, head), expected);
-    }
+    ];
+    assert_shapes(&rt, &rows);
 }
 
 #[test]
 fn sized_lists_say_where_their_records_stand(rt: HostRuntime) {
-    for (kind, size, head, expected) in [
+    let rows = [
         (
             StreamKind::Unloaded,
             2012,
@@ -139,9 +148,8 @@ fn sized_lists_say_where_their_records_stand(rt: HostRuntime) {
             head(16, 47, 1),
             bad(FaultKind::BadEntrySize, 8, 47),
         ),
-    ] {
-        assert_same(&rt, shape(kind, size, head), expected);
-    }
+    ];
+    assert_shapes(&rt, &rows);
 }
 
 /// The shape of a list of threads that has no bytes, and is said to stand behind an empty file.
@@ -163,7 +171,7 @@ fn stream_of_no_bytes_is_too_short_wherever_it_is(rt: HostRuntime) {
 fn counts_are_compared_without_wrapping(rt: HostRuntime) {
     let most = *b"\x10\0\0\0\xff\xff\xff\xff\xff\xff\xff\xff\xff\xff\xff\xff";
     let count = FaultKind::BadCount;
-    for (kind, size, head, expected) in [
+    let rows = [
         (StreamKind::MemoryInfo, 16, most, bad(count, 12, u64::MAX)),
         (
             StreamKind::Memory64,
@@ -184,9 +192,8 @@ fn counts_are_compared_without_wrapping(rt: HostRuntime) {
             head(0, 0, 0),
             bad(FaultKind::ShortStream, 4, 15),
         ),
-    ] {
-        assert_same(&rt, shape(kind, size, head), expected);
-    }
+    ];
+    assert_shapes(&rt, &rows);
 }
 
 #[test]

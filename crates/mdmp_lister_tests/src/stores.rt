@@ -1,11 +1,11 @@
 //! A lister over stores that give few bytes a call, or fail.
-use crate::given::{range, spelled, stream, system};
+use crate::given::{spelled, stream, system};
 use crate::opening::{fault, open_and_close, patchy};
 use crate::playing::assert_plays_patchy;
 use crate::same::assert_same;
-use crate::script::{LEAST, NAMED, STANDARD, ends, fails, gives, runs, skips};
+use crate::script::{LEAST, NAMED, STANDARD, ends, fails, gives, items_of_memory64, runs, skips};
 use mdmp_lister::{Choice, FaultKind, OpenFault, RunFault};
-use mdmp_source::{Extent, Source, SourceFault};
+use mdmp_source::{Source, SourceFault};
 use mdmp_test_support::{MEMORY64, SYSTEM};
 use std::alloc::Global;
 use std::process::Abort;
@@ -19,12 +19,7 @@ fn one_byte_a_call_gives_the_same_items(rt: HostRuntime) {
     ];
     assert_plays_patchy(&rt, rt.alloc(), NAMED, &SYSTEM, &[1], None, &script);
 
-    let script = [
-        gives(stream(0, 9, 48, 44)),
-        gives(range(0, 0x1000, 4, Extent::Inside, 92)),
-        gives(range(1, 0x2000, 4, Extent::Outside, 96)),
-        ends(),
-    ];
+    let script = items_of_memory64();
     assert_plays_patchy(&rt, rt.alloc(), LEAST, &MEMORY64, &[1, 3], None, &script);
 }
 

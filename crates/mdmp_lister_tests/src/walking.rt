@@ -1,12 +1,10 @@
 //! A walker that is opened, and its calls in a row.
 use crate::files::file_of;
-use crate::opening::patchy;
+use crate::opening::{patchy, refused_with};
 use crate::playing::answer_by;
 use crate::same::assert_same_at;
 use crate::script::{Answer, Call, LEAST, ScriptStep};
-use mdmp_lister::{
-    Choice, Counts, Limits, ListFault, OpenFault, OpenRefused, Step as Read, Walker,
-};
+use mdmp_lister::{Choice, Counts, Limits, ListFault, OpenFault, Step as Read, Walker};
 use mdmp_source::{MemoryStore, Source, SourceFault, Store, inside};
 use mdmp_wire::Entry;
 use std::alloc::{Allocator, Global};
@@ -64,10 +62,7 @@ pub fn open_and_close<S: Store + Drop, A: Allocator + Copy>(
 ) -> (Option<OpenFault>, Source<S>) {
     match Walker::open(alloc, source, limits, Choice::All) {
         Ok(walker) => (None, walker.into_source()),
-        Err(refused) => {
-            let OpenRefused { fault, source } = refused;
-            (Some(fault), source)
-        }
+        Err(refused) => refused_with(refused),
     }
 }
 

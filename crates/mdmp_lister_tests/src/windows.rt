@@ -5,7 +5,7 @@ use crate::given::{Named, stream, unloaded};
 use crate::opening::{close, counts_of, limits_of, list_all, opened, store_fault};
 use crate::playing::{assert_plays_numbers, assert_plays_patchy};
 use crate::same::assert_same;
-use crate::script::{LEAST, ends, gives, runs};
+use crate::script::{LEAST, ends, gives, items_apart, runs};
 use mdmp_lister::{Choice, Counts, RunFault};
 use mdmp_source::MemoryStore;
 use std::alloc::Global;
@@ -115,12 +115,7 @@ fn fill_that_fails_leaves_the_records_that_are_held(rt: HostRuntime) {
 /// Asserts what a window of so many bytes gives of two modules that stand 1000 bytes apart, in a store that gives
 /// as many bytes a call as the caps say, in turn. A name may have as many bytes as the window.
 fn assert_apart(rt: &impl Abort, alloc: Global, window: u32, caps: &[usize; 2]) {
-    let script = [
-        gives(stream(0, 14, 2012, 44)),
-        gives(unloaded(0, 1, Named::None)),
-        gives(unloaded(1, 2, Named::None)),
-        ends(),
-    ];
+    let script = items_apart();
     let file = file_of(rt, alloc, 1, &apart_1000());
     let limits = limits_of(rt, window, window);
     assert_plays_patchy(rt, alloc, limits, &file, caps, None, &script);

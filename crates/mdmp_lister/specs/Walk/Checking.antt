@@ -25,6 +25,7 @@ use Rattle.mdmp_lister.specs.Format.Listing.{Numbered, Run, chosen_from, entry_l
 use Rattle.mdmp_lister.specs.Format.Numbers.{maybe_name}
 use Rattle.mdmp_lister.specs.Format.Ranges.{ranges_of}
 use Rattle.mdmp_lister.specs.Meter.{Moves, counts_of}
+use Rattle.mdmp_lister.specs.NamesFetched.{FetchesNames}
 use Rattle.mdmp_lister.specs.NextFetch.{TellsSomeFetch}
 use Rattle.mdmp_lister.specs.Sink.{ComeNext, Handed, give_all, names_of_all}
 use Rattle.mdmp_lister.specs.Stage.{ends, fault_stage}
@@ -132,6 +133,7 @@ module _ {S A : Type 0} where
     pub left : (file : List ℕ) → old.meter.source.store.content ≡ Some file → current_of old file ≡ give_all items (current_of new file)
     pub counts : Moves (names_of_all items) (counts_of old.meter) (counts_of new.meter)
     pub names : old.meter.names + names_of_all items ≤ new.meter.names
+    pub named : FetchesNames 1 items old.meter.fetched new.meter.fetched
     pub cost : HasCost (unread_bytes old) old.meter.source items (unread_bytes new) new.meter.source
     pub rests : work_of new ≤ work_of old
     pub may : MayCome old.choice old.entries.items old.meter.source.size old.name.limit (cursor_of old) items (cursor_of new)
@@ -179,6 +181,7 @@ module _ {S A : Type 0} where
     pub left : (file : List ℕ) → old.meter.source.store.content ≡ Some file → IsJudged (current_of old file) items result
     pub counts : Moves (names_of_all items + most_names result) (counts_of old.meter) (counts_of new.meter)
     pub names : old.meter.names + (names_of_all items + least_names result) ≤ new.meter.names
+    pub named : FetchesNames 1 items old.meter.fetched new.meter.fetched
     pub fetches : FetchesAtMost (unread_bytes old + items_cost old.meter.source.size items + judged_cost old.name.limit result) old.meter.source new.meter.source
     pub at_end : JudgeEnds old result new
     pub rests : work_of new ≤ work_of old
@@ -202,6 +205,7 @@ module _ {S A : Type 0} where
     pub current : IfErr result (λ _. slice_get old.entries.items (new.next - 1) ≡ Some new.current)
     pub counts : Moves (names_judged items verdicts + names_at_end result) (counts_of old.meter) (counts_of new.meter)
     pub names : old.meter.names + names_judged items verdicts ≤ new.meter.names
+    pub named : FetchesNames 1 items old.meter.fetched new.meter.fetched
     pub fetches : FetchesAtMost (check_cost old.meter.source.size old.name.limit items verdicts + end_cost old.name.limit result) old.meter.source new.meter.source
     pub failed : IfErr result (λ r. (f : ListFault) → r ≡ run.At f → FailedIn old f new)
     pub rests : work_of new ≤ work_of old

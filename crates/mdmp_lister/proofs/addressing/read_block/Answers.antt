@@ -1,8 +1,9 @@
-use Rattle.std.proofs.Common.{◌≡◌, ◌<◌, ◌∙◌, ◌∷◌, ◌++◌, [], ℕ, Err, None, Some, ap, arith, drop, length, rules, subst, sym, take, true}
+use Rattle.std.proofs.Common.{◌≡◌, ◌<◌, ◌+◌, ◌∙◌, ◌∷◌, ◌++◌, [], ℕ, Err, None, Some, ap, arith, drop, length, rules, subst, sym, take, true}
 use Rattle.std.proofs.lemmas.List.{take-append-drop, take_all}
 use Rattle.mdmp_map.specs.Painting.{PaintState, is_painted}
 use Rattle.mdmp_map.specs.Ranges.{IsPlaced, IsWithin}
 use Rattle.mdmp_lister.specs.Painting.{AreCells, count_known}
+use Rattle.mdmp_lister.proofs.Begun.{block_fetched, range_fetched}
 use Rattle.mdmp_lister.proofs.Fetches.{IsCaused_later}
 use Rattle.mdmp_lister.proofs.Painted.{all_at, block_read, books_within, cells_full, count-le, counted_then, take_next}
 use Rattle.mdmp_lister.proofs.addressing.read_block.Goals as goal
@@ -21,6 +22,11 @@ returns-then-is_full-clause-reads g c =
     (subst (λ rs. AreCells content rs c.args.address c.loop-number.out c.loop-number.known) (take-append-drop i ranges)
     (subst (λ a. AreCells content (take i ranges ++ drop i ranges) a c.loop-number.out c.loop-number.known) before.start are))
     before.books before.caused
+
+pub returns-then-is_full-clause-calls : goal.returns-then-is_full-clause-calls
+returns-then-is_full-clause-calls g c =
+    block_fetched c.args.map.now.ranges c.args.address (length c.loop-number.out) c.loop-number.known c.args.meter.now c.loop-number.meter
+    (omega (arith, c.loop-number.auto.out, c.loop-number.auto.known, c.requires.same)) c.loop-number.invariant.calls
 
 pub read_range-requires-clause-placed : goal.read_range-requires-clause-placed
 read_range-requires-clause-placed g c = all_at IsPlaced c.args.map.now.ranges c.loop-number.number c.look_at-range.result c.look_at-range.ensures.range c.look_at-range.ensures.placed
@@ -46,6 +52,20 @@ returns-in_err-read_range-clause-reads g c =
           c.in_err-read_range.ensures.caused;
     })
 
+pub returns-in_err-read_range-clause-calls : goal.returns-in_err-read_range-clause-calls
+returns-in_err-read_range-clause-calls g c =
+    let before = c.loop-number.invariant in
+    let ranges = c.args.map.now.ranges in
+    let i : ℕ = c.loop-number.number in
+    let start : c.is_full.new.self.start ≡ c.args.address = ap (λ (s : PaintState). s.start) c.is_full.ensures.same ∙ before.start in
+    let known = c.read_range.new.known in
+    let same : length known ≡ length c.read_range.new.out = omega (arith, c.loop-number.auto.out, c.loop-number.auto.known, c.requires.same, c.read_range.auto.out, c.read_range.auto.known) in
+    block_fetched ranges c.args.address (length c.read_range.new.out) known c.args.meter.now c.read_range.new.meter same
+    (range_fetched ranges i c.look_at-range.result c.is_full.new.self.start c.args.address c.loop-number.known known c.args.meter.now c.loop-number.meter c.read_range.new.meter
+    c.look_at-range.ensures.range start before.calls (c.read_range.ensures.calls (take i ranges) (drop (i + 1) ranges)
+    (subst (λ x. AreCells x (take i ranges) c.is_full.new.self.start c.loop-number.out c.loop-number.known) (sym before.books.fetches.same_content)
+    (subst (λ a. AreCells c.args.meter.now.source.store.content (take i ranges) a c.loop-number.out c.loop-number.known) (sym start) before.cells))))
+
 pub loop-number-preserved : goal.loop-number-preserved
 loop-number-preserved g c =
     let before = c.loop-number.invariant in
@@ -57,9 +77,10 @@ loop-number-preserved g c =
     let known = c.read_range.new.known in
     let start : c.is_full.new.self.start ≡ c.args.address = ap (λ (s : PaintState). s.start) c.is_full.ensures.same ∙ before.start in
     let same_content = before.books.fetches.same_content in
-    let are = c.in_ok-read_range.ensures.cells (take i ranges)
-    (subst (λ x. AreCells x (take i ranges) c.is_full.new.self.start c.loop-number.out c.loop-number.known) (sym same_content)
-    (subst (λ a. AreCells content (take i ranges) a c.loop-number.out c.loop-number.known) (sym start) before.cells)) in
+    let seen : AreCells c.loop-number.meter.source.store.content (take i ranges) c.is_full.new.self.start c.loop-number.out c.loop-number.known =
+    subst (λ x. AreCells x (take i ranges) c.is_full.new.self.start c.loop-number.out c.loop-number.known) (sym same_content)
+    (subst (λ a. AreCells content (take i ranges) a c.loop-number.out c.loop-number.known) (sym start) before.cells) in
+    let are = c.in_ok-read_range.ensures.cells (take i ranges) seen in
     record {
       painted = c.in_ok-read_range.ensures.painted;
       start = c.read_range.ensures.start ∙ start;
@@ -68,6 +89,8 @@ loop-number-preserved g c =
           (subst (λ a. AreCells content (take i ranges ++ range ∷ []) a out known) start
           (subst (λ x. AreCells x (take i ranges ++ range ∷ []) c.is_full.new.self.start out known) same_content are));
       books = counted_then c.loop-number.known known c.args.meter.now c.loop-number.meter c.read_range.new.meter before.books c.read_range.ensures.books;
+      calls = range_fetched ranges i range c.is_full.new.self.start c.args.address c.loop-number.known known c.args.meter.now c.loop-number.meter c.read_range.new.meter
+          c.look_at-range.ensures.range start before.calls (c.read_range.ensures.calls (take i ranges) (drop (i + 1) ranges) seen);
       caused = IsCaused_later None (count_known c.loop-number.known) c.args.meter.now.source c.loop-number.meter.source c.read_range.new.meter.source before.books.fetches before.caused
           c.in_ok-read_range.ensures.caused;
       looks = omega (arith, before.looks, c.look_at-range.ensures.steps);
@@ -82,3 +105,8 @@ returns-clause-reads g c =
     block_read ranges c.args.address c.loop-number.out c.loop-number.known c.args.meter.now c.loop-number.meter same
     (subst (λ rs. AreCells content rs c.args.address c.loop-number.out c.loop-number.known) (take_all c.loop-number.number ranges (omega (arith, c.loop-number-test.false, c.len-number-end.ensures))) before.cells)
     before.books before.caused
+
+pub returns-clause-calls : goal.returns-clause-calls
+returns-clause-calls g c =
+    block_fetched c.args.map.now.ranges c.args.address (length c.loop-number.out) c.loop-number.known c.args.meter.now c.loop-number.meter
+    (omega (arith, c.loop-number.auto.out, c.loop-number.auto.known, c.requires.same)) c.loop-number.invariant.calls

@@ -1,6 +1,7 @@
-use Rattle.std.proofs.Common.{◌≡◌, ◌-◌, ◌∙◌, ◌∷◌, ◌++◌, [], None, arith, length, subst, sym}
-use Rattle.mdmp_map.specs.Ranges.{IsWithin}
+use Rattle.std.proofs.Common.{◌≡◌, ◌+◌, ◌-◌, ◌∙◌, ◌∷◌, ◌++◌, [], None, ap, arith, length, subst, sym}
+use Rattle.mdmp_map.specs.Ranges.{IsWithin, holds}
 use Rattle.mdmp_lister.specs.Painting.{AreCells, AreCellsTo}
+use Rattle.mdmp_lister.proofs.Begun.{run_fetched}
 use Rattle.mdmp_lister.proofs.Fetches.{IsCaused_later}
 use Rattle.mdmp_lister.proofs.Painted.{books_within, cells_run, cells_to, newly_then, painted_run, run_inside}
 use Rattle.mdmp_lister.proofs.addressing.read_range.Goals as goal
@@ -15,6 +16,15 @@ returns-in_err-read_run-clause-books g c =
     newly_then (c.in-Some.run'.end - c.in-Some.run'.first) c.args.known.now c.runs.known c.read_run.new.known c.args.meter.now c.runs.meter c.read_run.new.meter
     c.runs.invariant.books c.read_run.ensures.counted
     (books_within 1 (c.in-Some.run'.end - c.in-Some.run'.first) _ _ c.runs.meter c.read_run.new.meter (omega (arith, c.in-Some.ensures.run.some)) (omega arith) c.read_run.ensures.books)
+
+pub returns-in_err-read_run-clause-calls : goal.returns-in_err-read_run-clause-calls
+returns-in_err-read_run-clause-calls g c = λ seen rest are.
+    let before = c.runs.invariant in
+    let run = c.in-Some.run' in
+    let read = c.read_run.ensures in
+    run_fetched c.runs.from c.args.meter.now.source.store.content seen rest c.args.range.now c.runs.paint run c.runs.out c.args.paint.now.start (run.end - run.first) c.args.known.now
+    c.runs.known c.read_run.new.known c.args.meter.now c.runs.meter c.read_run.new.meter before.start (omega (arith, c.runs.auto.out, c.runs.auto.known, c.requires.same)) before.painted
+    c.in-Some.ensures.run (before.cells seen are) before.edge c.read_run.auto.known read.known read.known_below read.known_behind (before.calls seen rest are) read.books
 
 pub runs-preserved : goal.runs-preserved
 runs-preserved g c =
@@ -41,6 +51,11 @@ runs-preserved g c =
             bytes_behind = read.bytes_behind;
           })
           (subst (λ a. AreCellsTo c.runs.from content seen range a c.runs.out c.runs.known) (sym before.start) (before.cells seen are)));
+      edge = λ some inside held. c.in-Some.ensures.painted.behind run.end (omega arith)
+          ∙ c.in-Some.ensures.run.whole (omega (arith, inside, c.paint.ensures.count)) (ap (λ a. holds (a + run.end) range) (sym c.paint.ensures.start) ∙ held);
+      calls = λ seen rest are. run_fetched c.runs.from content seen rest range c.runs.paint run c.runs.out c.args.paint.now.start (run.end - run.first) c.args.known.now c.runs.known
+          c.read_run.new.known c.args.meter.now c.runs.meter c.read_run.new.meter before.start same before.painted c.in-Some.ensures.run (before.cells seen are) before.edge
+          c.read_run.auto.known read.known read.known_below read.known_behind (before.calls seen rest are) read.books;
       books = newly_then (run.end - run.first) c.args.known.now c.runs.known c.read_run.new.known c.args.meter.now c.runs.meter c.read_run.new.meter before.books read.counted
           (books_within 1 (run.end - run.first) _ _ c.runs.meter c.read_run.new.meter (omega (arith, c.in-Some.ensures.run.some)) (omega arith) read.books);
       caused = IsCaused_later None before.books.count c.args.meter.now.source c.runs.meter.source c.read_run.new.meter.source before.books.books.fetches before.caused read.caused;

@@ -23,5 +23,5 @@ returns-clause-bytes g c = λ F is.
     let part : List ℕ = c.fetch_aside.new.out in
     let long : length (take n (drop first c.args.out.now)) ≡ n = length-take-le n (drop first c.args.out.now) (omega (arith, c.requires.within, length-drop first c.args.out.now)) in
     let same : length part ≡ n = omega (arith, long, c.fetch_aside.auto.out) in
-    on_ok c.fetch_aside.result (part ≡ bytes_at F c.args.run.offset (length part)) _ (c.fetch_aside.ensures.of_file F is) (λ (read : part ≡ bytes_at F c.args.run.offset (length part)) (k : ℕ) (at : first ≤ k) (lt : k < c.args.run.end).
+    on_ok c.fetch_aside.result (part ≡ bytes_at F c.args.run.offset (length part)) _ (c.fetch_aside.ensures.reads.of_file F is) (λ (read : part ≡ bytes_at F c.args.run.offset (length part)) (k : ℕ) (at : first ≤ k) (lt : k < c.args.run.end).
     run_bytes F c.args.out.now part first n c.args.run.offset k (omega (arith, c.requires.within, c.requires.some)) (subst (λ m. part ≡ bytes_at F c.args.run.offset m) same read) same at (omega (arith, lt, at)))

@@ -35,5 +35,6 @@ returns-clause-reads g c =
           rest_is = read.room ∙ ap (λ (head : List ℕ). fetched_behind head size c.fetch_codeview.new.rest.limit) (sym kept);
         };
         books = read.books;
+        counted = read.counted;
       };
     }

@@ -30,6 +30,7 @@ returns-clause-checks g c =
       same = record { aside = e.counts.same_aside; start = e.counts.same_start; budget = e.counts.same_budget; header_is = e.same.header_is; choice = e.same.choice; limit = e.same.name; entries = same_entries w n e.same; rooms = rw room (same_rooms w n m.room e.same) };
       counts = e.counts;
       names = e.names;
+      named = e.named;
       fetches = e.fetches;
       follow = e.follow;
       ends = e.ends;

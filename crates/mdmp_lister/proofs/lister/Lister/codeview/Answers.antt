@@ -1,5 +1,6 @@
 use Rattle.std.proofs.Common.{◌≡◌, ◌+◌, ◌∙◌, Err, ap, length, min, refl, rules, subst, sym}
 use Rattle.std.proofs.lemmas.List.{length-take-le}
+use Rattle.mdmp_source.specs.Count.{raised}
 use Rattle.mdmp_lister.specs.CodeView.{codeview_fetches}
 use Rattle.mdmp_lister.specs.Meter.{BooksAside}
 use Rattle.mdmp_lister.proofs.CodeViews.{lent_fetched, lent_head, lent_told}
@@ -20,12 +21,15 @@ returns-in_err-read g c =
         refl,
         λ _. tt,
         record {
-          same = state_aside (viewed c.self.view_is) _ (rw e.same refl) e.room (codeview_left c.args.location w n _ e) (codeview_unread c.args.location w n _ e);
-          aside = books.spends;
-          fetches = books.fetches;
-          source_calls = books.source_calls;
-          told = e.read.reads.caused.told;
-          good = λ file good. good_caused {T = Unit {0}} w.meter.source n.meter.source (Err f) file e.read.reads.caused good;
+          aside = record {
+            same = state_aside (viewed c.self.view_is) _ (rw e.same refl) e.room (codeview_left c.args.location w n _ e) (codeview_unread c.args.location w n _ e);
+            aside = books.spends;
+            fetches = books.fetches;
+            source_calls = books.source_calls;
+            told = e.read.reads.caused.told;
+            good = λ file good. good_caused {T = Unit {0}} w.meter.source n.meter.source (Err f) file e.read.reads.caused good;
+          };
+          counted = tt;
         },
       ),
       record {
@@ -52,12 +56,15 @@ returns g c =
         refl,
         λ _. tt,
         record {
-          same = state_aside (viewed c.self.view_is) _ (rw e.same refl) e.room (codeview_left c.args.location w n _ e) (codeview_unread c.args.location w n _ e);
-          aside = books.spends;
-          fetches = books.fetches;
-          source_calls = books.source_calls;
-          told = tt;
-          good = λ file good. refl;
+          aside = record {
+            same = state_aside (viewed c.self.view_is) _ (rw e.same refl) e.room (codeview_left c.args.location w n _ e) (codeview_unread c.args.location w n _ e);
+            aside = books.spends;
+            fetches = books.fetches;
+            source_calls = books.source_calls;
+            told = tt;
+            good = λ file good. refl;
+          };
+          counted = subst (λ count. n.meter.aside.bytes ≡ raised w.meter.aside.bytes (min c.args.location.size 24 + count)) (sym long) e.read.fetches.counted;
         },
       ),
       record {
