@@ -131,10 +131,10 @@ module _ (F : List ℕ) (limit : ℕ) (old now new : ListerState) (rows : List C
       let met = ap names_met (faults_end F limit now so_far.met before items so_far.counts is) in
       omega (arith, names_of_entries F limit, given, met, sum_by-append names_of before items, so_far.names, end.names)
 
-  pub read_end : EndsRun now left_now items more new → (rest : List Item) × (all_items F limit ≡ (before ++ items) ++ rest)
+  pub read_end : EndsRun now left_now items more new → all_items F limit ≡ before ++ items
   read_end end =
       let is : (run : Run) → now.left ≡ Some run → run ≡ record { items = items; fault = None } = λ run is. let here : run ≡ left_now = let e = so_far.counts.left in cc in here ∙ end.all in
-      ([], sym (items_end F limit now so_far.met before items so_far.counts is) ∙ sym (append-nil (before ++ items)))
+      sym (items_end F limit now so_far.met before items so_far.counts is)
 
   -- or it ended early
   pub rows_early : EndsEarly now left_now items more new → (rest : List CheckRow) × (check_rows F limit ≡ rows ++ more ++ rest)

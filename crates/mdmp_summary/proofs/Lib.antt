@@ -9,6 +9,7 @@ mod IdentityRows
 pub mod InEntries
 pub mod Left
 pub mod LeftOn
+pub mod NamesFetched
 pub mod Over
 pub mod Padding
 pub mod Passing

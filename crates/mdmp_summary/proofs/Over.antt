@@ -16,6 +16,7 @@ use Rattle.mdmp_summary.specs.Visiting.{RisesOutside}
 use Rattle.mdmp_summary.specs.Walking.{IsSameListing}
 use Rattle.mdmp_summary.specs.declared.visiting.VisitEnd.{VisitEnd}
 use Rattle.mdmp_summary.proofs.LeftOn.{LeftBy, left_between, left_same}
+use Rattle.mdmp_lister.proofs.NamesFetched.{names_more}
 use Rattle.mdmp_summary.proofs.Paying.{HasPaid, at_most_same, few_names, look_by}
 use Rattle.mdmp_summary.proofs.Visited.{HasShown, outside_then, visited_then}
 
@@ -42,6 +43,7 @@ module _ {K : Type 0} (taken : K → Item → Result (Unit {0}) Stopped → K �
         let more = over.left rest.0 rest.1.0 in
         (more.0, (more.1.0, rest.1.1 ∙ ap (give_all run.items) more.1.1 ∙ give_all-then run.items over.items more.0));
     outside = outside_then room run.items over.items old.counts.aside mid.list.counts.aside new.list.counts.aside run.outside (outside_idle room over.items _ _ over.stays.aside);
+    named = names_more run.items over.items old.counts.fetched mid.list.counts.fetched new.list.counts.fetched run.named over.named;
   }
 
   -- ---- what is left

@@ -17,6 +17,8 @@ use Rattle.mdmp_lister.specs.Lister.{ListerState}
 use Rattle.mdmp_lister.specs.Sink.{RunLeaves, Taken, TakenToStop, give_all, names_of_all}
 use Rattle.mdmp_lister.proofs.Fetches.{FetchesAtMost-within}
 use Rattle.mdmp_summary.specs.CheckRows.{end_rows, entry_behind, good_row, loses_behind, result_row, rows_over, run_rows}
+use Rattle.mdmp_lister.proofs.NamesFetched.{names_later}
+use Rattle.mdmp_summary.proofs.NamesFetched.{run_named}
 use Rattle.mdmp_summary.specs.Checking.{EndsEarly, TellsRows, row_cost, rows_cost}
 use Rattle.mdmp_summary.specs.RowMaking.{HandsRows, StopsAmong}
 use Rattle.mdmp_summary.specs.declared.check_row.CheckRow.{CheckRow}
@@ -116,6 +118,7 @@ module _ {J K N : Type 0} (step : J → CheckRow → Result (Unit {0}) Stopped �
         rows = rows_over None false ran.items ++ last;
         handed = taken_then step (rows_over None false ran.items) last (sink k) (sink m) l all.taken (rw (← all.entry_is, ← all.loses_is) put);
         fetches = FetchesAtMost-within _ (old.unread + rows_cost old.source.size old.limit ran.items (rows_over None false ran.items ++ last) + 0) old.source mid.source (omega (arith)) ran.fetches;
+        named = run_named old mid ran.items (Ok tt) ran.requests;
         gives = λ left known.
             let given = ran.left left known in
             let is = all_of left ran.items None given.1.1.0 in
@@ -131,6 +134,7 @@ module _ {J K N : Type 0} (step : J → CheckRow → Result (Unit {0}) Stopped �
         rows = rows_over None false ran.items ++ among.told;
         handed = stopped_then step (rows_over None false ran.items) among.told (sink k) (sink m) l all.taken among.stopped;
         fetches = FetchesAtMost-within _ (old.unread + rows_cost old.source.size old.limit ran.items (rows_over None false ran.items ++ among.told) + 0) old.source mid.source (omega (arith)) ran.fetches;
+        named = run_named old mid ran.items (Ok tt) ran.requests;
         gives = λ left known.
             let given = ran.left left known in
             let names = ran.names in
@@ -150,6 +154,7 @@ module _ {J K N : Type 0} (step : J → CheckRow → Result (Unit {0}) Stopped �
         rows = all.among.told;
         handed = all.among.stopped;
         fetches = FetchesAtMost-within _ (old.unread + rows_cost old.source.size old.limit ran.items all.among.told + 0) old.source mid.source (omega (arith)) ran.fetches;
+        named = run_named old mid ran.items (Err run.Stopped) ran.requests;
         gives = λ left known.
             let given = ran.left left known in
             let names = ran.names in
@@ -167,6 +172,7 @@ module _ {J K N : Type 0} (step : J → CheckRow → Result (Unit {0}) Stopped �
           rows = rows_over None false ran.items;
           handed = all.taken;
           fetches = FetchesAtMost-within _ (old.unread + rows_cost old.source.size old.limit ran.items (rows_over None false ran.items) + end_cost old.limit (Err (run.At f))) old.source mid.source (omega (arith)) ran.fetches;
+          named = run_named old mid ran.items (Err (run.At f)) ran.requests;
           gives = λ left known.
               let given = ran.left left known in
               let names = ran.names_at_end going in
@@ -175,8 +181,8 @@ module _ {J K N : Type 0} (step : J → CheckRow → Result (Unit {0}) Stopped �
         }
 
     pub run_bad : is_unobtained f.kind ≡ false → (l : J) → HandsRows step (sink m) (result_row f.entry (Some f) (loses m) ∷ []) (Ok tt) l
-        → (new : ListerState) → new.source ≡ mid.source → new.counts.names ≡ mid.counts.names → f.entry + 1 ≡ new.passed → TellsRows step old (sink k) (Ok true) new l
-    run_bad read l put new source same entry_is =
+        → (new : ListerState) → new.source ≡ mid.source → new.counts.names ≡ mid.counts.names → new.counts.fetched ≡ mid.counts.fetched → f.entry + 1 ≡ new.passed → TellsRows step old (sink k) (Ok true) new l
+    run_bad read l put new source same fetched_is entry_is =
         let all = puts_all ran.items ran.handed in
         let row = result_row f.entry (Some f) (loses_behind false ran.items) in
         let last = row ∷ [] in
@@ -188,6 +194,7 @@ module _ {J K N : Type 0} (step : J → CheckRow → Result (Unit {0}) Stopped �
           handed = taken_then step (rows_over None false ran.items) last (sink k) (sink m) l all.taken (rw (← all.loses_is) put);
           fetches = subst (λ (s : SourceState). FetchesAtMost (old.unread + rows_cost old.source.size old.limit ran.items (rows_over None false ran.items ++ last) + 0) old.source s) (sym source)
               (FetchesAtMost-within _ (old.unread + rows_cost old.source.size old.limit ran.items (rows_over None false ran.items ++ last) + 0) old.source mid.source (omega (arith, sum, one)) ran.fetches);
+          named = names_later 1 ran.items old.counts.fetched mid.counts.fetched new.counts.fetched (run_named old mid ran.items (Err (run.At f)) ran.requests) (omega (arith, fetched_is));
           gives = λ left known.
               let given = ran.left left known in
               let is = all_of left ran.items (Some f) (given.1.1.1.0 (read_kind f.kind read)) in
@@ -205,6 +212,7 @@ module _ {J K N : Type 0} (step : J → CheckRow → Result (Unit {0}) Stopped �
           rows = rows_over None false ran.items ++ among.told;
           handed = stopped_then step (rows_over None false ran.items) among.told (sink k) (sink m) l all.taken among.stopped;
           fetches = FetchesAtMost-within _ (old.unread + rows_cost old.source.size old.limit ran.items (rows_over None false ran.items ++ among.told) + 0) old.source mid.source (omega (arith, sum, one)) ran.fetches;
+          named = run_named old mid ran.items (Err (run.At f)) ran.requests;
           gives = λ left known.
               let given = ran.left left known in
               let names = ran.names_at_end going in

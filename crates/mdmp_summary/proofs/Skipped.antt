@@ -1,5 +1,5 @@
 -- A stream whose records are passed over, since they have no names and a visitor has no use for them.
-use Rattle.std.proofs.Common.{◌≡◌, ◌+◌, ◌-◌, ◌*◌, ◌∙◌, ℕ, zero, suc, List, [], ◌∷◌, Option, Some, None, Result, Ok, Err, IsTrue, false, length, ap, arith, inl, inr, refl, sym}
+use Rattle.std.proofs.Common.{◌≡◌, ◌≤◌, ◌+◌, ◌-◌, ◌*◌, ◌∙◌, ℕ, zero, suc, List, [], ◌∷◌, Option, Some, None, Result, Ok, Err, IsTrue, false, length, ap, arith, inl, inr, refl, sym}
 use Rattle.std.specs.Option.{option_map}
 use Rattle.mdmp_lister.specs.declared.fault.Fault.{Fault}
 use Rattle.mdmp_lister.specs.declared.fault.ListFault.{ListFault}
@@ -21,8 +21,11 @@ use Rattle.mdmp_lister.specs.Sink.{give_all}
 use Rattle.mdmp_lister.specs.Walker.{CountsRecords, WalkerState, begins, is_sought, records_answer, seeks}
 use Rattle.mdmp_summary.specs.Skipping.{HasBegun, IsBetween, PassesOver, StaysInEntry, left_begun, next_in}
 use Rattle.mdmp_summary.specs.Spending.{next_number}
+use Rattle.mdmp_lister.specs.NamesFetched.{names_bytes}
 use Rattle.mdmp_summary.specs.Visiting.{HasNoUse, IsOfKind, VisitedAll}
 use Rattle.mdmp_summary.specs.declared.visiting.VisitEnd.{VisitEnd}
+use Rattle.mdmp_lister.proofs.NamesFetched.{names_none}
+use Rattle.mdmp_summary.proofs.NamesFetched.{names_idle, nameless_more}
 use Rattle.mdmp_summary.proofs.Told.{next_listing, same_listing_none, same_listing_then, skipped_listing}
 
 -- ---- records without names
@@ -58,6 +61,11 @@ run_from : (F : List ℕ) (limit e at : ℕ) (kind : StreamKind) (shape : Shape)
 run_from F limit e at kind shape zero k not = record { fault = refl; records = tt }
 run_from F limit e at kind shape (suc n) k not =
     one_more e k kind (item_at F limit e k at (at + shape.first + k * shape.stride) kind) _ (nameless_good F limit e k at (at + shape.first + k * shape.stride) kind not) (run_from F limit e at kind shape n (k + 1) not)
+
+-- the bytes of no name are theirs
+nameless_all : (kind : StreamKind) → has_names kind ≡ false → (xs : List Item) → AreRecordsOf kind xs → names_bytes xs ≡ 0
+nameless_all kind not [] are = refl
+nameless_all kind not (x ∷ xs) (is, are) = nameless_more kind x xs not is (nameless_all kind not xs are)
 
 -- ---- an entry whose head was read
 
@@ -134,6 +142,7 @@ pub nothing_passed : {K : Type 0} (taken : K → Item → Result (Unit {0}) Stop
 nothing_passed taken looked k old going = record {
   items = [];
   unused = λ content limit. refl;
+  named = names_none 1 old.list.counts.fetched;
   left = λ left is. (left, (is, refl));
   follows = inl refl;
   stays = record {
@@ -169,6 +178,9 @@ module _ (old mid new : WalkerState) (kind : StreamKind) (count : ℕ) (begun : 
         rests = let rests = keeps.rests in omega (arith, rests, counted.rests);
       }
 
+  skipped_later : old.list.counts.fetched ≤ new.list.counts.fetched
+  skipped_later = let more = counted.counts.more in let same = ap (λ (c : MeterCounts). c.fetched) keeps.counts in omega (arith, more, same)
+
   module _ {K : Type 0} (taken : K → Item → Result (Unit {0}) Stopped → K → Type 0) (looked : Option (List ℕ) → ℕ → K → Result (Unit {0}) VisitEnd → K → Type 0) (k : K)
       (not : has_names kind ≡ false) (none : HasNoUse taken looked k kind)
       (told : (file : List ℕ) → old.list.source.store.content ≡ Some file → records_told file (record { number = old.list.passed - 1; entry = old.list.current }) ≡ Ok count) where
@@ -178,6 +190,7 @@ module _ (old mid new : WalkerState) (kind : StreamKind) (count : ℕ) (begun : 
         record {
           items = [];
           unused = λ content limit. refl;
+          named = names_idle [] old.list.counts.fetched new.list.counts.fetched refl skipped_later;
           left = λ left is. absurd (cc);
           follows = inr (between_skipped mid new skips keeps unsought);
           stays = skipped_stays;
@@ -192,6 +205,7 @@ module _ (old mid new : WalkerState) (kind : StreamKind) (count : ℕ) (begun : 
         record {
           items = run.items;
           unused = unused_all taken looked k kind none run.items body.records;
+          named = names_idle run.items old.list.counts.fetched new.list.counts.fetched (nameless_all kind not run.items body.records) skipped_later;
           left = λ left is.
               let all : left ≡ joined run rest = let known_left = begun.left ∙ ap (option_map (left_begun old.list)) known in cc in
               (rest, (skips.left ∙ (λ i. option_map (λ file. listing_from file (same.choice i) (same.limit i) (counted.passed i)) (content i)), all ∙ joined_good run rest body.fault));

@@ -13,6 +13,8 @@ use Rattle.mdmp_lister.specs.declared.fault.OpenFault.TheVariants as opening
 use Rattle.mdmp_lister.specs.declared.limits.Limits.{Limits}
 use Rattle.mdmp_lister.specs.declared.meter.Amount.{Amount}
 use Rattle.mdmp_lister.specs.declared.meter.MeterCounts.{MeterCounts}
+use Rattle.mdmp_lister.specs.declared.counts.Counts.{Counts}
+use Rattle.mdmp_lister.specs.Counts.{AreHeld, numbers_of}
 use Rattle.mdmp_lister.specs.Fault.{IsOfStore, IsUnobtained, is_unobtained}
 use Rattle.mdmp_lister.specs.Lister.{IsSameLister, ListerState}
 use Rattle.mdmp_lister.specs.Memory.{IsWalkRefusal}
@@ -22,7 +24,7 @@ use Rattle.mdmp_lister.specs.Walker.{WalkerState}
 use Rattle.mdmp_lister.proofs.Fetches.{FetchesAtMost-none, told_in_later}
 use Rattle.mdmp_summary.specs.Spending.{ReadsOutside}
 use Rattle.mdmp_summary.specs.Summing.{IsCallFault, IsFileFault, IsSummaryFault, IsUnreadIn}
-use Rattle.mdmp_summary.specs.Walking.{IsLookFault, IsPassFault, IsSameListing}
+use Rattle.mdmp_summary.specs.Walking.{IsLookFault, IsPassFault, IsSameListing, KeepsItsBudget}
 use Rattle.mdmp_summary.specs.declared.summary.SummaryFault.{SummaryFault}
 use Rattle.mdmp_summary.specs.declared.summary.SummaryFault.TheVariants as faults
 use Rattle.mdmp_summary.specs.Visiting.{IsEndTold}
@@ -82,15 +84,7 @@ next_listing n a b same fetches = record {
 
 -- and so does an entry that is skipped
 pub skipped_listing : (a b : ListerState) → IsSameLister a b → b.source ≡ a.source → IsSameListing a b
-skipped_listing a b same source = record {
-  header_is = same.header_is;
-  entries = same.entries;
-  choice = same.choice;
-  limit = same.limit;
-  rooms = same.rooms;
-  budget = same.budget;
-  same_file = record { count = 0; fetches = subst (λ (s : SourceState). FetchesAtMost 0 a.source s) (sym source) (FetchesAtMost-none a.source) };
-}
+skipped_listing a b same source = next_listing 0 a b same (subst (λ (s : SourceState). FetchesAtMost 0 a.source s) (sym source) (FetchesAtMost-none a.source))
 
 -- or one that is sought
 pub sought_listing : (a b : ListerState) → b ≡ record a { left = b.left; stop = b.stop; unread = b.unread; standing = b.standing; records = b.records; work = b.work } → IsSameListing a b
@@ -115,6 +109,13 @@ outside_listing most old new reads = record {
   budget = reads.aside.same_budget;
   same_file = record { count = most.bytes; fetches = reads.fetches };
 }
+
+-- what a walker counts tells that it kept to its budget
+pub keeps_counted : (a b : ListerState) (c : Counts) → IsSameListing a b → c ≡ numbers_of b → AreHeld b c → KeepsItsBudget a b
+keeps_counted a b c same is held = record { same = same; held = subst (AreHeld b) is held }
+
+pub keeps_then : (a b c : ListerState) → IsSameListing a b → KeepsItsBudget b c → KeepsItsBudget a c
+keeps_then a b c first then = record { same = same_listing_then a b c first then.same; held = then.held }
 
 -- ---- causes
 

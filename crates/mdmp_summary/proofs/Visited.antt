@@ -17,12 +17,15 @@ use Rattle.mdmp_lister.specs.Sink.{give_all}
 use Rattle.mdmp_lister.specs.Walker.{WalkerState}
 use Rattle.mdmp_lister.proofs.Fetches.{FetchesAtMost-none}
 use Rattle.mdmp_lister.proofs.Handing.{give_all-next}
+use Rattle.mdmp_lister.proofs.Requested.{spends_none}
 use Rattle.mdmp_summary.specs.Spending.{ReadsOutside}
+use Rattle.mdmp_lister.specs.NamesFetched.{FetchesNames}
 use Rattle.mdmp_summary.specs.Visiting.{EndedAmong, EndedAt, IsAtMost, ReadsNothing, RisesOutside, TakesBy, Visited, VisitedAll, VisitedTo, nothing_read}
 use Rattle.mdmp_summary.specs.declared.visiting.VisitEnd.{VisitEnd}
 use Rattle.mdmp_summary.specs.declared.visiting.VisitEnd.TheVariants as ends
 use Rattle.mdmp_summary.specs.declared.visiting.VisitFault.{VisitFault}
 use Rattle.mdmp_summary.specs.declared.visiting.VisitFault.TheVariants as faults
+use Rattle.mdmp_lister.proofs.NamesFetched.{names_more}
 
 -- a visitor was shown some items so far
 pub record HasShown {K : Type 0} (taken : K → Item → Result (Unit {0}) Stopped → K → Type 0) (looked : Option (List ℕ) → ℕ → K → Result (Unit {0}) VisitEnd → K → Type 0)
@@ -31,6 +34,7 @@ pub record HasShown {K : Type 0} (taken : K → Item → Result (Unit {0}) Stopp
   pub visited : VisitedAll taken (looked old.source.store.content old.limit) k items l
   pub left : (left : Run) → old.left ≡ Some left → (rest : Run) × ((new.left ≡ Some rest) × (left ≡ give_all items rest))
   pub outside : RisesOutside room items old.counts.aside new.counts.aside
+  pub named : FetchesNames 1 items old.counts.fetched new.counts.fetched
 
 -- one item more
 module _ {K : Type 0} (taken : K → Item → Result (Unit {0}) Stopped → K → Type 0) (looked : K → Result (Unit {0}) VisitEnd → K → Type 0) where
@@ -100,22 +104,7 @@ module _ (room : Item → Amount) where
 -- ---- a visitor that reads nothing
 
 pub reads_nothing : (v : WalkerState) → ReadsOutside nothing_read v v
-reads_nothing v = record {
-  same = refl;
-  aside = record {
-    aside = omega arith;
-    more = omega arith;
-    aside_calls = omega arith;
-    more_aside_calls = omega arith;
-    same_fetched = refl;
-    same_calls = refl;
-    same_names = refl;
-    same_start = refl;
-    same_budget = refl;
-    same_asked = refl;
-  };
-  fetches = FetchesAtMost-none v.list.source;
-}
+reads_nothing v = record { same = refl; aside = spends_none v.list.counts; fetches = FetchesAtMost-none v.list.source }
 
 -- what it made of some items
 pub folded_all : {K : Type 0} (next : K → Item → K) (content : Option (List ℕ)) (limit : ℕ) (xs : List Item) (k l : K) → VisitedAll (TakesBy next) (ReadsNothing content limit) k xs l → l ≡ fold next k xs
@@ -184,8 +173,8 @@ never_ends next content limit end xs k l ended = ended_never next content limit 
 module _ {K : Type 0} (taken : K → Item → Result (Unit {0}) Stopped → K → Type 0) (looked : Option (List ℕ) → ℕ → K → Result (Unit {0}) VisitEnd → K → Type 0) (room : Item → Amount) (old : ListerState) (k : K) where
   pub shown_next : (now new : ListerState) (x : Item) (v t l : K) → HasShown taken looked room old k now v → taken v x (Ok tt) t → looked old.source.store.content old.limit t (Ok tt) l
       → ((left : Run) → now.left ≡ Some left → (slice_get left.items 0 ≡ Some x) × (new.left ≡ Some (tail left))) → RisesOutside room (x ∷ []) now.counts.aside new.counts.aside
-      → HasShown taken looked room old k new l
-  shown_next now new x v t l run took read gives outside = record {
+      → FetchesNames 1 (x ∷ []) now.counts.fetched new.counts.fetched → HasShown taken looked room old k new l
+  shown_next now new x v t l run took read gives outside named = record {
     items = run.items ++ x ∷ [];
     visited = visited_on taken (looked old.source.store.content old.limit) run.items x k v l run.visited (t, (took, read));
     left = λ run_left known.
@@ -193,4 +182,5 @@ module _ {K : Type 0} (taken : K → Item → Result (Unit {0}) Stopped → K �
         let first = gives rest.0 rest.1.0 in
         (tail rest.0, (first.1, give_all-next run_left run.items x rest.0 rest.1.1 first.0));
     outside = outside_then room run.items (x ∷ []) old.counts.aside now.counts.aside new.counts.aside run.outside outside;
+    named = names_more run.items (x ∷ []) old.counts.fetched now.counts.fetched new.counts.fetched run.named named;
   }

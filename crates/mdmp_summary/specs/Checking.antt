@@ -12,6 +12,7 @@ use Rattle.mdmp_lister.specs.Costs.{end_cost, items_cost}
 use Rattle.mdmp_lister.specs.Format.Listing.{Run, listing}
 use Rattle.mdmp_lister.specs.Format.Numbers.{faulty_name}
 use Rattle.mdmp_lister.specs.Lister.{IsSameLister, ListerState, listing_behind}
+use Rattle.mdmp_lister.specs.NamesFetched.{FetchesNames}
 use Rattle.mdmp_lister.specs.Sink.{Handed, names_of_all}
 use Rattle.mdmp_summary.specs.BadEntries.{all_items}
 use Rattle.mdmp_summary.specs.InEntry.{EndsInEntry, StandsInChosen}
@@ -35,6 +36,11 @@ row_cost limit (Entry row) = fault_cost limit row.verdict.fault
 abbrev pub rows_cost : ℕ → ℕ → List Item → List CheckRow → ℕ
 rows_cost z limit items rows = items_cost z items + sum_by (row_cost limit) rows
 
+-- these items are all, or the first of them if a check ended early
+abbrev pub AreRead : List Item → List Item → Result (Unit {0}) RunFault → Type 0
+AreRead all items (Ok done) = all ≡ items
+AreRead all items (Err fault) = (rest : List Item) × (all ≡ items ++ rest)
+
 -- a sink was handed some rows, of a known file the first of all, and no more was fetched than their items and they cost
 pub record RowsHanded {K : Type 0} (step : K → CheckRow → Result (Unit {0}) Stopped → K → Type 0) (old : ListerState) (k : K) (result : Result (Unit {0}) RunFault) (new : ListerState) (l : K) : Type 0 where
   pub rows : List CheckRow
@@ -42,7 +48,8 @@ pub record RowsHanded {K : Type 0} (step : K → CheckRow → Result (Unit {0}) 
   pub handed : Handed step k rows result l
   pub of_file : (file : List ℕ) → old.source.store.content ≡ Some file → AreFirstRows (check_rows file old.limit) rows result
   -- the items that were read, of a known file the first of all
-  pub read : (file : List ℕ) → old.source.store.content ≡ Some file → (rest : List Item) × (all_items file old.limit ≡ items ++ rest)
+  pub read : (file : List ℕ) → old.source.store.content ≡ Some file → AreRead (all_items file old.limit) items result
+  pub named : FetchesNames 1 items old.counts.fetched new.counts.fetched
   -- of every source
   pub fetches : FetchesAtMost (old.unread + rows_cost old.source.size old.limit items rows + end_cost old.limit result) old.source new.source
 
@@ -86,6 +93,7 @@ pub record TellsRows {K : Type 0} (step : K → CheckRow → Result (Unit {0}) S
   pub rows : List CheckRow
   pub handed : Handed step k rows (run_end result) l
   pub fetches : FetchesAtMost (old.unread + rows_cost old.source.size old.limit items rows + end_cost old.limit (run_end result)) old.source new.source
+  pub named : FetchesNames 1 items old.counts.fetched new.counts.fetched
   pub gives : (left : Run) → old.left ≡ Some left → GivesRows old left items rows result new
 
 -- the same listing of the same file, and what is left after a bad entry

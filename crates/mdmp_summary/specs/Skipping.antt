@@ -14,6 +14,7 @@ use Rattle.mdmp_lister.specs.Lister.{ListerState, listing_behind}
 use Rattle.mdmp_lister.specs.Sink.{give_all}
 use Rattle.mdmp_lister.specs.Walker.{CountsRecords, WalkerState, is_begun, is_sought}
 use Rattle.mdmp_summary.specs.Spending.{next_number}
+use Rattle.mdmp_lister.specs.NamesFetched.{FetchesNames}
 use Rattle.mdmp_summary.specs.Visiting.{VisitedAll}
 use Rattle.mdmp_summary.specs.Walking.{IsSameListing}
 use Rattle.mdmp_summary.specs.declared.visiting.VisitEnd.{VisitEnd}
@@ -61,6 +62,8 @@ pub record PassesOver {K : Type 0} (taken : K → Item → Result (Unit {0}) Sto
     (k : K) (old new : WalkerState) : Type 0 where
   pub items : List Item
   pub unused : (content : Option (List ℕ)) (limit : ℕ) → VisitedAll taken (looked content limit) k items k
+  -- they have no names
+  pub named : FetchesNames 1 items old.list.counts.fetched new.list.counts.fetched
   pub left : (left : Run) → old.list.left ≡ Some left → (rest : Run) × ((new.list.left ≡ Some rest) × (left ≡ give_all items rest))
   -- none, or all of the entry
   pub follows : (new.list.left ≡ old.list.left) ⊎ IsBetween new

@@ -1,16 +1,24 @@
 -- What a summary of a file that was just opened fetches.
-use Rattle.std.proofs.Common.{◌≡◌, ◌≤◌, ◌+◌, ◌*◌, ◌∙◌, ℕ, Option, None, Some, Result, Ok, Err, ap, arith, subst, sym}
+use Rattle.std.proofs.Common.{◌≡◌, ◌≤◌, ◌+◌, ◌*◌, ◌∙◌, ℕ, List, Option, None, Some, Result, Ok, Err, ap, arith, length, refl, subst, sym}
 use Rattle.std.proofs.Math.Nat.{mul-le-mul_right}
+use Rattle.std.proofs.lemmas.Bool.Decides.{nat_tests}
+use Rattle.mdmp_source.specs.Count.{raised}
 use Rattle.mdmp_source.specs.Source.{SourceState}
 use Rattle.mdmp_lister.specs.declared.choice.Choice.{Choice}
+use Rattle.mdmp_lister.specs.declared.choice.Choice.TheVariants.{All}
 use Rattle.mdmp_lister.specs.declared.limits.Limits.{Limits}
 use Rattle.mdmp_lister.specs.declared.meter.MeterCounts.{MeterCounts}
 use Rattle.mdmp_lister.specs.Format.Bounds.{fetch_bound}
+use Rattle.mdmp_lister.specs.Format.Listing.{entry_count}
 use Rattle.mdmp_lister.specs.Listed.{entry_cost}
+use Rattle.mdmp_lister.specs.Meter.{KeepsTo}
 use Rattle.mdmp_lister.specs.Walker.{IsNewWalker, WalkerState}
+use Rattle.mdmp_summary.specs.BadEntries.{all_items}
 use Rattle.mdmp_summary.specs.Spending.{CountsNames, KeepsSettled, PassPaid, RisesByNames, SpendsPasses, all_listed, room_for_name, settled}
+use Rattle.mdmp_summary.specs.Summary.{file_summary}
 use Rattle.mdmp_summary.specs.Summing.{SpendsSummary, contexts_for, passes_for}
-use Rattle.mdmp_summary.specs.Walking.{IsSameListing}
+use Rattle.mdmp_lister.specs.NamesFetched.{FetchesNames, names_bytes}
+use Rattle.mdmp_summary.specs.Walking.{IsSameListing, KeepsItsBudget}
 use Rattle.mdmp_summary.specs.declared.summary.Crash.{Crash}
 use Rattle.mdmp_summary.specs.declared.summary.FileSummary.{FileSummary}
 use Rattle.mdmp_summary.specs.declared.summary.SummaryFault.{SummaryFault}
@@ -73,3 +81,30 @@ module _ (source : SourceState) (choice : Choice) (limits : Limits) (old new : W
   -- what was asked for, with a read that the read limit forbids: so a read limit of that many bytes never ends a summary
   pub asked_most : CountsNames new → new.list.counts.asked ≤ summary_bound old.list.limit old.list.header.number_of_streams (all_listed old) new.list.counts.names
   asked_most few = most_by (λ c. c.asked) (32 + 12 * old.list.header.number_of_streams) opened.asked (spends.asked few)
+
+-- ---- at least
+
+-- what a summary of F fetches at least for its listing: the header and the directory, and in each pass the names of all items
+abbrev pub least_summed : List ℕ → ℕ → ℕ
+least_summed F limit = raised (32 + 12 * entry_count F) (passes_for (file_summary F limit).crash * names_bytes (all_items F limit))
+
+-- that is within the budget
+abbrev pub KeepsSummary : Option ℕ → List ℕ → ℕ → Type 0
+KeepsSummary budget F limit = KeepsTo budget (least_summed F limit)
+
+-- a count below one that is within the budget is within it too
+pub kept_below : (budget : Option ℕ) (n m : ℕ) → n ≤ m → KeepsTo budget m → KeepsTo budget n
+kept_below None n m few kept = refl
+kept_below (Some most) n m few kept = grind (arith, nat_tests, kept)
+
+-- a walker that was just opened over F, and kept to its budget as it made a summary, fetched no less
+pub keeps_summary : (source : SourceState) (limits : Limits) (F : List ℕ) (opened ended : WalkerState) → source.store.content ≡ Some F → IsNewWalker source All limits opened → KeepsItsBudget opened.list ended.list
+    → FetchesNames (passes_for (file_summary F limits.name).crash) (all_items F limits.name) opened.list.counts.fetched ended.list.counts.fetched → KeepsSummary limits.budget F limits.name
+keeps_summary source limits F opened ended known is keeps named =
+    let times = passes_for (file_summary F limits.name).crash in
+    let all = all_items F limits.name in
+    let entries : length opened.list.entries ≡ entry_count F = (is.list.read.directory F known).count in
+    let begun : opened.list.counts.fetched ≡ 32 + 12 * entry_count F = is.fetched ∙ ap (λ n. 32 + 12 * n) entries in
+    let least : least_summed F limits.name ≤ ended.list.counts.fetched = subst (λ n. FetchesNames times all n ended.list.counts.fetched) begun named in
+    let kept = kept_below ended.list.counts.budget (least_summed F limits.name) ended.list.counts.fetched least keeps.held.kept.kept in
+    subst (λ (b : Option ℕ). KeepsTo b (least_summed F limits.name)) (keeps.same.budget ∙ is.list.counts.budget_is) kept

@@ -6,7 +6,6 @@ use Rattle.mdmp_lister.specs.declared.choice.Choice.TheVariants.{All}
 use Rattle.mdmp_lister.specs.declared.fault.OpenFault.{OpenFault}
 use Rattle.mdmp_lister.specs.declared.fault.OpenFault.TheVariants as opening
 use Rattle.mdmp_lister.specs.declared.limits.Limits.{Limits}
-use Rattle.mdmp_lister.specs.Counts.{AreHeld, numbers_of}
 use Rattle.mdmp_lister.specs.Fault.{IsOfStore, IsUnobtained}
 use Rattle.mdmp_lister.specs.Lister.{ListerState}
 use Rattle.mdmp_lister.specs.Memory.{IsWalkRefusal}
@@ -14,7 +13,7 @@ use Rattle.mdmp_lister.specs.Opening.{IsUnread}
 use Rattle.mdmp_lister.specs.Refused.{IsRefusedWalker}
 use Rattle.mdmp_lister.specs.Walker.{IsNewWalker, WalkerState, is_failed}
 use Rattle.mdmp_summary.specs.Spending.{ReadsNoneSince, SpendsPasses}
-use Rattle.mdmp_summary.specs.Walking.{IsPassFault, IsSameListing}
+use Rattle.mdmp_summary.specs.Walking.{IsPassFault, KeepsItsBudget}
 use Rattle.mdmp_summary.specs.declared.summary.Crash.{Crash}
 use Rattle.mdmp_summary.specs.declared.summary.FileSummary.{FileSummary}
 use Rattle.mdmp_summary.specs.declared.summary.SummaryFault.{SummaryFault}
@@ -82,10 +81,9 @@ SpendsSummary (Ok summary) old new = SpendsPasses (passes_for summary.crash) (co
 SpendsSummary (Err fault) old new = SpendsToFault fault old new
 
 -- how a source was read before it was dropped: its opening was refused, and says why; or a walker that was just opened made the
--- passes, and read no more than these, with an error that has its cause and its place in them. What it counted is what it read, which
--- is within the read limit
+-- passes, and read no more than these, with an error that has its cause and its place in them, and kept to its budget
 pub data IsSummarizedThrough (may_go : SourceState → Type 0) (limits : Limits) (source : SourceState) (result : Result FileSummary SummaryFault) : Type 0 where
   refused : (fault : OpenFault) (new : SourceState) → result ≡ Err (faults.Opening fault) → IsRefusedWalker limits source fault new → may_go new
       → IsSummarizedThrough may_go limits source result
-  passed : (old new : WalkerState) → IsNewWalker source All limits old → SpendsSummary result old new → IsSameListing old.list new.list
-      → IfErr result (IsCallFault old.list new.list) → AreHeld new.list (numbers_of new.list) → may_go new.list.source → IsSummarizedThrough may_go limits source result
+  passed : (old new : WalkerState) → IsNewWalker source All limits old → SpendsSummary result old new → KeepsItsBudget old.list new.list
+      → IfErr result (IsCallFault old.list new.list) → may_go new.list.source → IsSummarizedThrough may_go limits source result

@@ -9,6 +9,7 @@ use Rattle.mdmp_lister.specs.Fault.{IsOfStore, IsUnobtained}
 use Rattle.mdmp_lister.specs.Format.Listing.{Run}
 use Rattle.mdmp_lister.specs.Format.Summary.{summary_kind, summary_of}
 use Rattle.mdmp_lister.specs.Lister.{ListerState}
+use Rattle.mdmp_lister.specs.NamesFetched.{FetchesNames}
 use Rattle.mdmp_lister.specs.Sink.{give_all}
 use Rattle.mdmp_summary.specs.BadEntries.{all_items}
 use Rattle.mdmp_summary.specs.Walking.{IsLookFault, IsPassFault, IsSameListing}
@@ -122,6 +123,7 @@ pub record Shows {K : Type 0} (taken : K → Item → Result (Unit {0}) Stopped 
   pub visited : VisitedTo taken (looked old.source.store.content old.limit) k items result l
   pub all : (left : Run) → old.left ≡ Some left → ShowsOf left items result
   pub outside : RisesOutside room items old.counts.aside new.counts.aside
+  pub named : FetchesNames 1 items old.counts.fetched new.counts.fetched
 
 -- the end or an error of the listing stays
 abbrev pub StopsAt : Result (Unit {0}) VisitFault → ListerState → Type 0
@@ -147,3 +149,4 @@ pub record Visits {K T : Type 0} (taken : K → Item → Result (Unit {0}) Stopp
   pub visited : VisitedTo taken (looked old.source.store.content old.limit) k items result l
   pub all : (file : List ℕ) → old.source.store.content ≡ Some file → AreShown (all_items file old.limit) items result
   pub outside : RisesOutside room items old.counts.aside new.counts.aside
+  pub named : FetchesNames 1 items old.counts.fetched new.counts.fetched

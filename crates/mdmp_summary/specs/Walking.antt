@@ -2,6 +2,7 @@
 use Rattle.std.specs.Prelude.{◌≡◌, ◌+◌, Some}
 use Rattle.mdmp_source.specs.Source.{FetchesSome}
 use Rattle.mdmp_lister.specs.declared.fault.ListFault.{ListFault}
+use Rattle.mdmp_lister.specs.Counts.{AreHeld, numbers_of}
 use Rattle.mdmp_lister.specs.Fault.{IsToldIn, IsUnobtained, TellsNoChange}
 use Rattle.mdmp_lister.specs.Lister.{IsRefusedIn, ListerState, standpoint_in}
 use Rattle.mdmp_lister.specs.NextFetch.{TellsSomeFetch}
@@ -37,3 +38,8 @@ pub record IsSameListing (old new : ListerState) : Type 0 where
   pub rooms : new.rooms ≡ old.rooms
   pub budget : new.counts.budget ≡ old.counts.budget
   pub same_file : FetchesSome old.source new.source
+
+-- the same listing, which kept to its budget: what it has fetched is within that, and is what its source has counted
+pub record KeepsItsBudget (old new : ListerState) : Type 0 where
+  pub same : IsSameListing old new
+  pub held : AreHeld new (numbers_of new)

@@ -7,7 +7,8 @@ ghost use Rattle.mdmp_lister.specs.declared.choice.Choice.TheVariants.{All};
 ghost use Rattle.mdmp_summary.specs.BadEntries.{all_items};
 ghost use Rattle.mdmp_summary.specs.Passes.{all_gathered, searched};
 ghost use Rattle.mdmp_summary.specs.Spending.{ReadsNoneSince, SpendsPasses};
-ghost use Rattle.mdmp_summary.specs.Walking.{IsPassFault, IsSameListing};
+ghost use Rattle.mdmp_lister.specs.NamesFetched.{FetchesNames};
+ghost use Rattle.mdmp_summary.specs.Walking.{IsPassFault, KeepsItsBudget};
 
 use crate::bad_entries::BadEntries;
 use crate::gathering::Gathering;
@@ -59,10 +60,15 @@ pub(crate) fn gather_all<S: Store + Drop, A: Allocator + Copy>(
     ensures good { (file : List ℕ) → IsGood walker.old.list.source.store file → IfErr result (λ fault. IsOfStore fault.kind → ⊥) }
     ensures spends { SpendsPasses 1 0 walker.old walker.new }
     ensures none { IfErr result (λ fault. ReadsNoneSince walker.new) }
-    ensures same { IsSameListing walker.old.list walker.new.list }
+    ensures keeps { KeepsItsBudget walker.old.list walker.new.list }
+    ensures named { (file : List ℕ) → walker.old.list.source.store.content ≡ Some file
+        → IfOk result (λ _. FetchesNames 1 (all_items file walker.old.list.limit) walker.old.list.counts.fetched walker.new.list.counts.fetched) }
 {
     let mut gathering = Gathering::new();
-    match visit_all(walker, &mut gathering) {
+    let visited = visit_all(walker, &mut gathering);
+    // The proof learns here that the walker kept to its read limit.
+    let _counts = walker.counts();
+    match visited {
         Ok(bad) => Ok(FirstPass { gathering, bad }),
         Err(VisitFault::List(fault)) => Err(fault),
         // It takes every item, and reads nothing.
@@ -84,11 +90,15 @@ pub(crate) fn search_all<S: Store + Drop, A: Allocator + Copy>(
     ensures good { (file : List ℕ) → IsGood walker.old.list.source.store file → IfErr result (λ fault. IsOfStore fault.kind → ⊥) }
     ensures spends { SpendsPasses 1 0 walker.old walker.new }
     ensures none { IfErr result (λ fault. ReadsNoneSince walker.new) }
-    ensures same { IsSameListing walker.old.list walker.new.list }
+    ensures keeps { KeepsItsBudget walker.old.list walker.new.list }
+    ensures named { (file : List ℕ) → walker.old.list.source.store.content ≡ Some file
+        → IfOk result (λ _. FetchesNames 1 (all_items file walker.old.list.limit) walker.old.list.counts.fetched walker.new.list.counts.fetched) }
     ensures going { IfOk result (λ search. is_failed walker.new.list.stop ≡ false) }
 {
     let mut search = CrashSearch::new(address, thread);
-    match visit_all(walker, &mut search) {
+    let visited = visit_all(walker, &mut search);
+    let _counts = walker.counts();
+    match visited {
         Ok(_) => Ok(search),
         Err(VisitFault::List(fault)) => Err(fault),
         Err(VisitFault::Ended(_)) => unreachable!(),

@@ -1,6 +1,6 @@
 //! The address that a crashing thread tried to reach, and how.
 ghost use Rattle.std.specs.Prelude.{◌≡◌};
-ghost use Rattle.mdmp_summary.specs.Reach.{access_of, has_address, is_access_fault, reached_on};
+ghost use Rattle.mdmp_summary.specs.Reach.{access_of, has_address, is_access_fault, reached_on, reached_plainly};
 
 use crate::crash::Platform;
 use mdmp_wire::ExceptionRecord;
@@ -56,6 +56,20 @@ impl AccessKind {
     }
 }
 
+/// `ExceptionAddress` by an unknown access, if the code says that it was reached.
+fn reached_plainly(says: bool, fields: &ExceptionRecord) -> Option<Reached>
+    ensures { result ≡ reached_plainly says fields.now }
+{
+    if says {
+        Some(Reached {
+            address: fields.exception_address,
+            access: AccessKind::Unknown,
+        })
+    } else {
+        None
+    }
+}
+
 /// The address that the thread of an exception tried to reach. There is none if its code does not tell.
 pub(crate) fn reached_on(platform: Platform, fields: &ExceptionRecord) -> Option<Reached>
     ensures { result ≡ reached_on platform fields.now }
@@ -72,27 +86,9 @@ pub(crate) fn reached_on(platform: Platform, fields: &ExceptionRecord) -> Option
                 None
             }
         }
-        Platform::Linux => {
-            if has_address(code) {
-                Some(Reached {
-                    address: fields.exception_address,
-                    access: AccessKind::Unknown,
-                })
-            } else {
-                None
-            }
-        }
-        Platform::Apple => {
-            // EXC_BAD_ACCESS
-            if code == 1 {
-                Some(Reached {
-                    address: fields.exception_address,
-                    access: AccessKind::Unknown,
-                })
-            } else {
-                None
-            }
-        }
+        Platform::Linux => reached_plainly(has_address(code), fields),
+        // EXC_BAD_ACCESS
+        Platform::Apple => reached_plainly(code == 1, fields),
         Platform::Other => None,
     }
 }

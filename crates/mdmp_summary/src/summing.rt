@@ -7,8 +7,9 @@ ghost use Rattle.mdmp_lister.specs.Walker.{is_failed};
 ghost use Rattle.mdmp_lister.specs.declared.choice.Choice.TheVariants.{All};
 ghost use Rattle.mdmp_summary.specs.BadEntries.{all_items};
 ghost use Rattle.mdmp_summary.specs.Summary.{address_ran, crash_told, near_of, place_in_module, platform_in, file_summary};
-ghost use Rattle.mdmp_summary.specs.Summing.{IsCallFault, IsFileFault, IsSummarizedThrough, IsSummaryFault, IsUnreadIn, SpendsCrash, SpendsSummary};
-ghost use Rattle.mdmp_summary.specs.Walking.{IsSameListing};
+ghost use Rattle.mdmp_summary.specs.Summing.{IsCallFault, IsFileFault, IsSummarizedThrough, IsSummaryFault, IsUnreadIn, SpendsCrash, SpendsSummary, passes_for};
+ghost use Rattle.mdmp_lister.specs.NamesFetched.{FetchesNames};
+ghost use Rattle.mdmp_summary.specs.Walking.{KeepsItsBudget};
 
 use crate::context::Registers;
 use crate::context_reading::read_registers;
@@ -78,12 +79,18 @@ fn tell_crash<S: Store + Drop, A: Allocator + Copy>(
     ensures fault { IfErr result (IsCallFault walker.old.list walker.new.list) }
     ensures good { (file : List ℕ) → IsGood walker.old.list.source.store file → IfErr result (λ fault. IsUnreadIn fault → ⊥) }
     ensures spends { SpendsCrash result walker.old walker.new }
-    ensures same { IsSameListing walker.old.list walker.new.list }
+    ensures keeps { KeepsItsBudget walker.old.list walker.new.list }
     ensures going { IfOk result (λ told. is_failed walker.new.list.stop ≡ false) }
+    ensures named { (file : List ℕ) → walker.old.list.source.store.content ≡ Some file
+        → IfOk result (λ _. FetchesNames 1 (all_items file walker.old.list.limit) walker.old.list.counts.fetched walker.new.list.counts.fetched) }
 {
     let registers = match read_registers(walker, system, exception.fields.thread_context) {
         Ok(registers) => registers,
-        Err(fault) => return Err(SummaryFault::Source(fault)),
+        Err(fault) => {
+            // The proof learns here that the walker kept to its read limit.
+            let _counts = walker.counts();
+            return Err(SummaryFault::Source(fault));
+        }
     };
     let platform = platform_in(&system);
     let address = address_ran(platform, exception.fields.exception_address, registers);
@@ -119,8 +126,11 @@ pub fn summarize_listing<S: Store + Drop, A: Allocator + Copy>(
     ensures fault { IfErr result (IsCallFault walker.old.list walker.new.list) }
     ensures good { (file : List ℕ) → IsGood walker.old.list.source.store file → IfErr result (λ fault. IsUnreadIn fault → ⊥) }
     ensures spends { SpendsSummary result walker.old walker.new }
-    ensures same { IsSameListing walker.old.list walker.new.list }
+    ensures keeps { KeepsItsBudget walker.old.list walker.new.list }
     ensures going { IfOk result (λ told. is_failed walker.new.list.stop ≡ false) }
+    // A walker that has fetched no less kept to its read limit only if the names of each pass are within that.
+    ensures named { (file : List ℕ) → walker.old.list.source.store.content ≡ Some file
+        → IfOk result (λ summary. FetchesNames (passes_for summary.crash) (all_items file walker.old.list.limit) walker.old.list.counts.fetched walker.new.list.counts.fetched) }
 {
     let header = walker.header();
     let told = match gather_all(walker) {
@@ -158,8 +168,6 @@ where
     match Walker::open(alloc, source, limits, Choice::All) {
         Ok(mut walker) => {
             let answer = summarize_listing(&mut walker);
-            // The proof learns here that the walker kept to its read limit.
-            let _counts = walker.counts();
             walker.into_source().let_go();
             answer
         }

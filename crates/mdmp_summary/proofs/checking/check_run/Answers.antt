@@ -60,7 +60,7 @@ returns-in-Ok-close_bad-clause-rows g c =
     let f = c.in-Err-At.fault in
     let keeps = c.skip_entry.ensures.keeps in
     run_bad g.K.CheckRowSink.step (λ m. m.sink.now) (λ m. m.entry) (λ m. m.loses_parts) (λ m. m.sink.ghost_name) c.args.lister.now c.list_into.new.self c.args.maker.now c.list_into.new.sink c.requires.going c.requires.fresh f (rw c.in-Err-At.field-0-is at c.in-Err-At.ensures.runs) (sym c.is_unobtained.ensures ∙ c.if-is_unobtained.false) c.close_bad.new.self.sink.now c.in-Ok-close_bad.ensures.puts
-    c.skip_entry.new.self keeps.source (λ i. (keeps.counts i).names) ((c.in-Err-At.ensures.told c.requires.going f c.in-Err-At.field-0-is).1 ∙ sym keeps.passed)
+    c.skip_entry.new.self keeps.source (λ i. (keeps.counts i).names) (λ i. (keeps.counts i).fetched) ((c.in-Err-At.ensures.told c.requires.going f c.in-Err-At.field-0-is).1 ∙ sym keeps.passed)
 
 pub returns-in-Err-close_bad-clause-rows : goal.returns-in-Err-close_bad-clause-rows
 returns-in-Err-close_bad-clause-rows g c =

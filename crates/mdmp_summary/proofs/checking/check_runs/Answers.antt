@@ -3,6 +3,7 @@ use Rattle.mdmp_wire.specs.declared.header.Header.{Header}
 use Rattle.mdmp_lister.specs.Format.Listing.{entry_count}
 use Rattle.mdmp_lister.proofs.Fetches.{FetchesAtMost-none, FetchesAtMost-within}
 use Rattle.mdmp_lister.proofs.Handing.{same_lister-then}
+use Rattle.mdmp_lister.proofs.NamesFetched.{names_more, names_none}
 use Rattle.mdmp_summary.specs.Checking.{rows_cost}
 use Rattle.mdmp_summary.proofs.CheckingOn.{checks_begin, checks_more, fetches_on, names_early, names_end, read_early, read_end, rows_early, rows_end, told_later}
 use Rattle.mdmp_summary.proofs.Counting.{skipped_left}
@@ -21,6 +22,7 @@ entries-init g c = record {
   items = [];
   fetches = FetchesAtMost-within 0 _ _ _ (omega arith) (FetchesAtMost-none c.args.lister.now.source);
   unread = omega arith;
+  named = names_none 1 c.args.lister.now.counts.fetched;
   taken = refl;
   checks = λ file known. checks_begin file c.args.lister.now.limit c.args.lister.now (c.requires.left.left file known);
 }
@@ -47,6 +49,7 @@ entries-preserved g c =
       fetches =
           FetchesAtMost-within _ (old.unread + rows_cost old.source.size old.limit (so_far.items ++ told.items) (so_far.rows ++ told.rows) - new.unread) old.source new.source (omega (arith, unread)) fetches;
       unread = omega (arith, unread);
+      named = names_more so_far.items told.items old.counts.fetched now.counts.fetched new.counts.fetched so_far.named told.named;
       taken = taken_then g.K.CheckRowSink.step so_far.rows told.rows c.args.maker.now.sink.now c.entries.maker.sink.now c.check_run.new.maker.sink.now so_far.taken told.handed;
       checks = λ file known.
           let on = so_far.checks file known in
@@ -71,6 +74,7 @@ returns-in-Ok-false-clause-rows g c =
       read = λ file known.
           let on = so_far.checks file known in
           read_end file c.args.lister.now.limit c.args.lister.now c.entries.lister c.check_run.new.lister so_far.rows so_far.items c.entries.counter on told.items told.rows (told.gives _ on.counts.left);
+      named = names_more so_far.items told.items _ _ _ so_far.named told.named;
       fetches = fetches_on c.args.lister.now c.entries.lister c.check_run.new.lister (Ok tt) so_far.items told.items so_far.rows told.rows so_far.fetches so_far.unread so_far.same.limit told.fetches;
     }
 
@@ -100,6 +104,7 @@ returns-in-Err-clause-rows g c =
       read = λ file known.
           let on = so_far.checks file known in
           read_early file c.args.lister.now.limit c.args.lister.now c.entries.lister c.check_run.new.lister so_far.rows so_far.items c.entries.counter on told.items told.rows (told.gives _ on.counts.left);
+      named = names_more so_far.items told.items _ _ _ so_far.named told.named;
       fetches =
           fetches_on c.args.lister.now c.entries.lister c.check_run.new.lister (Err c.in-Err.fault) so_far.items told.items so_far.rows told.rows so_far.fetches so_far.unread so_far.same.limit told.fetches;
     }
@@ -136,6 +141,7 @@ returns-clause-rows g c =
       rows = so_far.rows;
       items = so_far.items;
       handed = so_far.taken;
+      named = so_far.named;
       fetches = FetchesAtMost-within _ _ _ _ (omega arith) so_far.fetches;
       read = λ file known.
           let on = so_far.checks file known in

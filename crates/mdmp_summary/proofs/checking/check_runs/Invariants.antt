@@ -2,6 +2,7 @@ use Rattle.std.proofs.Common.{◌≡◌, ◌≤◌, ◌+◌, ◌-◌, ℕ, List,
 use Rattle.mdmp_source.specs.Source.{FetchesAtMost}
 use Rattle.mdmp_lister.specs.declared.item.Item.{Item}
 use Rattle.mdmp_lister.specs.Lister.{IsSameLister}
+use Rattle.mdmp_lister.specs.NamesFetched.{FetchesNames}
 use Rattle.mdmp_lister.specs.Sink.{Taken}
 use Rattle.mdmp_summary.specs.Checking.{rows_cost}
 use Rattle.mdmp_summary.specs.InEntry.{StandsInChosen}
@@ -21,6 +22,7 @@ invariant-entries g l = record {
   items : List Item;
   fetches : FetchesAtMost (l.fn.lister.unread + rows_cost l.fn.lister.source.size l.fn.lister.limit items rows - l.lister.unread) l.fn.lister.source l.lister.source;
   unread : l.lister.unread ≤ l.fn.lister.unread + rows_cost l.fn.lister.source.size l.fn.lister.limit items rows;
+  named : FetchesNames 1 items l.fn.lister.counts.fetched l.lister.counts.fetched;
   taken : Taken g.K.CheckRowSink.step l.fn.maker.sink.now rows l.maker.sink.now;
   checks : (file : List ℕ) → l.fn.lister.source.store.content ≡ Some file → ChecksOn file l.fn.lister.limit l.fn.lister l.lister rows items l.counter;
 }

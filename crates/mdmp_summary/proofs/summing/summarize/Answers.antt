@@ -1,6 +1,4 @@
 use Rattle.std.proofs.Common.{◌≡◌, None, ap, ◌∙◌, refl, subst}
-use Rattle.mdmp_lister.specs.Counts.{AreHeld}
-use Rattle.mdmp_lister.specs.declared.counts.Counts.{Counts}
 use Rattle.mdmp_lister.specs.Memory.{walk_fault}
 use Rattle.mdmp_summary.specs.Summary.{file_summary}
 use Rattle.mdmp_summary.specs.Summing.{IsSummarizedThrough}
@@ -18,7 +16,7 @@ pub returns-in-Ok-clause-succeeds : goal.returns-in-Ok-clause-succeeds
 returns-in-Ok-clause-succeeds g c = λ file good none.
     let new = c.in-Ok.ensures.new in
     let sums = c.summarize_listing-answer.ensures in
-    told_good c.args.limits file c.in-Ok.walker.list c.summarize_listing-answer.new.walker.list c.summarize_listing-answer.result (sums.same.budget ∙ new.list.counts.budget_is ∙ none)
+    told_good c.args.limits file c.in-Ok.walker.list c.summarize_listing-answer.new.walker.list c.summarize_listing-answer.result (sums.keeps.same.budget ∙ new.list.counts.budget_is ∙ none)
     sums.fault (sums.good file (good_still file _ c.args.source c.in-Ok.walker.list.source new.fetches good))
 
 pub returns-in-Err-clause-succeeds : goal.returns-in-Err-clause-succeeds
@@ -29,8 +27,7 @@ returns-in-Err-clause-succeeds g c = λ file good none.
 pub returns-in-Ok-clause-through : goal.returns-in-Ok-clause-through
 returns-in-Ok-clause-through g c =
     let sums = c.summarize_listing-answer.ensures in
-    IsSummarizedThrough.passed c.in-Ok.walker c.summarize_listing-answer.new.walker c.in-Ok.ensures.new sums.spends sums.same sums.fault
-    (subst (λ (n : Counts). AreHeld c.summarize_listing-answer.new.walker.list n) c.counts-counts.ensures.value c.counts-counts.ensures.held)
+    IsSummarizedThrough.passed c.in-Ok.walker c.summarize_listing-answer.new.walker c.in-Ok.ensures.new sums.spends sums.keeps sums.fault
     (subst g.bound-4.may_go c.into_source.ensures.value c.let_go.ensures)
 
 pub returns-in-Err-clause-through : goal.returns-in-Err-clause-through

@@ -1,8 +1,10 @@
-use Rattle.std.proofs.Common.{◌∙◌}
+use Rattle.std.proofs.Common.{◌∙◌, subst}
 use Rattle.mdmp_lister.specs.Walker.{is_failed}
 use Rattle.mdmp_summary.proofs.Passing.{context_within, crash_spends, spends_read}
+use Rattle.mdmp_summary.specs.BadEntries.{all_items}
 use Rattle.mdmp_summary.specs.Spending.{context_cost}
-use Rattle.mdmp_summary.proofs.Told.{good_still, outside_listing, pass_later, same_listing_then}
+use Rattle.mdmp_lister.specs.NamesFetched.{FetchesNames}
+use Rattle.mdmp_summary.proofs.Told.{good_still, keeps_counted, keeps_then, outside_listing, pass_later}
 use Rattle.mdmp_summary.proofs.summing.tell_crash.Goals as goal
 
 pub returns-in-Err-clause-fault : goal.returns-in-Err-clause-fault
@@ -17,8 +19,11 @@ returns-in-Err-clause-spends g c =
     let mid = c.read_registers.new.walker in
     spends_read old mid (context_within c.args.system c.args.exception.fields.thread_context old mid c.in-Err.ensures.reads)
 
-pub returns-in-Err-clause-same : goal.returns-in-Err-clause-same
-returns-in-Err-clause-same g c = outside_listing _ c.args.walker.now c.read_registers.new.walker c.in-Err.ensures.reads
+pub returns-in-Err-clause-keeps : goal.returns-in-Err-clause-keeps
+returns-in-Err-clause-keeps g c =
+    let old = c.args.walker.now in
+    let mid = c.read_registers.new.walker in
+    keeps_counted old.list mid.list c.counts-counts.result (outside_listing _ old mid c.in-Err.ensures.reads) c.counts-counts.ensures.value c.counts-counts.ensures.held
 
 pub returns-in-Ok-search_all-clause-spends : goal.returns-in-Ok-search_all-clause-spends
 returns-in-Ok-search_all-clause-spends g c =
@@ -27,11 +32,11 @@ returns-in-Ok-search_all-clause-spends g c =
     let reads = context_within c.args.system c.args.exception.fields.thread_context old mid c.in-Ok.ensures.reads in
     crash_spends old mid c.search_all.new.walker (outside_listing context_cost old mid reads) (spends_read old mid reads) c.in-Ok-search_all.ensures.spends
 
-pub returns-in-Ok-search_all-clause-same : goal.returns-in-Ok-search_all-clause-same
-returns-in-Ok-search_all-clause-same g c =
+pub returns-in-Ok-search_all-clause-keeps : goal.returns-in-Ok-search_all-clause-keeps
+returns-in-Ok-search_all-clause-keeps g c =
     let old = c.args.walker.now in
     let mid = c.read_registers.new.walker in
-    same_listing_then old.list mid.list c.search_all.new.walker.list (outside_listing _ old mid c.in-Ok.ensures.reads) c.in-Ok-search_all.ensures.same
+    keeps_then old.list mid.list c.search_all.new.walker.list (outside_listing _ old mid c.in-Ok.ensures.reads) c.in-Ok-search_all.ensures.keeps
 
 pub returns-in-Err-search_all-clause-fault : goal.returns-in-Err-search_all-clause-fault
 returns-in-Err-search_all-clause-fault g c =
@@ -52,8 +57,18 @@ returns-in-Err-search_all-clause-spends g c =
     let search = c.in-Err-search_all.ensures in
     (crash_spends old mid c.search_all.new.walker (outside_listing context_cost old mid reads) (spends_read old mid reads) search.spends, search.none)
 
-pub returns-in-Err-search_all-clause-same : goal.returns-in-Err-search_all-clause-same
-returns-in-Err-search_all-clause-same g c =
+pub returns-in-Err-search_all-clause-keeps : goal.returns-in-Err-search_all-clause-keeps
+returns-in-Err-search_all-clause-keeps g c =
     let old = c.args.walker.now in
     let mid = c.read_registers.new.walker in
-    same_listing_then old.list mid.list c.search_all.new.walker.list (outside_listing _ old mid c.in-Ok.ensures.reads) c.in-Err-search_all.ensures.same
+    keeps_then old.list mid.list c.search_all.new.walker.list (outside_listing _ old mid c.in-Ok.ensures.reads) c.in-Err-search_all.ensures.keeps
+
+pub returns-in-Ok-search_all-clause-named : goal.returns-in-Ok-search_all-clause-named
+returns-in-Ok-search_all-clause-named g c = λ file known.
+    let old = c.args.walker.now in
+    let mid = c.read_registers.new.walker in
+    let new = c.search_all.new.walker in
+    let reads = c.in-Ok.ensures.reads in
+    let search = c.in-Ok-search_all.ensures.named file (reads.fetches.same_content ∙ known) in
+    subst (λ n. FetchesNames 1 (all_items file n) old.list.counts.fetched new.list.counts.fetched) (outside_listing _ old mid reads).limit
+    (subst (λ n. FetchesNames 1 (all_items file mid.list.limit) n new.list.counts.fetched) reads.aside.same_fetched search)

@@ -8,11 +8,13 @@ use Rattle.mdmp_lister.specs.Walker.{is_sought}
 use Rattle.mdmp_lister.specs.declared.meter.Amount.{Amount}
 use Rattle.mdmp_lister.specs.declared.meter.MeterCounts.{MeterCounts}
 use Rattle.mdmp_summary.specs.BadEntries.{told_bad}
+use Rattle.mdmp_lister.specs.NamesFetched.{FetchesNames}
 use Rattle.mdmp_summary.specs.Visiting.{RisesOutside}
 use Rattle.mdmp_summary.specs.declared.bad_entries.BadEntries.{BadEntries}
 use Rattle.mdmp_summary.specs.declared.visiting.VisitFault.TheVariants as faults
 use Rattle.mdmp_summary.proofs.Entries.{no_faults, no_items}
 use Rattle.mdmp_summary.proofs.Counting.{bad_on, counts_begin, counts_more, faults_end, items_end, items_first, skipped_left}
+use Rattle.mdmp_lister.proofs.NamesFetched.{names_more, names_none}
 use Rattle.mdmp_summary.proofs.Passing.{passed_done, passed_end, passed_skip, passed_sought, pays_none}
 use Rattle.mdmp_summary.proofs.Skipped.{between_skipped}
 use Rattle.mdmp_summary.proofs.Sought.{sought_between, sought_left}
@@ -30,6 +32,7 @@ returns-then-streams-eq0-clause-visits g c = record {
       let count : c.header-streams.result.number_of_streams ≡ entry_count file = ap (λ (h : Header). h.number_of_streams) (c.header-streams.ensures.of_file file known) in
       no_items file c.args.walker.now.list.limit (sym count ∙ c.if-streams-eq0.true);
   outside = outside_none _ c.args.walker.now.list.counts.aside;
+  named = names_none 1 c.args.walker.now.list.counts.fetched;
 }
 
 pub returns-then-streams-eq0-clause-bad : goal.returns-then-streams-eq0-clause-bad
@@ -65,6 +68,7 @@ entries-init g c =
       items = [];
       visited = refl;
       outside = subst (λ (a : Amount). RisesOutside (g.V.Visitor.room (g.V.Visitor.span c.args.visitor.now)) [] old.list.counts.aside a) (λ i. (sym seeks.same i).counts.aside) (outside_none _ old.list.counts.aside);
+      named = subst (λ n. FetchesNames 1 [] old.list.counts.fetched n) (λ i. (sym seeks.same i).counts.fetched) (names_none 1 old.list.counts.fetched);
       passed = passed_sought old new seeks.same seeks.mark goes.position;
       counts = λ file known.
           let count : c.header-streams.result.number_of_streams ≡ entry_count file = ap (λ (h : Header). h.number_of_streams) (c.header-streams.ensures.of_file file known) in
@@ -102,6 +106,8 @@ entries-preserved g c =
       outside = outside_then (room span) so_far.items look.shows.items first.counts.aside now.counts.aside new.counts.aside so_far.outside
           (subst (λ (m : MeterCounts). RisesOutside (room span) look.shows.items now.counts.aside m.aside) (sym keeps.counts)
           (outside_same room span (g.V.Visitor.span c.entries.visitor) look.shows.items now.counts.aside mid.counts.aside so_far.spans look.shows.outside));
+      named = names_more so_far.items look.shows.items first.counts.fetched now.counts.fetched new.counts.fetched so_far.named
+          (subst (λ (m : MeterCounts). FetchesNames 1 look.shows.items now.counts.fetched m.fetched) (sym keeps.counts) look.shows.named);
       passed = passed_skip c.args.walker.now c.entries.walker c.visit_rest.new.walker so_far.same.limit (faults.List f) c.skip_entry.new.self keeps.same keeps.source keeps.counts keeps.passed keeps.current
           c.skip_entry.ensures.mark look.position (c.skip_entry.ensures.position.0 ∙ look.position) so_far.passed look.pays;
       counts = λ file known.
@@ -126,6 +132,7 @@ returns-in-Ok-clause-visits g c =
       all = λ file known. sym (items_end file first.limit now so_far.met so_far.items shows.items (so_far.counts file known) shows.all);
       outside = outside_then (room span) so_far.items shows.items first.counts.aside now.counts.aside c.visit_rest.new.walker.list.counts.aside so_far.outside
           (outside_same room span (g.V.Visitor.span c.entries.visitor) shows.items now.counts.aside c.visit_rest.new.walker.list.counts.aside so_far.spans shows.outside);
+      named = names_more so_far.items shows.items first.counts.fetched now.counts.fetched c.visit_rest.new.walker.list.counts.fetched so_far.named shows.named;
     }
 
 pub returns-in-Ok-clause-bad : goal.returns-in-Ok-clause-bad
@@ -160,6 +167,7 @@ returns-in-Err-Ended-clause-visits g c =
       all = λ file known. items_first file first.limit now so_far.met so_far.items shows.items (so_far.counts file known) (λ left is. shows.all left is);
       outside = outside_then (room span) so_far.items shows.items first.counts.aside now.counts.aside c.visit_rest.new.walker.list.counts.aside so_far.outside
           (outside_same room span (g.V.Visitor.span c.entries.visitor) shows.items now.counts.aside c.visit_rest.new.walker.list.counts.aside so_far.spans shows.outside);
+      named = names_more so_far.items shows.items first.counts.fetched now.counts.fetched c.visit_rest.new.walker.list.counts.fetched so_far.named shows.named;
     }
 
 pub returns-in-Err-Ended-clause-fault : goal.returns-in-Err-Ended-clause-fault
@@ -208,6 +216,7 @@ returns-then-is_unobtained-clause-visits g c =
       all = λ file known. items_first file first.limit now so_far.met so_far.items shows.items (so_far.counts file known) (λ left is. (shows.all left is).0);
       outside = outside_then (room span) so_far.items shows.items first.counts.aside now.counts.aside c.visit_rest.new.walker.list.counts.aside so_far.outside
           (outside_same room span (g.V.Visitor.span c.entries.visitor) shows.items now.counts.aside c.visit_rest.new.walker.list.counts.aside so_far.spans shows.outside);
+      named = names_more so_far.items shows.items first.counts.fetched now.counts.fetched c.visit_rest.new.walker.list.counts.fetched so_far.named shows.named;
     }
 
 pub returns-then-is_unobtained-clause-fault : goal.returns-then-is_unobtained-clause-fault
@@ -259,6 +268,7 @@ returns-clause-visits g c =
           let count : c.header-streams.result.number_of_streams ≡ entry_count file = ap (λ (h : Header). h.number_of_streams) (c.header-streams.ensures.of_file file known) in
           absurd (omega (arith, count, counts.few, counts.within, met, so_far.count, c.from-looks.ensures, c.entries-test.false));
       outside = so_far.outside;
+      named = so_far.named;
     }
 
 pub returns-clause-bad : goal.returns-clause-bad

@@ -3,6 +3,7 @@ use Rattle.mdmp_lister.specs.declared.fault.ListFault.{ListFault}
 use Rattle.mdmp_lister.specs.declared.item.Item.{Item}
 use Rattle.mdmp_summary.specs.BadEntries.{told_bad}
 use Rattle.mdmp_summary.specs.Skipping.{IsBetween}
+use Rattle.mdmp_lister.specs.NamesFetched.{FetchesNames}
 use Rattle.mdmp_summary.specs.Visiting.{RisesOutside, VisitedAll}
 use Rattle.mdmp_summary.specs.InEntry.{WalksInChosen}
 use Rattle.mdmp_summary.specs.Walking.{IsSameListing}
@@ -24,6 +25,7 @@ invariant-entries g l = record {
   items : List Item;
   visited : VisitedAll g.V.Visitor.taken (g.V.Visitor.looked l.fn.walker.list.source.store.content l.fn.walker.list.limit) l.fn.visitor items l.visitor;
   outside : RisesOutside (g.V.Visitor.room (g.V.Visitor.span l.fn.visitor)) items l.fn.walker.list.counts.aside l.walker.list.counts.aside;
+  named : FetchesNames 1 items l.fn.walker.list.counts.fetched l.walker.list.counts.fetched;
   passed : HasPassed l.fn.walker l.walker;
   counts : (file : List ℕ) → l.fn.walker.list.source.store.content ≡ Some file → CountsOn file l.fn.walker.list.limit l.walker.list met items;
 }

@@ -14,6 +14,8 @@ use Rattle.mdmp_summary.proofs.InEntries.{chosen_still, walked_fault, walked_ite
 use Rattle.mdmp_summary.specs.InEntry.{IsInChosen}
 use Rattle.mdmp_lister.specs.Walker.{WalkerState}
 use Rattle.mdmp_summary.proofs.LeftOn.{if_begun, if_begun_outside, left_between, left_next, left_outside}
+use Rattle.mdmp_lister.proofs.NamesFetched.{names_later, names_more, names_none}
+use Rattle.mdmp_summary.proofs.NamesFetched.{names_one, names_read}
 use Rattle.mdmp_summary.proofs.Over.{left_over, paid_head, paid_over, shown_over}
 use Rattle.mdmp_summary.proofs.Paying.{both_outside, item_kept, look_end, look_ended, look_fault, paid_more, paid_none, paid_outside, unsought_behind}
 use Rattle.mdmp_summary.proofs.Told.{end_later, good_still, next_listing, outside_listing, same_listing_none, same_listing_then}
@@ -25,7 +27,7 @@ loop-item-init g c = record {
   same = same_listing_none c.args.walker.now.list;
   going = c.requires.going;
   spans = refl;
-  shown = record { items = []; visited = refl; left = λ left known. (left, (known, refl)); outside = outside_none _ c.args.walker.now.list.counts.aside };
+  shown = record { items = []; visited = refl; left = λ left known. (left, (known, refl)); outside = outside_none _ c.args.walker.now.list.counts.aside; named = names_none 1 c.args.walker.now.list.counts.fetched };
   left = left_between _ c.args.walker.now refl c.requires.between;
   paid = paid_none c.args.walker.now;
   walks = λ in_chosen. in_chosen;
@@ -59,7 +61,8 @@ loop-item-preserved g c =
           (shown_next g.V.Visitor.taken g.V.Visitor.looked room old.list c.args.visitor.now now.list new.list (plain x) c.loop-item.visitor c.take.new.self c.look.new.self so_far.shown took.takes
           (looked_same g.V.Visitor.looked _ _ _ _ c.take.new.self (Ok tt) c.look.new.self next.same_file.fetches.same_content next.limit look.looks)
           (λ left is. (rw c.in-Ok-Some.field-0-is at (c.in-Ok-Some.ensures.gives left is), (λ i. (look.reads.same i).list.left) ∙ rw is at leaves.list.stands.left))
-          (subst (λ (a : Amount). RisesOutside room (plain x ∷ []) a new.list.counts.aside) leaves.list.same.aside outside))
+          (subst (λ (a : Amount). RisesOutside room (plain x ∷ []) a new.list.counts.aside) leaves.list.same.aside outside)
+          (names_read now.list mid.list new.list x leaves.list.spends look.reads.aside.same_fetched))
           over;
       left = left_over g.V.Visitor.taken g.V.Visitor.looked room old.list c.args.visitor.now c.look.new.self new end content all.same_file.fetches.same_content over
           (left_outside _ mid new look.reads content (left_next now mid x (so_far.same.choice ∙ c.requires.all) leaves (λ number at. rw c.in-Ok-Some.field-0-is at (c.in-Ok-Some.ensures.sought number at))
@@ -95,6 +98,7 @@ returns-in-Ok-None-clause-shows g c =
           let rest = run.left left known in
           all_given left run.items rest.0 None rest.1.1 (rw c.in-Ok-None.field-0-is at (c.in-Ok-None.ensures.gives rest.0 rest.1.0));
       outside = subst (λ (a : Amount). RisesOutside (g.V.Visitor.room (g.V.Visitor.span c.args.visitor.now)) run.items c.args.walker.now.list.counts.aside a) (sym leaves.list.same.aside) run.outside;
+      named = names_later 1 run.items _ _ _ run.named leaves.list.spends.counts.more;
     }
 
 pub returns-in-Ok-None-clause-ends : goal.returns-in-Ok-None-clause-ends
@@ -124,6 +128,7 @@ returns-in-Err-clause-shows g c =
           let rest = run.left left known in
           ((rest.0, rest.1.1), λ not. all_given left run.items rest.0 (Some f) rest.1.1 (c.in-Err.ensures.gives rest.0 rest.1.0 not));
       outside = subst (λ (a : Amount). RisesOutside (g.V.Visitor.room (g.V.Visitor.span c.args.visitor.now)) run.items c.args.walker.now.list.counts.aside a) (sym leaves.list.same.aside) run.outside;
+      named = names_later 1 run.items _ _ _ run.named leaves.list.spends.counts.more;
     }
 
 pub returns-in-Err-clause-ends : goal.returns-in-Err-clause-ends
@@ -188,6 +193,7 @@ returns-in-Err-take-clause-shows g c =
           let first : slice_get rest.0.items 0 ≡ Some (plain x) = rw c.in-Ok-Some.field-0-is at (c.in-Ok-Some.ensures.gives rest.0 rest.1.0) in
           (tail rest.0, give_all-next run_left run.items (plain x) rest.0 rest.1.1 first);
       outside = outside_then room run.items (plain x ∷ []) old.list.counts.aside now.list.counts.aside mid.list.counts.aside run.outside (outside_still room (plain x) _ _ leaves.list.same.aside);
+      named = names_more run.items (plain x ∷ []) old.list.counts.fetched now.list.counts.fetched mid.list.counts.fetched run.named (names_one now.list mid.list x leaves.list.spends);
     }
 
 pub returns-in-Err-take-clause-ends : goal.returns-in-Err-take-clause-ends
@@ -243,6 +249,7 @@ returns-in-Err-look-clause-shows g c =
           (tail rest.0, give_all-next run_left run.items (plain x) rest.0 rest.1.1 first);
       outside = outside_then room run.items (plain x ∷ []) old.list.counts.aside now.list.counts.aside new.list.counts.aside run.outside
           (subst (λ (a : Amount). RisesOutside room (plain x ∷ []) a new.list.counts.aside) leaves.list.same.aside outside);
+      named = names_more run.items (plain x ∷ []) old.list.counts.fetched now.list.counts.fetched new.list.counts.fetched run.named (names_read now.list mid.list new.list x leaves.list.spends look.reads.aside.same_fetched);
     }
 
 pub returns-in-Err-look-clause-ends : goal.returns-in-Err-look-clause-ends
@@ -308,7 +315,8 @@ returns-in-Err-pass_unwanted-clause-shows g c =
     let run = shown_next g.V.Visitor.taken g.V.Visitor.looked room old.list c.args.visitor.now now.list new.list (plain x) c.loop-item.visitor c.take.new.self c.look.new.self so_far.shown took.takes
     (looked_same g.V.Visitor.looked _ _ _ _ c.take.new.self (Ok tt) c.look.new.self next.same_file.fetches.same_content next.limit look.looks)
     (λ left is. (rw c.in-Ok-Some.field-0-is at (c.in-Ok-Some.ensures.gives left is), (λ i. (look.reads.same i).list.left) ∙ rw is at leaves.list.stands.left))
-    (subst (λ (a : Amount). RisesOutside room (plain x ∷ []) a new.list.counts.aside) leaves.list.same.aside outside) in
+    (subst (λ (a : Amount). RisesOutside room (plain x ∷ []) a new.list.counts.aside) leaves.list.same.aside outside)
+    (names_read now.list mid.list new.list x leaves.list.spends look.reads.aside.same_fetched) in
     record {
       items = run.items;
       visited = run.visited;
@@ -316,6 +324,7 @@ returns-in-Err-pass_unwanted-clause-shows g c =
           let rest = run.left left known in
           ((rest.0, rest.1.1), λ not. all_given left run.items rest.0 (Some f) rest.1.1 (head.left rest.0 rest.1.0 not));
       outside = subst (λ (a : Amount). RisesOutside room run.items old.list.counts.aside a) (sym head.counted.counts.same_aside) run.outside;
+      named = names_later 1 run.items _ _ _ run.named head.counted.counts.more;
     }
 
 pub returns-in-Err-pass_unwanted-clause-ends : goal.returns-in-Err-pass_unwanted-clause-ends
