@@ -1,7 +1,7 @@
 -- What is told where parts are taken, or too many of them are wanted.
 use Rattle.std.proofs.Common.{Bool, true, false, nat_lt, if◌then◌else◌, lt-ltb, le-ltb, ◌≡◌, ◌≤◌, ◌<◌, ◌+◌, ◌-◌, ◌∙◌, ℕ, List, ◌∷◌, ◌++◌, length, Option, Some, None, Result, Ok, Err, arith, ap, refl, subst, sym, inl, inr, take, drop, [], ◌==◌}
 use Rattle.std.specs.Prelude.{IfErr}
-use Rattle.mdmp_source.specs.Source.{SourceState, FetchesAtMost, IsTold}
+use Rattle.mdmp_source.specs.Source.{SourceState, FetchesAtMost, IsTold, IsToldAmong}
 use Rattle.mdmp_source.specs.Range.{IsInside, bytes_at, is_inside}
 use Rattle.mdmp_wire.specs.Number.{array_at}
 use Rattle.mdmp_source.specs.Store.{IsGood}
@@ -10,6 +10,7 @@ use Rattle.std.proofs.lemmas.Bool.{eqb-true}
 use Rattle.std.specs.Prelude.{IsTrue}
 use Rattle.mdmp_source.specs.declared.fault.SourceFault.{SourceFault}
 use Rattle.mdmp_source.specs.declared.fault.SourceFault.TheVariants.{Failed, ShortRead, Changed}
+use Rattle.mdmp_lister.specs.Meter.{SpendsAside}
 use Rattle.mdmp_lister.proofs.Fetches.{FetchesAtMost-none}
 use Rattle.mdmp_dump.specs.declared.fault.ReadFault.{ReadFault}
 use Rattle.mdmp_dump.specs.declared.fault.ReadFault.TheVariants as faults
@@ -23,8 +24,9 @@ use Rattle.mdmp_dump.specs.declared.reader.Reader.{Reader}
 use Rattle.mdmp_dump.specs.Part.{part_in}
 use Rattle.mdmp_dump.specs.Reading.{AreBytesOf, Fetches, HasBytesAt, IsReadRefusal, TakesSteps, store_fault}
 use Rattle.mdmp_dump.specs.Refusal.{Refuse, ReadStep, Take, first_refusal, part_steps}
-use Rattle.mdmp_dump.proofs.Keeping.{keeps_none, keeps_till}
+use Rattle.mdmp_dump.proofs.Keeping.{keeps_none, keeps_till, keeps_untaken}
 use Rattle.mdmp_dump.proofs.Refusal.{refusal_moved}
+use Rattle.mdmp_dump.proofs.Taking.{Fetches_memory}
 
 -- nothing was fetched, and no fault of the store is told
 pub Fetches-none : {T : Type 0} (result : Result T ReadFault) (s : SourceState) → IfErr result (λ fault. store_fault fault ≡ None)
@@ -33,28 +35,28 @@ Fetches-none (Ok x) s none refusal = record { fetches = record { count = 0; fetc
 Fetches-none (Err fault) s none refusal = record { fetches = record { count = 0; fetches = FetchesAtMost-none s }; told = rw none tt; good = λ file good. none; refusal = refusal }
 
 -- a part is taken by how its bytes compare with those that are left
-take-by : (left e k size : ℕ) (rest : List ReadStep) (last : Option ReadFault) (more : Bool) → nat_lt left size ≡ more
-    → first_refusal left 0 (Take e k size ∷ rest) last ≡ (if more then Some (faults.PartsTooLarge e k) else first_refusal left size rest last)
+take-by : (left e k offset size : ℕ) (rest : List ReadStep) (last : Option ReadFault) (more : Bool) → nat_lt left size ≡ more
+    → first_refusal left 0 (Take e k offset size ∷ rest) last ≡ (if more then Some (faults.PartsTooLarge e k) else first_refusal left size rest last)
 unfolding first_refusal
-take-by left e k size rest last more is =
+take-by left e k offset size rest last more is =
     let sum : 0 + size ≡ size = omega arith in
     ap (λ n. if nat_lt left n then Some (faults.PartsTooLarge e k) else first_refusal left n rest last) sum
     ∙ ap (λ (b : Bool). if b then Some (faults.PartsTooLarge e k) else first_refusal left size rest last) is
 
 -- so many bytes are more than are left
-pub take-refused : (left e k size : ℕ) (rest : List ReadStep) (last : Option ReadFault) → left < size
-    → first_refusal left 0 (Take e k size ∷ rest) last ≡ Some (faults.PartsTooLarge e k)
-take-refused left e k size rest last more = take-by left e k size rest last true (lt-ltb _ _ more)
+pub take-refused : (left e k offset size : ℕ) (rest : List ReadStep) (last : Option ReadFault) → left < size
+    → first_refusal left 0 (Take e k offset size ∷ rest) last ≡ Some (faults.PartsTooLarge e k)
+take-refused left e k offset size rest last more = take-by left e k offset size rest last true (lt-ltb _ _ more)
 
 -- or they are taken
-pub take-taken : (left e k size : ℕ) (rest : List ReadStep) (last : Option ReadFault) → size ≤ left
-    → first_refusal left 0 (Take e k size ∷ rest) last ≡ first_refusal (left - size) 0 rest last
-take-taken left e k size rest last most =
+pub take-taken : (left e k offset size : ℕ) (rest : List ReadStep) (last : Option ReadFault) → size ≤ left
+    → first_refusal left 0 (Take e k offset size ∷ rest) last ≡ first_refusal (left - size) 0 rest last
+take-taken left e k offset size rest last most =
     let all : size + (left - size) ≡ left = omega (arith, most) in
     let none : size + 0 ≡ size = omega arith in
     let moved = refusal_moved size (left - size) 0 rest last in
     let at_left = subst (λ (n : ℕ). first_refusal n (size + 0) rest last ≡ first_refusal (left - size) 0 rest last) all moved in
-    take-by left e k size rest last false (le-ltb _ _ most) ∙ subst (λ (n : ℕ). first_refusal left n rest last ≡ first_refusal (left - size) 0 rest last) none at_left
+    take-by left e k offset size rest last false (le-ltb _ _ most) ∙ subst (λ (n : ℕ). first_refusal left n rest last ≡ first_refusal (left - size) 0 rest last) none at_left
 
 -- ---- bytes of the file
 
@@ -64,6 +66,19 @@ pub Fetches-read : {T : Type 0} (n : ℕ) (fault : SourceFault) (old new : Sourc
 Fetches-read n (Failed at) old new fetches told good = record { fetches = record { count = n; fetches = fetches }; told = told; good = λ file is. absurd (good file is); refusal = tt }
 Fetches-read n (ShortRead at) old new fetches told good = record { fetches = record { count = n; fetches = fetches }; told = told; good = λ file is. absurd (good file is); refusal = tt }
 Fetches-read n (Changed at) old new fetches told good = record { fetches = record { count = n; fetches = fetches }; told = absurd told.cause; good = λ file is. absurd (good file is); refusal = tt }
+
+-- a part was not obtained
+module _ {S A T : Type 0} (old new : Reader S A) (e k at size : ℕ) (fault : SourceFault) {n : ℕ} (same : new.lister ≡ record old.lister { source = new.lister.source; counts = new.lister.counts })
+    (aside : SpendsAside 1 size old.lister.counts new.lister.counts) (fetches : FetchesAtMost n old.lister.source new.lister.source) (fits : size ≤ old.left) (some : 0 < size)
+    (told : IsToldAmong at size fault old.lister.source new.lister.source) (good : (file : List ℕ) → IsGood old.lister.source.store file → ⊥) where
+  pub untaken : TakesSteps {T = T} (Take e k at size ∷ []) old (Err (faults.Source fault)) new
+  untaken = record {
+    same = same;
+    fetches = Fetches-read n fault old.lister.source new.lister.source fetches told.told good;
+    settles = λ rest last own. absurd (own tt);
+    calls = omega (arith, aside.aside_calls);
+    keeps = keeps_untaken old new size same aside fetches fits (faults.Source fault) (omega (arith, fits, some)) (inl (inl (told.from, told.before)));
+  }
 
 -- bytes inside a file of this size
 pub inside_is : (file : List ℕ) (at size : ℕ) (z : ℕ) → IsInside at size z → z ≡ length file → IsTrue (is_inside at size (length file))
@@ -92,7 +107,8 @@ outside-refused old e k part at size = record {
   same = refl;
   fetches = Fetches-none _ old.lister.source refl tt;
   settles = λ rest last own. refused-first (faults.PartOutside e k part at size) old.left rest last;
-  keeps = keeps_till old old (faults.PartOutside e k part at size) tt (keeps_none old);
+  calls = omega arith;
+  keeps = keeps_till old old (faults.PartOutside e k part at size) tt tt (keeps_none old);
 }
 
 -- the bytes that were taken of a location of this class are its part

@@ -15,8 +15,19 @@ use Rattle.mdmp_lister.specs.Format.Numbers.{is_listed}
 use Rattle.mdmp_lister.specs.Format.Shape.{location_fault, record_count}
 use Rattle.mdmp_lister.specs.Listed.{entry_cost, entry_cost_by}
 use Rattle.mdmp_lister.proofs.Heads.{listed-inside}
-use Rattle.mdmp_dump.specs.EntryWalk.{LiesInside, MayCount, name_cost, no_entry, pass_cost}
+use Rattle.mdmp_dump.specs.EntryWalk.{LiesInside, MayCount, Pays, WalkState, name_cost, no_entry, pass_cost}
 use Rattle.mdmp_dump.specs.FileView.{AreInside, costs_in, count_in, inside_cost_in, pass_cost_in}
+use Rattle.mdmp_dump.proofs.Taking.{FetchesSome_none}
+
+-- a walk that stays as it was costs nothing
+pub pays_none : (bytes names : ℕ) (w : WalkState) → Pays bytes names w w
+pays_none bytes names w = record {
+  same = record { header = refl; choice = refl; chosen = refl; held = refl; start = refl; fetches = FetchesSome_none w.source };
+  aside = refl;
+  allowed = λ few. omega arith;
+  reached = omega arith;
+  more = omega arith;
+}
 
 -- ---- sums
 

@@ -1,6 +1,6 @@
 -- Worked files, the dumps and streams that they lay out, and what those are within.
 use Rattle.std.proofs.Common.{◌≡◌, ◌<◌, zero, suc, slice_index_or, List, [], ◌∷◌, ◌++◌, Some, refl, arith, ℕ}
-use Rattle.std.specs.Prelude.{codes, replicate}
+use Rattle.std.specs.Prelude.{codes}
 use Rattle.mdmp_wire.specs.Number.{number_at, numbers_at, array_at, le}
 use Rattle.mdmp_lister.specs.declared.choice.Choice.TheVariants.{All}
 use Rattle.mdmp_lister.specs.Format.Name.{name_at}
@@ -8,11 +8,11 @@ use Rattle.mdmp_lister.specs.Format.Shape.{shape_of}
 use Rattle.mdmp_lister.specs.Format.Item.{sizes_before}
 use Rattle.mdmp_lister.specs.Format.Listing.{chosen, entries_from, only_chosen}
 use Rattle.mdmp_lister.proofs.Files.{absent_stack_file, crash_file, memory64_file, named_file, opaque_file, unused_file}
-use Rattle.mdmp_dump.specs.declared.part.Part.TheVariants as parts
 use Rattle.mdmp_dump.specs.declared.dump.Stream.{Stream}
 use Rattle.mdmp_dump.specs.declared.dump.Stream.TheVariants as streams
 use Rattle.mdmp_dump.specs.declared.dump.Dump.{Dump}
 use Rattle.mdmp_dump.specs.LaysOut.{AreStreams, LaysOut}
+use Rattle.mdmp_dump.proofs.WorkedDumps as worked
 use Rattle.mdmp_dump.specs.Within.{IsNameWithin, IsWithinLimits, NamesWithin, memory_ranges, part_bytes}
 
 module _ (Z : Type 0) where
@@ -20,36 +20,8 @@ module _ (Z : Type 0) where
   abbrev AreAll : List ℕ → List (Stream Z) → Type 0
   AreAll F ss = AreStreams F (chosen F All) ss
 
-  -- a thread with a stack, and an exception
   abbrev crash_dump : Dump Z
-  crash_dump = record {
-    version_high = 0;
-    checksum = 0;
-    time = 0;
-    flags = 0;
-    streams =
-        streams.Threads (record {
-          thread_id = 7;
-          suspend_count = 0;
-          priority_class = 32;
-          priority = 0;
-          teb = 0x5000;
-          stack_start = 0x7000;
-          stack = parts.Bytes (codes "STAK");
-          context = parts.Bytes (1 ∷ 2 ∷ 3 ∷ 4 ∷ 5 ∷ 6 ∷ []);
-        } ∷ [])
-        ∷ streams.Exception (record {
-          thread_id = 7;
-          exception_code = 0xC0000005;
-          exception_flags = 0;
-          exception_record = 0;
-          exception_address = 0x401000;
-          number_parameters = 2;
-          exception_information = 1 ∷ 16 ∷ replicate 13 0;
-          context = parts.Bytes (0xAA ∷ 0xBB ∷ 0xCC ∷ 0xDD ∷ []);
-        })
-        ∷ [];
-  }
+  crash_dump = worked.crash_dump
 
   crash-laid_out : LaysOut crash_file All crash_dump
   unfolding number_at numbers_at array_at le name_at shape_of entries_from only_chosen sizes_before
@@ -66,18 +38,8 @@ module _ (Z : Type 0) where
     );
   }
 
-  -- a thread whose stack was not kept
   abbrev absent_stack : Stream Z
-  absent_stack = streams.Threads (record {
-    thread_id = 7;
-    suspend_count = 0;
-    priority_class = 0;
-    priority = 0;
-    teb = 0;
-    stack_start = 0x7000;
-    stack = parts.Absent 256;
-    context = parts.Bytes (0xAA ∷ []);
-  } ∷ [])
+  absent_stack = worked.absent_stack
 
   absent_stack-laid_out : AreAll absent_stack_file (absent_stack ∷ [])
   unfolding number_at numbers_at array_at le name_at shape_of entries_from only_chosen sizes_before

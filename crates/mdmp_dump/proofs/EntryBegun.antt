@@ -39,9 +39,9 @@ use Rattle.mdmp_dump.specs.FileRefusal.{IsUnbudgeted}
 use Rattle.mdmp_dump.specs.Left.{left_from, run_of}
 use Rattle.mdmp_dump.specs.Reading.{IsLastTold, store_fault_in}
 use Rattle.mdmp_dump.specs.Walking.{IsKept, bytes_allowed, current_entry, ended_with, left_by, records_to_give, state_of}
-use Rattle.mdmp_dump.proofs.Costs.{unlisted_cost}
+use Rattle.mdmp_dump.proofs.Costs.{pays_none, unlisted_cost}
 use Rattle.mdmp_dump.proofs.Left.{begun}
-use Rattle.mdmp_dump.proofs.Taking.{FetchesSome_none, FetchesSome_then, Fetches_only, fetches_err}
+use Rattle.mdmp_dump.proofs.Taking.{FetchesSome_then, Fetches_only, fetches_err}
 
 -- ---- numbers
 
@@ -270,20 +270,8 @@ module _ (number : ℕ) (e : Entry) (old mid new : WalkerState) (at : slice_get 
       -- it is told as before
       pub begins_failed : (stream : ℕ) → Begins (state_of old) stream (Err (faults.List f)) (state_of new)
       begins_failed stream = subst (λ (w : WalkState). Begins (state_of old) stream (Err (faults.List f)) w) (sym state_stays) (record {
-        pays = record {
-          same = record { header = refl; choice = refl; chosen = refl; held = refl; start = refl; fetches = FetchesSome_none old.list.source };
-          aside = refl;
-          allowed = λ few. omega arith;
-          reached = omega arith;
-          more = omega arith;
-        };
-        unlisted = λ none. record {
-          same = record { header = refl; choice = refl; chosen = refl; held = refl; start = refl; fetches = FetchesSome_none old.list.source };
-          aside = refl;
-          allowed = λ few. omega arith;
-          reached = omega arith;
-          more = omega arith;
-        };
+        pays = pays_none _ _ (state_of old);
+        unlisted = λ none. pays_none 0 0 (state_of old);
         begun = tt;
         of_file = λ F known not. absurd (not own);
         counts = tt;

@@ -20,7 +20,7 @@ told_none : (limit total : ℕ) (steps : List ReadStep) (last : Option ReadFault
 unfolding first_refusal first_told
 told_none limit total [] last none = none
 told_none limit total (Refuse fault ∷ steps) last none = none
-told_none limit total (Take e k size ∷ steps) last none = told_none limit (total + size) steps last (take_or (nat_lt limit (total + size)) e k _ none)
+told_none limit total (Take e k offset size ∷ steps) last none = told_none limit (total + size) steps last (take_or (nat_lt limit (total + size)) e k _ none)
 
 -- and where the limit suffices, both refuse for the same reason
 take_within : (b : Bool) (limit n e k : ℕ) (rest : Option ReadFault) → nat_lt limit n ≡ b → n ≤ limit → (if b then Some (faults.PartsTooLarge e k) else rest) ≡ rest
@@ -31,7 +31,7 @@ told_same : (limit total : ℕ) (steps : List ReadStep) (last : Option ReadFault
 unfolding first_refusal first_told taken_by
 told_same limit total [] last within = refl
 told_same limit total (Refuse fault ∷ steps) last within = refl
-told_same limit total (Take e k size ∷ steps) last within =
+told_same limit total (Take e k offset size ∷ steps) last within =
     take_within (nat_lt limit (total + size)) limit (total + size) e k _ refl (omega (arith, within)) ∙ told_same limit (total + size) steps last (omega (arith, within))
 
 directory_none : (F : List ℕ) (choice : Choice) (o : Option OpenFault) → behind_directory F choice o ≡ None → o ≡ None

@@ -46,13 +46,13 @@ pub both_had : (xs ys : List ReadStep) → AreHad xs → AreHad ys → AreHad (x
 unfolding first_told
 both_had [] ys front back = back
 both_had (Refuse fault ∷ xs) ys front back = absurd (cc front)
-both_had (Take e k n ∷ xs) ys front back = both_had xs ys front back
+both_had (Take e k offset n ∷ xs) ys front back = both_had xs ys front back
 
 pub then_refused : (xs ys : List ReadStep) (fault : ReadFault) → AreHad xs → ys ≡ Refuse fault ∷ [] → first_told (xs ++ ys) None ≡ Some fault
 unfolding first_told
 then_refused [] ys fault had is = ap (λ (steps : List ReadStep). first_told steps None) is
 then_refused (Refuse other ∷ xs) ys fault had is = absurd (cc had)
-then_refused (Take e k n ∷ xs) ys fault had is = then_refused xs ys fault had is
+then_refused (Take e k offset n ∷ xs) ys fault had is = then_refused xs ys fault had is
 
 pub first_refused : (xs ys : List ReadStep) (fault : ReadFault) → xs ≡ Refuse fault ∷ [] → first_told (xs ++ ys) None ≡ Some fault
 unfolding first_told
@@ -66,7 +66,7 @@ pub told_front : (xs ys : List ReadStep) (fault : ReadFault) → first_told xs N
 unfolding first_told
 told_front [] ys fault is = absurd (cc is)
 told_front (Refuse other ∷ xs) ys fault is = is
-told_front (Take e k n ∷ xs) ys fault is = told_front xs ys fault is
+told_front (Take e k offset n ∷ xs) ys fault is = told_front xs ys fault is
 
 -- ---- parts
 

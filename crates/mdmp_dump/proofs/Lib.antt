@@ -44,3 +44,4 @@ pub mod Viewed
 pub mod Walked
 pub mod WalkedOver
 pub mod Within
+pub mod WorkedDumps

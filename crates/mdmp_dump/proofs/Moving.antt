@@ -81,12 +81,11 @@ module _ (w v : WalkState) (same : IsSameWalk w v) where
 
   -- no fault is told behind it
   pub moves_quiet : (before : Option ViewFault) → HasMoved w before v None
-  moves_quiet before = record { header = same.header; choice = same.choice; chosen = same.chosen; held = same.held; start = same.start; fetches = same.fetches; told = tt }
+  moves_quiet before = record { same = same; told = tt }
 
   -- or one that was told in it
   pub moves_told : (before : Option ViewFault) (fault : ViewFault) → IsLastTold (source_fault fault) w.source v.source → HasMoved w before v (Some fault)
-  moves_told before fault told =
-      record { header = same.header; choice = same.choice; chosen = same.chosen; held = same.held; start = same.start; fetches = same.fetches; told = inr told }
+  moves_told before fault told = record { same = same; told = inr told }
 
   pub viewed_stays : (Z : Type 0) (F : List ℕ) (limit : ℕ) (counts rooms : List ℕ) → IsViewed Z F limit w counts rooms → IsViewed Z F limit v counts rooms
   viewed_stays Z F limit counts rooms is = record {
@@ -205,7 +204,7 @@ module _ (Z : Type 0) (limit : ℕ) (w : WalkState) (counts rooms : List ℕ) (p
         inl ((is.ended told ended).0 ∙ sym (ended_then told (stays.1 ∙ ended)), stays.0)
 
     pub moves_err : HasMoved w last v (Some fault)
-    moves_err = record { header = same.header; choice = same.choice; chosen = same.chosen; held = same.held; start = same.start; fetches = same.fetches; told = moved_by w.failed refl }
+    moves_err = record { same = same; told = moved_by w.failed refl }
 
     -- the view behind it has no pass
     pub view_err : (more : ℕ) → IsViewPaid v counts None more asked → IsView Z limit v counts rooms None more asked (Some fault)

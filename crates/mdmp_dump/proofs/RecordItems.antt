@@ -15,7 +15,7 @@ use Rattle.mdmp_lister.specs.declared.kind.StreamKind.TheVariants as kinds
 use Rattle.mdmp_lister.specs.declared.name.Name.{Name}
 use Rattle.mdmp_lister.specs.declared.name.Name.TheVariants as names
 use Rattle.mdmp_lister.specs.declared.step.RecordRead.{RecordRead}
-use Rattle.mdmp_lister.specs.Format.Item.{item_at, item_of, kind_told, name_of, named, offset_in, range_offset, record_at}
+use Rattle.mdmp_lister.specs.Format.Item.{item_at, item_of, kind_told, name_of, named, offset_in, record_at}
 use Rattle.mdmp_lister.specs.Format.Name.{plain_name}
 use Rattle.mdmp_lister.specs.Step.{IsNameOf, IsNameTold}
 use Rattle.mdmp_dump.specs.Reading.{IsRecordIn}

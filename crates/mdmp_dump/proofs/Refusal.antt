@@ -18,7 +18,7 @@ module _ (spent limit : ℕ) where
   unfolding first_refusal
   refusal_moved total [] last = refl
   refusal_moved total (Refuse fault ∷ steps) last = refl
-  refusal_moved total (Take e k size ∷ steps) last =
+  refusal_moved total (Take e k offset size ∷ steps) last =
       let sum : spent + total + size ≡ spent + (total + size) = omega arith in
       ap (λ n. if nat_lt (spent + limit) n then Some (faults.PartsTooLarge e k) else first_refusal (spent + limit) n steps last) sum
       ∙ ap₂ (λ (b : Bool) (rest : Option ReadFault). if b then Some (faults.PartsTooLarge e k) else rest)

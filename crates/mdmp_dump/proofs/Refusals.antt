@@ -36,14 +36,14 @@ pub told_behind : (xs ys : List ReadStep) (last : Option ReadFault) → IsQuiet 
 unfolding first_told
 told_behind [] ys last quiet = refl
 told_behind (Refuse fault ∷ xs) ys last quiet = absurd (cc quiet)
-told_behind (Take e k size ∷ xs) ys last quiet = told_behind xs ys last quiet
+told_behind (Take e k offset size ∷ xs) ys last quiet = told_behind xs ys last quiet
 
 -- and the first that is refused is the first of all
 pub told_before : (xs ys : List ReadStep) (last : Option ReadFault) (fault : ReadFault) → first_told xs None ≡ Some fault → first_told (xs ++ ys) last ≡ Some fault
 unfolding first_told
 told_before [] ys last fault told = absurd (cc told)
 told_before (Refuse other ∷ xs) ys last fault told = told
-told_before (Take e k size ∷ xs) ys last fault told = told_before xs ys last fault told
+told_before (Take e k offset size ∷ xs) ys last fault told = told_before xs ys last fault told
 
 pub fault_first : (F : List ℕ) (fault : ListFault) → run_told F (only_fault fault) ≡ Some (faults.List fault)
 unfolding first_told
@@ -137,15 +137,15 @@ module _ (F : List ℕ) (x : Numbered) (n : ℕ) (counts : record_count F x.entr
 -- ---- one entry
 
 -- its Stream item is not refused
-taken_quiet : (b : Bool) (e size : ℕ) → IsQuiet (if b then Take e 0 size ∷ [] else [])
+taken_quiet : (b : Bool) (e offset size : ℕ) → IsQuiet (if b then Take e 0 offset size ∷ [] else [])
 unfolding first_told
-taken_quiet true e size = refl
-taken_quiet false e size = refl
+taken_quiet true e offset size = refl
+taken_quiet false e offset size = refl
 
 module _ (F : List ℕ) (limit : ℕ) (x : Numbered) where
   pub entry_begins : entry_told F limit x ≡ body_told F limit x 0
   entry_begins =
-      told_behind (item_steps (length F) (stream_item x)) (flat_map (item_steps (length F)) (entry_body F limit x).items) (option_map faults.List (entry_body F limit x).fault) (taken_quiet _ x.number x.entry.location.size)
+      told_behind (item_steps (length F) (stream_item x)) (flat_map (item_steps (length F)) (entry_body F limit x).items) (option_map faults.List (entry_body F limit x).fault) (taken_quiet _ x.number x.entry.location.rva x.entry.location.size)
       ∙ ap (run_told F) (sym (body_from-all F limit x (location_fault (length F) x.entry) refl))
 
   -- ---- the fault in the place of its records

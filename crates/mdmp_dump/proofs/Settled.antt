@@ -18,8 +18,10 @@ use Rattle.mdmp_lister.specs.Format.Kind.{kind_of}
 use Rattle.mdmp_dump.specs.declared.reader.Reader.{Reader}
 use Rattle.mdmp_dump.specs.declared.reader.Told.{Told}
 use Rattle.mdmp_dump.specs.declared.reader.Told.TheVariants as tolds
+use Rattle.mdmp_dump.specs.Keeping.{KeepsOn, KeepsTill, WasLeft}
+use Rattle.mdmp_dump.proofs.Keeping.{asked_part, keeps_err, one_left_before, told_part}
 use Rattle.mdmp_dump.specs.Left.{IsGiven, AreAllGiven, RowGiven, left_from, run_of}
-use Rattle.mdmp_dump.specs.Reading.{AreRows, HasOneRecord, IsFoundOrBehind, IsLeftBehind, IsNameTaken, IsNextStream, IsWanting, NoRowFirst, FindsRead, IsRecordFound, IsRow, IsToldGoing, ListingGoesOn, TakesSteps, Settles, owed, refusal_found, refusal_in}
+use Rattle.mdmp_dump.specs.Reading.{AreRows, HasOneRecord, IsFoundOrBehind, IsLeftBehind, IsNameTaken, IsNextStream, IsWanting, NoRowFirst, FindsRead, IsFirstLeft, IsGoing, IsRecordFound, IsRow, IsToldGoing, ListingGoesOn, TakesSteps, Settles, owed, refusal_found, refusal_in}
 use Rattle.mdmp_dump.specs.LaysOut.{HasRecords}
 use Rattle.mdmp_dump.specs.RecordParts.{ArePartsOf, IsReadAt}
 use Rattle.mdmp_dump.specs.declared.record_parts.RecordParts.{RecordParts}
@@ -45,7 +47,7 @@ use Rattle.mdmp_lister.specs.Format.Name.{plain_name}
 use Rattle.mdmp_lister.specs.ItemRead.{IsReadOf, item_read}
 use Rattle.mdmp_lister.proofs.Classes.{plain-named}
 use Rattle.mdmp_dump.proofs.Names.{slot_name_stands}
-use Rattle.mdmp_dump.proofs.RecordItems.{Told as ItemTold, name_asked, name_by, read_asks, read_at, refused_first, told_is}
+use Rattle.mdmp_dump.proofs.RecordItems.{Told as ItemTold, item_asks, name_asked, name_by, read_asks, read_at, refused_first, told_is}
 
 -- a fault that is next is what is owed
 pub fault-owed : (file : List ℕ) (left : ℕ) (run : Run) (f : ListFault) → ((IsUnobtained f.kind → ⊥) → run ≡ only_fault f) → (IsWanting (faults.List f) → ⊥)
@@ -82,11 +84,32 @@ read_kind z t kind (reads.Record r name) old new is known type of =
     subst (λ (k : Option StreamKind). IsReadOf k (reads.Record r name)) same of
 
 pub found_going : {Z : Type 0} (z : ℕ) (item : ItemRead) (old new : ListerState) → ListingGoesOn old new → new.current ≡ current_after (item_read z item) old.current
-    → (result : Result (Told Z) ReadFault) → FindsRead item result → IfOk result (λ told. IsToldGoing old told new)
-found_going z (reads.Stream x) old new on is result finds = rw finds (on, ap (λ (e : Entry). e.stream_type) is)
-found_going z (reads.Record r name) old new on is (Ok (tolds.Record found units)) finds = (on, same_entry z r.entry r.index r.offset r.fields name old.current new.current is)
-found_going z (reads.Record r name) old new on is (Ok (tolds.Behind next)) finds = absurd finds
-found_going z (reads.Record r name) old new on is (Err fault) finds = tt
+    → ((run : Run) → old.left ≡ Some run → slice_get run.items 0 ≡ Some (plain (item_read z item))) → (result : Result (Told Z) ReadFault) → FindsRead item result → IfOk result (λ told. IsToldGoing old told new)
+found_going z (reads.Stream x) old new on is first result finds = rw finds (on, ap (λ (e : Entry). e.stream_type) is, λ run left. (0, first run left))
+found_going z (reads.Record r name) old new on is first (Ok (tolds.Record found units)) finds = (on, same_entry z r.entry r.index r.offset r.fields name old.current new.current is)
+found_going z (reads.Record r name) old new on is first (Ok (tolds.Behind next)) finds = absurd finds
+found_going z (reads.Record r name) old new on is first (Err fault) finds = tt
+
+-- behind what was read before
+pub going_before : (old mid : ListerState) (next : Option StreamItem) (new : ListerState) → mid.work ≤ old.work → WasLeft old.left mid.left → IsGoing mid next new → IsGoing old next new
+going_before old mid None new rests left going = tt
+going_before old mid (Some item) new rests left going = ((going.0.0, omega (arith, rests, going.0.1)), going.1, one_left_before old mid (items.Stream item) left going.2)
+
+-- a record that is found is the first item that was left
+pub found_first : {Z : Type 0} (item : ItemRead) (v : ListerState) → ((run : Run) → v.left ≡ Some run → slice_get run.items 0 ≡ Some (plain (item_read v.source.size item)))
+    → (result : Result (Told Z) ReadFault) → FindsRead item result → IfOk result (IsFirstLeft v)
+found_first (reads.Stream x) v first result finds = rw finds tt
+found_first (reads.Record r name) v first (Ok (tolds.Record found units)) finds =
+    let z = v.source.size in
+    rw finds.0 (λ run left. (
+      item_of z r.entry r.index r.offset r.fields (plain_name name),
+      (
+        first run left ∙ ap Some (plain-named z r.entry r.index r.offset r.fields name),
+        item_asks z r.entry r.index r.offset r.fields (plain_name name) ∙ name_asked z r (plain_name name) finds.1.0,
+      ),
+    ))
+found_first (reads.Record r name) v first (Ok (tolds.Behind next)) finds = absurd finds
+found_first (reads.Record r name) v first (Err fault) finds = tt
 
 -- ---- the end
 
@@ -197,6 +220,18 @@ module _ {S A T : Type 0} (file : List ℕ) (limit : ℕ) (x : Numbered) (k : �
   -- or it is refused
   pub row-refused : {U : Type 0} (fault : ReadFault) → TakesSteps {T = U} (parts_asked mid.lister.source.size r) mid (Err fault) new → (IsWanting fault → ⊥) → old ≡ Some fault
   row-refused fault takes own = settled takes own
+
+-- they were not all read: the record asks for the byte at which reading stopped
+pub parts_untaken : {S A : Type 0} (old mid new : Reader S A) → KeepsOn old mid → (r : RecordRead)
+    → ((run : Run) → old.lister.left ≡ Some run → (item : Item) × ((slice_get run.items 0 ≡ Some item) × (item_steps old.lister.source.size item ≡ parts_asked old.lister.source.size r)))
+    → (fault : ReadFault) → KeepsTill (parts_asked mid.lister.source.size r) fault mid new → KeepsTill [] fault old new
+parts_untaken old mid new on r first fault till =
+    let steps = parts_asked mid.lister.source.size r in
+    told_part steps [] fault old new
+    (asked_part steps fault old.lister (λ run left.
+    let asked = first run left in
+    (0, asked.0, (asked.1.0, asked.1.1 ∙ ap (λ (z : ℕ). parts_asked z r) (sym on.same.size)))))
+    (keeps_err old mid new on fault till)
 
 -- ---- all records of an entry
 

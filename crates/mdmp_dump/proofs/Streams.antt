@@ -16,7 +16,7 @@ use Rattle.mdmp_lister.specs.Format.Classes.{IsStream as IsStreamItem}
 use Rattle.mdmp_lister.specs.Format.Kind.{form_of, is_known, kind_of}
 use Rattle.mdmp_lister.specs.Format.Listing.{Numbered, Run, list_fault, only_fault}
 use Rattle.mdmp_lister.specs.Format.Shape.{location_fault, shape_of, single}
-use Rattle.mdmp_dump.specs.Keeping.{KeepsOn}
+use Rattle.mdmp_dump.specs.Keeping.{KeepsOn, KeepsTill}
 use Rattle.mdmp_dump.proofs.Keeping.{keeps_none}
 use Rattle.mdmp_dump.specs.declared.fault.ReadFault.{ReadFault}
 use Rattle.mdmp_dump.specs.declared.fault.ReadFault.TheVariants as faults
@@ -27,7 +27,7 @@ use Rattle.mdmp_dump.specs.declared.reader.Reader.{Reader}
 use Rattle.mdmp_dump.specs.LaysOut.{HasBytes}
 use Rattle.mdmp_dump.specs.Left.{is_item_of, left_from, run_of}
 use Rattle.mdmp_dump.specs.Reading.{HasBytesAt, HasOneRecord, IsEntryRead, IsGoing, IsLeftBehind, IsNextStream, IsOfType, IsOneStream, IsRaw, IsWanting, NoRowFirst, Settles, TakesSteps, owed, refusal_in}
-use Rattle.mdmp_dump.specs.Refusal.{ReadStep, Take, first_refusal, item_steps, stream_steps}
+use Rattle.mdmp_dump.specs.Refusal.{ReadStep, Take, first_refusal, inside_steps, item_steps, stream_steps}
 use Rattle.mdmp_dump.proofs.Taking.{FetchesSome_none}
 use Rattle.mdmp_dump.proofs.Left.{all_given, no_row_first, stream_given}
 
@@ -78,24 +78,24 @@ pub raw_going : {S A Z : Type 0} (old mid : Reader S A) (item : StreamItem) (str
 raw_going old mid item stream taken None new going = tt
 raw_going old mid item stream taken (Some behind) new going = subst (λ (l : ListerState). IsGoing l (Some behind) new) taken.same going
 
-raw_steps : (size e t : ℕ) (at : Location) (b : Bool) → IsRaw t → is_inside at.rva at.size size ≡ b → stream_steps size e t at ≡ (if b then Take e 0 at.size ∷ [] else [])
+raw_steps : (size e t : ℕ) (at : Location) (b : Bool) → IsRaw t → is_inside at.rva at.size size ≡ b → stream_steps size e t at ≡ (if b then Take e 0 at.rva at.size ∷ [] else [])
 raw_steps size e t at b raw is =
-    ap (λ (z : Bool). if not z && not (is_known t) && is_inside at.rva at.size size then Take e 0 at.size ∷ [] else []) raw.0
-    ∙ ap (λ (k : Option StreamKind). if not (is_some k) && is_inside at.rva at.size size then Take e 0 at.size ∷ [] else []) raw.1
-    ∙ ap (λ (z : Bool). if z then Take e 0 at.size ∷ [] else []) is
+    ap (λ (z : Bool). if not z && not (is_known t) && is_inside at.rva at.size size then Take e 0 at.rva at.size ∷ [] else []) raw.0
+    ∙ ap (λ (k : Option StreamKind). if not (is_some k) && is_inside at.rva at.size size then Take e 0 at.rva at.size ∷ [] else []) raw.1
+    ∙ ap (λ (z : Bool). if z then Take e 0 at.rva at.size ∷ [] else []) is
 
 sized : (F : List ℕ) (content : Option (List ℕ)) (size : ℕ) → content ≡ Some F → IsSizeOf content size → size ≡ length F
 sized F content size known is = subst (λ (c : Option (List ℕ)). IsSizeOf c size) known is
 
 module _ {S A : Type 0} (old : Reader S A) (item : StreamItem) (size : ℕ) (is_size : IsSizeOf old.lister.source.store.content size) where
   steps_by : (b : Bool) → is_inside item.location.rva item.location.size size ≡ b → (F : List ℕ) → old.lister.source.store.content ≡ Some F → IsRaw item.stream_type
-      → stream_steps (length F) item.entry item.stream_type item.location ≡ (if b then Take item.entry 0 item.location.size ∷ [] else [])
+      → stream_steps (length F) item.entry item.stream_type item.location ≡ (if b then Take item.entry 0 item.location.rva item.location.size ∷ [] else [])
   steps_by b is F known raw =
       let same : size ≡ length F = sized F old.lister.source.store.content size known is_size in
       raw_steps (length F) item.entry item.stream_type item.location b raw (ap (is_inside item.location.rva item.location.size) (sym same) ∙ is)
 
   raw_inside : {Z : Type 0} (bytes : List ℕ) (new : Reader S A) → is_inside item.location.rva item.location.size size ≡ true
-      → TakesSteps (Take item.entry 0 item.location.size ∷ []) old (Ok bytes) new
+      → TakesSteps (Take item.entry 0 item.location.rva item.location.size ∷ []) old (Ok bytes) new
       → ((F : List ℕ) → old.lister.source.store.content ≡ Some F → HasBytesAt F item.location.rva item.location.size bytes)
       → RawTaken {Z = Z} old item (Some (streams.Raw item.stream_type bytes)) new
   raw_inside {Z} bytes new inside takes has = record {
@@ -123,12 +123,12 @@ module _ {S A : Type 0} (old : Reader S A) (item : StreamItem) (size : ℕ) (is_
 
   -- or they are refused
   pub raw_untaken : {V : Type 0} (at len : ℕ) (at_is : at ≡ item.location.rva) (len_is : len ≡ item.location.size) (new : Reader S A) (fault : ReadFault) → is_inside at len size ≡ true
-      → TakesSteps {T = V} (Take item.entry 0 len ∷ []) old (Err fault) new
+      → TakesSteps {T = V} (Take item.entry 0 at len ∷ []) old (Err fault) new
       → (F : List ℕ) (limit : ℕ) (x : Numbered) (xs : List Numbered) → old.lister.source.store.content ≡ Some F → old.lister.left ≡ Some (left_from F limit x 0 xs)
       → item ≡ is_item_of x → IsRaw x.entry.stream_type → (IsWanting fault → ⊥) → owed F old.left (Some item) old.lister.left ≡ Some fault
   raw_untaken at len at_is len_is new fault inside takes F limit x xs known left is raw own =
       let within = rw (at_is, len_is) at inside in
-      let taken = rw len_is at takes in
+      let taken = rw (at_is, len_is) at takes in
       let raw_is : IsRaw item.stream_type = subst (λ (i : StreamItem). IsRaw i.stream_type) (sym is) raw in
       let run = left_from F limit x 0 xs in
       let rest = flat_map (item_steps (length F)) run.items in
@@ -138,12 +138,12 @@ module _ {S A : Type 0} (old : Reader S A) (item : StreamItem) (size : ℕ) (is_
       ∙ taken.settles rest last own
 
   module _ {Z : Type 0} (at len : ℕ) (at_is : at ≡ item.location.rva) (len_is : len ≡ item.location.size) (stream : Option (Stream Z)) (reader : Reader S A) where
-    pub raw_taken : (bytes : List ℕ) (new : Reader S A) → is_inside at len size ≡ true → TakesSteps (Take item.entry 0 len ∷ []) old (Ok bytes) new
+    pub raw_taken : (bytes : List ℕ) (new : Reader S A) → is_inside at len size ≡ true → TakesSteps (Take item.entry 0 at len ∷ []) old (Ok bytes) new
         → ((F : List ℕ) → old.lister.source.store.content ≡ Some F → HasBytesAt F at len bytes)
         → reader ≡ new → stream ≡ Some (streams.Raw item.stream_type bytes) → RawTaken old item stream reader
     raw_taken bytes new inside takes has same is =
         let within = rw (at_is, len_is) at inside in
-        let taken = rw len_is at takes in
+        let taken = rw (at_is, len_is) at takes in
         let all : (F : List ℕ) → old.lister.source.store.content ≡ Some F → HasBytesAt F item.location.rva item.location.size bytes = λ F known. rw (← at_is, ← len_is) (has F known) in
         rw (same, is) (raw_inside bytes new within taken all)
 
@@ -151,6 +151,14 @@ module _ {S A : Type 0} (old : Reader S A) (item : StreamItem) (size : ℕ) (is_
     raw_left outside same is =
         let without = rw (at_is, len_is) at outside in
         rw (same, is) (raw_outside without)
+
+-- the bytes of a stream inside the file were not taken
+pub inside_untaken : {S A : Type 0} (old new : Reader S A) (item : StreamItem) (at len : ℕ) → at ≡ item.location.rva → len ≡ item.location.size → (size : ℕ) → size ≡ old.lister.source.size → is_inside at len size ≡ true
+    → (fault : ReadFault) → KeepsTill (Take item.entry 0 at len ∷ []) fault old new → KeepsTill (inside_steps old.lister.source.size item.entry item.location) fault old new
+inside_untaken old new item at len at_is len_is size size_is inside fault till =
+    let within : is_inside item.location.rva item.location.size old.lister.source.size ≡ true = rw (at_is, len_is, size_is) at inside in
+    let asked = rw (at_is, len_is) at till in
+    subst (λ (steps : List ReadStep). KeepsTill steps fault old new) (sym (ap (λ (b : Bool). if b then Take item.entry 0 item.location.rva item.location.size ∷ [] else []) within)) asked
 
 -- a stream and what stands behind it, or a fault
 abbrev pub behind_of_stream : {V : Type 0} → V → Result (Option StreamItem) ReadFault → Result (V × Option StreamItem) ReadFault

@@ -36,13 +36,13 @@ pub told_last : (steps : List ReadStep) (fault : ReadFault) → first_told steps
 unfolding first_told
 told_last [] fault none = cc
 told_last (Refuse other ∷ steps) fault none = cc
-told_last (Take e k size ∷ steps) fault none = told_last steps fault none
+told_last (Take e k offset size ∷ steps) fault none = told_last steps fault none
 
 pub told_both : (xs ys : List ReadStep) (last : Option ReadFault) → first_told (xs ++ ys) last ≡ None → IsQuiet xs × (first_told ys last ≡ None)
 unfolding first_told
 told_both [] ys last none = (refl, none)
 told_both (Refuse fault ∷ xs) ys last none = absurd (cc)
-told_both (Take e k size ∷ xs) ys last none = told_both xs ys last none
+told_both (Take e k offset size ∷ xs) ys last none = told_both xs ys last none
 
 -- a part that is not refused does not lie outside
 pub part_given : (e k : ℕ) (name : PartName) (offset size : ℕ) (x : Extent) → IsQuiet (part_steps e k name offset size x) → x ≡ classes.Outside → ⊥

@@ -9,11 +9,13 @@ use Rattle.mdmp_lister.specs.Lister.{ListerState, tail}
 use Rattle.mdmp_dump.specs.declared.dump.Stream.{Stream}
 use Rattle.mdmp_dump.specs.declared.fault.ReadFault.{ReadFault}
 use Rattle.mdmp_dump.specs.declared.reader.Reader.{Reader}
-use Rattle.mdmp_dump.specs.Keeping.{KeepsOn}
+use Rattle.mdmp_dump.specs.Keeping.{KeepsOn, KeepsTill}
+use Rattle.mdmp_lister.specs.declared.item.Item.TheVariants as items
 use Rattle.mdmp_dump.specs.LaysOut.{AreStreams, NamesStream}
 use Rattle.mdmp_dump.specs.Left.{is_item_of, left_from, run_of}
-use Rattle.mdmp_dump.specs.Reading.{IsEntryRead, IsGoing, IsLeftBehind, IsNextStream, IsOfType, IsOneStream, IsWanting, NoRowFirst, Settles, owed}
-use Rattle.mdmp_dump.specs.Refusal.{first_refusal}
+use Rattle.mdmp_dump.specs.Reading.{IsEntryRead, IsGoing, IsLeftBehind, IsNextStream, IsOfType, IsOneLeft, IsOneStream, IsWanting, NoRowFirst, Settles, owed}
+use Rattle.mdmp_dump.specs.Refusal.{first_refusal, stream_steps}
+use Rattle.mdmp_dump.proofs.Keeping.{asked_part, keeps_err, one_left_before, told_part}
 use Rattle.mdmp_dump.proofs.Left.{first_given, no_row_first, none_given}
 use Rattle.mdmp_dump.proofs.More.{streams_more}
 
@@ -21,6 +23,11 @@ use Rattle.mdmp_dump.proofs.More.{streams_more}
 abbrev pub IsAwaited : Option StreamItem → ListerState → Type 0
 IsAwaited None lister = Unit {0}
 IsAwaited (Some item) lister = (lister.stop ≡ None) × IsOfType lister item.stream_type
+
+-- and was left before it was given
+abbrev pub IsOneGiven : Option StreamItem → ListerState → Type 0
+IsOneGiven None lister = Unit {0}
+IsOneGiven (Some item) lister = IsOneLeft lister (items.Stream item)
 
 -- a number that falls with each entry
 abbrev pub entries_left : Option StreamItem → ListerState → ℕ
@@ -41,12 +48,32 @@ pub record StreamsRead {S A Z : Type 0} (old : Reader S A) (streams : List (Stre
   pub fetches : FetchesSome old.lister.source new.lister.source
   pub keeps : KeepsOn old new
   pub awaited : IsAwaited next new.lister
+  pub given : IsOneGiven next old.lister
   pub of_file : (F : List ℕ) (limit : ℕ) (xs : List Numbered) → old.lister.source.store.content ≡ Some F → old.lister.left ≡ Some (run_of F limit xs)
       → AreRead F limit xs old streams next new
 
 pub awaited_going : (old : ListerState) (next : Option StreamItem) (new : ListerState) → IsGoing old next new → IsAwaited next new
 awaited_going old None new going = tt
 awaited_going old (Some item) new going = (going.0.0, going.1)
+
+pub given_going : (old : ListerState) (next : Option StreamItem) (new : ListerState) → IsGoing old next new → IsOneGiven next old
+given_going old None new going = tt
+given_going old (Some item) new going = going.2
+
+pub given_before : {S A : Type 0} (old mid new : Reader S A) (next : Option StreamItem) → KeepsOn old mid → IsGoing mid.lister next new.lister → IsOneGiven next old.lister
+given_before old mid new None on going = tt
+given_before old mid new (Some item) on going = one_left_before old.lister mid.lister (items.Stream item) on.left going.2
+
+-- its bytes were not taken: its Stream item asks for the one at which reading stopped
+pub stream_untaken : {S A : Type 0} (old mid new : Reader S A) (item : StreamItem) → KeepsOn old mid → IsOneGiven (Some item) old.lister → (fault : ReadFault)
+    → KeepsTill (stream_steps mid.lister.source.size item.entry item.stream_type item.location) fault mid new → KeepsTill [] fault old new
+stream_untaken old mid new item on given fault till =
+    let steps = stream_steps mid.lister.source.size item.entry item.stream_type item.location in
+    told_part steps [] fault old new
+    (asked_part steps fault old.lister (λ run left.
+    let place = given run left in
+    (place.0, items.Stream item, (place.1, ap (λ (z : ℕ). stream_steps z item.entry item.stream_type item.location) (sym on.same.size)))))
+    (keeps_err old mid new on fault till)
 
 pub fewer_left : (old : ListerState) (item : StreamItem) (next : Option StreamItem) (new : ListerState) → IsGoing old next new → entries_left next new < entries_left (Some item) old
 fewer_left old item None new going = omega arith

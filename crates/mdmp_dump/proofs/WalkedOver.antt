@@ -18,10 +18,11 @@ use Rattle.mdmp_dump.specs.declared.found_record.FoundRecord.{FoundRecord}
 use Rattle.mdmp_dump.specs.declared.view.Fields.{Fields}
 use Rattle.mdmp_dump.specs.declared.view.Kind.{Kind}
 use Rattle.mdmp_dump.specs.declared.view.Kind.TheVariants.{Known}
-use Rattle.mdmp_dump.specs.EntryWalk.{Begins, FindsRow, GivesNext, IsSameWalk, LiesInside, MayCount, Pays, WalkState, chosen_entry, kind_by, listed, name_cost, no_entry, pass_cost, raw_part}
+use Rattle.mdmp_dump.specs.EntryWalk.{Begins, FindsRow, GivesNext, LiesInside, MayCount, Pays, WalkState, chosen_entry, kind_by, listed, name_cost, no_entry, pass_cost, raw_part}
 use Rattle.mdmp_dump.specs.FileRefusal.{body_told, entry_told, run_told}
 use Rattle.mdmp_dump.specs.Left.{run_of}
 use Rattle.mdmp_dump.specs.FileView.{AreBare, AreCounted, AreInside, AreWalked, HasWalked, IsShortAt, IsStreamOver, KeepsAll, KeepsUpTo, PaysAll, PaysSome, PaysUpTo, TellsFirst, TellsStream, cost_before, costs_in, count_in, kind_at, opening_cost, pass_cost_in, room_told, stream_asks, stream_of}
+use Rattle.mdmp_dump.specs.FileViewLaws.{same_then}
 use Rattle.mdmp_dump.specs.FoundRecord.{fields_of}
 use Rattle.mdmp_dump.specs.InFile.{stream_named}
 use Rattle.mdmp_dump.specs.Placed.{far_room, fields_bytes, fields_room, size_in}
@@ -30,22 +31,12 @@ use Rattle.mdmp_dump.specs.Seen.{Seen, nothing_seen}
 use Rattle.mdmp_dump.specs.Shape.{GivesNone, all_bytes, parts_in, seen_record, told, type_told}
 use Rattle.mdmp_dump.specs.View.{kind_in, raw_in, records_seen}
 use Rattle.mdmp_dump.proofs.Budgets.{budget_wants, kept_less, over_tells, wanting_own}
-use Rattle.mdmp_dump.proofs.Costs.{costs_first, costs_inside, costs_most, costs_push, may_listed, may_none}
+use Rattle.mdmp_dump.proofs.Costs.{costs_first, costs_inside, costs_most, costs_push, may_listed, may_none, pays_none}
 use Rattle.mdmp_dump.proofs.Refusals.{count_refused, entry_begins, one_told, row_passed, row_refused, rows_passed}
-use Rattle.mdmp_dump.proofs.Taking.{FetchesSome_none, FetchesSome_then, fetches_err}
+use Rattle.mdmp_dump.proofs.Taking.{fetches_err}
 use Rattle.mdmp_dump.proofs.Viewed.{raw_sized, records_are, rooms_all, rooms_none, rooms_step, row_seen}
 
 -- ---- walks one behind the other
-
-pub same_then : (u v w : WalkState) → IsSameWalk u v → IsSameWalk v w → IsSameWalk u w
-same_then u v w p q = record {
-  header = q.header ∙ p.header;
-  choice = q.choice ∙ p.choice;
-  chosen = q.chosen ∙ p.chosen;
-  held = q.held ∙ p.held;
-  start = q.start ∙ p.start;
-  fetches = FetchesSome_then u.source v.source w.source p.fetches q.fetches;
-}
 
 pub pays_then : (a b c d : ℕ) (u v w : WalkState) → Pays a b u v → Pays c d v w → Pays (a + c) (b + d) u w
 pays_then a b c d u v w p q = record {
@@ -237,21 +228,9 @@ module _ (Z : Type 0) (limit : ℕ) (old : WalkState) (k : ℕ) where
   pub untouched_paid : PaysUpTo k old old
   untouched_paid = record {
     reached = 0;
-    pays = record {
-      same = record { header = refl; choice = refl; chosen = refl; held = refl; start = refl; fetches = FetchesSome_none old.source };
-      aside = refl;
-      allowed = λ few. omega arith;
-      reached = omega arith;
-      more = omega arith;
-    };
+    pays = pays_none _ _ old;
     few = λ F known. omega arith;
-    unlisted = λ none. record {
-      same = record { header = refl; choice = refl; chosen = refl; held = refl; start = refl; fetches = FetchesSome_none old.source };
-      aside = refl;
-      allowed = λ few. omega arith;
-      reached = omega arith;
-      more = omega arith;
-    };
+    unlisted = λ none. pays_none 0 0 old;
   }
 
   pub budget_refuses : (fault : ReadFault) (offset size : ℕ) → fault ≡ faults.Opening (opening.Budget offset size) → (F : List ℕ) → HasWalked Z F limit old k (Err fault)
@@ -318,7 +297,7 @@ each_push P ns n each last k inside = elim (cases_lt k (length ns)) [
 -- none was walked over
 none_walked : (w : WalkState) → PaysAll [] w w
 none_walked w = record {
-  same = record { header = refl; choice = refl; chosen = refl; held = refl; start = refl; fetches = FetchesSome_none w.source };
+  same = (pays_none 0 0 w).same;
   aside = refl;
   allowed = λ few. omega (arith, none_cost_sum w.chosen);
   reached = omega (arith, none_cost_sum w.chosen);

@@ -1,5 +1,6 @@
 -- A walk over the chosen entries of a file, a record at a time, which reads no name.
 use Rattle.std.specs.Prelude.{◌≡◌, ◌≤◌, ◌<◌, ◌+◌, ◌*◌, ◌^◌, ℕ, List, [], ◌∷◌, length, get_or, Option, Some, None, Result, Ok, Err, false, true, ◌==◌, if◌then◌else◌, IfErr, IfOk, IsOk, MatchResult}
+use Rattle.mdmp_source.specs.Count.{raised}
 use Rattle.mdmp_source.specs.Source.{SourceState, FetchesSome, IsTold}
 use Rattle.mdmp_source.specs.Store.{IsGood}
 use Rattle.mdmp_source.specs.declared.fault.SourceFault.{SourceFault}
@@ -207,9 +208,11 @@ pub record GivesNext (old : WalkState) (limit : ℕ) (result : Result FoundRecor
 
 -- ---- bytes beside the walk
 
+-- at most so many bytes were read beside the walk, by one call of the source's `fetch`
 pub record WalkReadsAside (count : ℕ) (old : WalkState) (result : Result (Unit {0}) SourceFault) (new : WalkState) : Type 0 where
   pub same : new ≡ record old { source = new.source; aside = new.aside }
   pub aside : new.aside ≤ old.aside + count
+  pub calls : new.source.calls ≤ raised old.source.calls 1
   pub fetches : FetchesSome old.source new.source
   pub told : IfErr result (λ fault. IsTold fault old.source new.source)
   pub good : (file : List ℕ) → IsGood old.source.store file → IsOk result

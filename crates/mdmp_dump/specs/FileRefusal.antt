@@ -20,13 +20,13 @@ use Rattle.mdmp_dump.specs.Refusal.{ReadStep, Refuse, Take, item_steps}
 unfoldable pub first_told : List ReadStep → Option ReadFault → Option ReadFault
 first_told [] last = last
 first_told (Refuse fault ∷ steps) last = Some fault
-first_told (Take e k size ∷ steps) last = first_told steps last
+first_told (Take e k offset size ∷ steps) last = first_told steps last
 
 -- the bytes that some steps take
 unfoldable pub taken_by : List ReadStep → ℕ
 taken_by [] = 0
 taken_by (Refuse fault ∷ steps) = taken_by steps
-taken_by (Take e k size ∷ steps) = size + taken_by steps
+taken_by (Take e k offset size ∷ steps) = size + taken_by steps
 
 -- the first refusal among the items of a run, or else its fault
 abbrev pub run_told : List ℕ → Run → Option ReadFault

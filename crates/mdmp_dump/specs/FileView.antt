@@ -1,7 +1,6 @@
 -- A view of a file, by what it keeps of each stream.
 use Rattle.std.specs.Prelude.{◌≡◌, ◌≤◌, ◌<◌, ◌+◌, ◌-◌, ◌*◌, ◌/◌, ◌^◌, ◌⊎◌, ℕ, List, [], ◌∷◌, length, map, get_or, take, Option, Some, None, Result, Ok, Err, false, ◌==◌, if◌then◌else◌, sum, sum_by, IfErr, IfSome, IsOk, IsTrue, MatchResult}
 use Rattle.mdmp_source.specs.Range.{bytes_at}
-use Rattle.mdmp_source.specs.Source.{FetchesSome}
 use Rattle.mdmp_source.specs.Store.{AreBytes, IsGood}
 use Rattle.mdmp_source.specs.declared.fault.SourceFault.{SourceFault}
 use Rattle.mdmp_source.specs.declared.fault.SourceFault.TheVariants.{Changed}
@@ -358,12 +357,7 @@ pub record TellsViewFault {T : Type 0} (old : WalkState) (result : Result T View
 -- calls of a view, of which the last that fetched ended with this fault or with none: the walk goes on, and the fault is told
 -- in them, or was the last before them
 pub record HasMoved (old : WalkState) (before : Option ViewFault) (new : WalkState) (last : Option ViewFault) : Type 0 where
-  pub header : new.header ≡ old.header
-  pub choice : new.choice ≡ old.choice
-  pub chosen : new.chosen ≡ old.chosen
-  pub held : new.held ≡ old.held
-  pub start : new.start ≡ old.start
-  pub fetches : FetchesSome old.source new.source
+  pub same : IsSameWalk old new
   pub told : IfSome last (λ fault. ((before ≡ last) × (new.source ≡ old.source)) ⊎ IsLastTold (source_fault fault) old.source new.source)
 
 -- ---- a view

@@ -8,7 +8,7 @@ use Rattle.mdmp_source.specs.declared.fault.SourceFault.TheVariants.{Failed, Sho
 use Rattle.mdmp_lister.proofs.Fetches.{FetchesAtMost-none}
 use Rattle.mdmp_lister.specs.Format.Listing.{Numbered}
 use Rattle.mdmp_dump.specs.declared.view.ViewFault.{ViewFault}
-use Rattle.mdmp_dump.specs.EntryWalk.{WalkState, kind_by, no_entry}
+use Rattle.mdmp_dump.specs.EntryWalk.{IsSameWalk, WalkState, kind_by, no_entry}
 use Rattle.mdmp_dump.specs.FileView.{AreBare, HasMoved, costs_in, file_shape, kind_at, opening_cost, shape_by, source_fault, streams_in}
 use Rattle.mdmp_dump.specs.InFile.{dump_in}
 use Rattle.mdmp_dump.specs.Reading.{IsLastTold}
@@ -70,7 +70,10 @@ stays_by w None = tt
 stays_by w (Some fault) = inl (refl, refl)
 
 pub view_stays : (w : WalkState) (last : Option ViewFault) → HasMoved w last w last
-view_stays w last = record { header = refl; choice = refl; chosen = refl; held = refl; start = refl; fetches = record { count = 0; fetches = FetchesAtMost-none w.source }; told = stays_by w last }
+view_stays w last = record {
+  same = record { header = refl; choice = refl; chosen = refl; held = refl; start = refl; fetches = record { count = 0; fetches = FetchesAtMost-none w.source } };
+  told = stays_by w last;
+}
 
 -- and by one behind the other
 follows_by : (u : WalkState) (first : Option ViewFault) (v : WalkState) (second : Option ViewFault) (w : WalkState) (last : Option ViewFault)
@@ -86,13 +89,19 @@ follows_by u first v second w (Some fault) some before (inl same) =
       | inr told ↦ inr (subst (λ (s : SourceState). IsLastTold (source_fault fault) u.source s) (sym same.1) told)
     ]
 
-pub view_follows : (u : WalkState) (first : Option ViewFault) (v : WalkState) (second : Option ViewFault) (w : WalkState) (last : Option ViewFault) → HasMoved u first v second → HasMoved v second w last → HasMoved u first w last
-view_follows u first v second w last p q = record {
+-- walks one behind the other
+pub same_then : (u v w : WalkState) → IsSameWalk u v → IsSameWalk v w → IsSameWalk u w
+same_then u v w p q = record {
   header = q.header ∙ p.header;
   choice = q.choice ∙ p.choice;
   chosen = q.chosen ∙ p.chosen;
   held = q.held ∙ p.held;
   start = q.start ∙ p.start;
   fetches = record { count = p.fetches.count + q.fetches.count; fetches = fetches_then p.fetches.count q.fetches.count u.source v.source w.source p.fetches.fetches q.fetches.fetches };
-  told = follows_by u first v second w last p.fetches p.told q.told;
+}
+
+pub view_follows : (u : WalkState) (first : Option ViewFault) (v : WalkState) (second : Option ViewFault) (w : WalkState) (last : Option ViewFault) → HasMoved u first v second → HasMoved v second w last → HasMoved u first w last
+view_follows u first v second w last p q = record {
+  same = same_then u v w p.same q.same;
+  told = follows_by u first v second w last p.same.fetches p.told q.told;
 }

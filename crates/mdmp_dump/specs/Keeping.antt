@@ -1,19 +1,22 @@
 -- What reading a file into a value fetches: for the listing within a budget, and beside it the bytes of parts.
-use Rattle.std.specs.Prelude.{◌≡◌, ◌≤◌, ◌<◌, ◌+◌, ℕ, List, None, Some, Result, Ok, Err, IfErr, IsTrue, max, slice_get}
+use Rattle.std.specs.Prelude.{◌≡◌, ◌≤◌, ◌<◌, ◌+◌, ◌⊎◌, ℕ, List, length, Option, None, Some, Result, Ok, Err, IfErr, IsTrue, max, slice_get}
 use Rattle.mdmp_source.specs.Count.{raised}
+use Rattle.mdmp_source.specs.Fault.{fault_at}
 use Rattle.mdmp_source.specs.Range.{IsInside}
 use Rattle.mdmp_source.specs.Source.{FetchesSome, SourceState}
+use Rattle.mdmp_source.specs.declared.fault.SourceFault.{SourceFault}
 use Rattle.mdmp_wire.specs.declared.entry.Entry.{Entry}
 use Rattle.mdmp_lister.specs.declared.choice.Choice.{Choice}
 use Rattle.mdmp_lister.specs.declared.fault.FaultKind.{FaultKind}
 use Rattle.mdmp_lister.specs.declared.fault.FaultKind.TheVariants as kinds
 use Rattle.mdmp_lister.specs.declared.fault.ListFault.{ListFault}
 use Rattle.mdmp_lister.specs.declared.fault.OpenFault.{OpenFault}
+use Rattle.mdmp_lister.specs.declared.item.Item.{Item}
 use Rattle.mdmp_lister.specs.declared.limits.Limits.{Limits}
 use Rattle.mdmp_lister.specs.Fault.{IsToldIn}
 use Rattle.mdmp_lister.specs.Following.{through}
 use Rattle.mdmp_lister.specs.Format.Directory.{IsDirectory}
-use Rattle.mdmp_lister.specs.Format.Listing.{is_chosen}
+use Rattle.mdmp_lister.specs.Format.Listing.{Run, is_chosen, listing}
 use Rattle.mdmp_lister.specs.Lister.{IsRefusedIn, ListerState, standpoint_in}
 use Rattle.mdmp_lister.specs.Meter.{KeepsTo, is_passed}
 use Rattle.mdmp_lister.specs.NextFetch.{Standpoint, TellsNextOpening, TellsSomeFetch}
@@ -21,6 +24,7 @@ use Rattle.mdmp_lister.specs.Opening.{IsHandedBack, TellsOver}
 use Rattle.mdmp_dump.specs.declared.fault.ReadFault.{ReadFault}
 use Rattle.mdmp_dump.specs.declared.fault.ReadFault.TheVariants as faults
 use Rattle.mdmp_dump.specs.declared.reader.Reader.{Reader}
+use Rattle.mdmp_dump.specs.Refusal.{AsksByte, ReadStep, TakesByte}
 
 -- ---- as a caller sees it
 
@@ -81,12 +85,18 @@ pub record IsOpeningEnd (choice : Choice) (limits : Limits) (old : SourceState) 
   pub next : TellsNextOpening (Some choice) limits old fault new
   pub handed_back : IsHandedBack choice old fault new
 
+-- a part was being read, or a stream whose records are not known: some bytes of those may be read, and in a known file reading stopped
+-- at a byte that an item of its listing asks for
+pub record IsPartEnd (choice : Choice) (limits : Limits) (parts : ℕ) (old : SourceState) (fault : SourceFault) : Type 0 where
+  pub some : 0 < parts
+  pub byte : (file : List ℕ) → old.store.content ≡ Some file → AsksByte (listing file choice limits.name).items (length file) (fault_at fault)
+
 -- where a reading ended that has fetched so many bytes to open and list the file: in its opening, in a chosen entry of the listing,
--- or at a part or a stream whose records are not known, of which some bytes may be read
+-- or at a part or a stream whose records are not known
 abbrev pub TellsReadEnd : Choice → Limits → ℕ → SourceState → ℕ → ReadFault → SourceState → Type 0
 TellsReadEnd choice limits parts old fetched (faults.Opening fault) new = IsOpeningEnd choice limits old fetched fault new
 TellsReadEnd choice limits parts old fetched (faults.List fault) new = TellsListing choice limits old fetched fault.kind fault new
-TellsReadEnd choice limits parts old fetched (faults.Source fault) new = 0 < parts
+TellsReadEnd choice limits parts old fetched (faults.Source fault) new = IsPartEnd choice limits parts old fault
 TellsReadEnd choice limits parts old fetched fault new = Unit {0}
 
 -- a reading has fetched so many bytes to open and list the file, within the budget, and beside them so many of parts and of
@@ -138,6 +148,19 @@ TellsFetch (faults.List fault) left old v = IsRefusedIn fault v × TellsListed f
 TellsFetch (faults.Source fault) left old v = 0 < left
 TellsFetch fault left old v = Unit {0}
 
+-- each of these items is one of those
+abbrev pub AreAmong : List Item → List Item → Type 0
+AreAmong xs ys = (index : ℕ) (item : Item) → slice_get xs index ≡ Some item → (place : ℕ) × (slice_get ys place ≡ Some item)
+
+-- what is left of a known file's listing was left before
+abbrev pub WasLeft : Option Run → Option Run → Type 0
+WasLeft old new = (run : Run) → old ≡ Some run → (rest : Run) × ((new ≡ Some rest) × AreAmong rest.items run.items)
+
+-- a fault of the store that is none of the listing is told at a byte that these steps take, or that an item asks for which was left
+abbrev pub TellsPart : List ReadStep → ReadFault → ListerState → Type 0
+TellsPart steps (faults.Source fault) v = TakesByte steps (fault_at fault) ⊎ ((run : Run) → v.left ≡ Some run → AsksByte run.items v.source.size (fault_at fault))
+TellsPart steps fault v = Unit {0}
+
 module _ {S A : Type 0} where
   -- the bytes that are read beside the listing come off those that parts may still take
   pub record KeepsOn (old new : Reader S A) : Type 0 where
@@ -146,12 +169,15 @@ module _ {S A : Type 0} where
     pub less : new.left ≤ old.left
     pub fetches : FetchesSome old.lister.source new.lister.source
     pub at : IsAtEntry old.lister → IsAtEntry new.lister
+    pub left : WasLeft old.lister.left new.lister.left
 
-  pub record KeepsTill (fault : ReadFault) (old new : Reader S A) : Type 0 where
+  pub record KeepsTill (steps : List ReadStep) (fault : ReadFault) (old new : Reader S A) : Type 0 where
     pub same : IsSameReading old.lister new.lister
     pub few : new.lister.counts.aside.bytes ≤ old.lister.counts.aside.bytes + old.left
     pub ends : IsAtEntry old.lister → TellsFetch fault old.left old.lister.source new.lister
+    pub part : TellsPart steps fault old.lister
 
-  abbrev pub KeepsStep : {T : Type 0} → Result T ReadFault → Reader S A → Reader S A → Type 0
-  KeepsStep (Ok x) old new = KeepsOn old new
-  KeepsStep (Err fault) old new = KeepsTill fault old new
+  -- a reader goes on, or is at fault in what these steps ask, or what is left of its listing
+  abbrev pub KeepsStep : {T : Type 0} → List ReadStep → Result T ReadFault → Reader S A → Reader S A → Type 0
+  KeepsStep steps (Ok x) old new = KeepsOn old new
+  KeepsStep steps (Err fault) old new = KeepsTill steps fault old new

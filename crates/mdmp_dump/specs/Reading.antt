@@ -47,7 +47,7 @@ use Rattle.mdmp_wire.specs.declared.entry.Entry.{Entry}
 use Rattle.mdmp_lister.specs.Format.Kind.{kind_of}
 use Rattle.mdmp_dump.specs.Left.{StandBehind, IsGiven, RowGiven, left_from}
 use Rattle.mdmp_dump.specs.Name.{IsName, name_told}
-use Rattle.mdmp_dump.specs.Refusal.{ReadStep, Refuse, first_refusal, item_steps, name_steps, parts_asked, stream_steps}
+use Rattle.mdmp_dump.specs.Refusal.{ReadStep, Refuse, first_refusal, item_steps, name_steps, parts_asked, parts_in_steps, stream_steps}
 use Rattle.mdmp_source.specs.Range.{is_inside}
 use Rattle.mdmp_source.specs.declared.location.Extent.{Extent}
 use Rattle.mdmp_source.specs.declared.location.Extent.TheVariants as classes
@@ -174,7 +174,9 @@ pub record TakesSteps {S A T : Type 0} (steps : List ReadStep) (old : Reader S A
   pub same : new.lister ≡ record old.lister { source = new.lister.source; counts = new.lister.counts }
   pub fetches : Fetches result old.lister.source new.lister.source
   pub settles : (rest : List ReadStep) (last : Option ReadFault) → Settles (first_refusal old.left 0 (steps ++ rest) last) result (λ _. first_refusal new.left 0 rest last)
-  pub keeps : KeepsStep result old new
+  -- each part is read whole, by one fetch
+  pub calls : new.lister.counts.aside.calls ≤ old.lister.counts.aside.calls + parts_in_steps steps
+  pub keeps : KeepsStep steps result old new
 
 -- these are the bytes at a place inside the file
 pub record HasBytesAt (F : List ℕ) (at size : ℕ) (bytes : List ℕ) : Type 0 where
@@ -217,10 +219,14 @@ owed F left item run = refusal_in F left (steps_of (length F) item) run
 abbrev pub ListingGoesOn : ListerState → ListerState → Type 0
 ListingGoesOn old new = (new.stop ≡ None) × (new.work < old.work)
 
--- and in the entry whose Stream item was given, of the type that the item tells
+-- an item is one of those that were left, where the file is known
+abbrev pub IsOneLeft : ListerState → Item → Type 0
+IsOneLeft v item = (run : Run) → v.left ≡ Some run → (index : ℕ) × (slice_get run.items index ≡ Some item)
+
+-- and in the entry whose Stream item was given, one of the items that were left, of the type that the item tells
 abbrev pub IsGoing : ListerState → Option StreamItem → ListerState → Type 0
 IsGoing old None new = Unit {0}
-IsGoing old (Some item) new = ListingGoesOn old new × (new.current.stream_type ≡ item.stream_type)
+IsGoing old (Some item) new = ListingGoesOn old new × (new.current.stream_type ≡ item.stream_type) × IsOneLeft old (items.Stream item)
 
 -- or in the same entry, behind a record
 abbrev pub IsGoingBehind : ListerState → ListerState → Type 0
@@ -268,6 +274,11 @@ IsGoingOn old (nexts.Behind next) new = IsGoing old next new
 abbrev pub IsToldGoing : {Z : Type 0} → ListerState → Told Z → ListerState → Type 0
 IsToldGoing old (tolds.Record r name) new = IsGoingBehind old new
 IsToldGoing old (tolds.Behind next) new = IsGoing old next new
+
+-- a record that is found is the first item that was left, where the file is known: its parts ask what the item does
+abbrev pub IsFirstLeft : {Z : Type 0} → ListerState → Told Z → Type 0
+IsFirstLeft v (tolds.Record r name) = (run : Run) → v.left ≡ Some run → (item : Item) × ((slice_get run.items 0 ≡ Some item) × (item_steps v.source.size item ≡ parts_asked v.source.size r))
+IsFirstLeft v (tolds.Behind next) = Unit {0}
 
 -- this record stands at o, record k of the stream of this kind at `at`; the bytes of a 64-bit range stand at `far`
 pub record IsRecordIn (kind : StreamKind) (F : List ℕ) (at k o : ℕ) (w : AnyRecord) (far : ℕ) : Type 0 where

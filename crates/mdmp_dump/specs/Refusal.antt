@@ -1,5 +1,5 @@
 -- Why a file gives no dump, where memory suffices and its bytes are obtained.
-use Rattle.std.specs.Prelude.{ℕ, ◌+◌, List, [], ◌∷◌, ◌++◌, length, Option, Some, None, not, ◌==◌, ◌&&◌, nat_lt, if◌then◌else◌, option_map, flat_map}
+use Rattle.std.specs.Prelude.{◌≡◌, ◌≤◌, ◌<◌, ◌⊎◌, ℕ, ◌+◌, List, [], ◌∷◌, ◌++◌, length, Option, Some, None, not, ◌==◌, ◌&&◌, nat_lt, if◌then◌else◌, option_map, flat_map, slice_get}
 use Rattle.mdmp_source.specs.Extent.{extent_of}
 use Rattle.mdmp_source.specs.Range.{is_inside}
 use Rattle.mdmp_source.specs.declared.location.Location.{Location}
@@ -26,10 +26,10 @@ use Rattle.mdmp_wire.specs.declared.slot.PartName.TheVariants.{Stack, Context, C
 use Rattle.mdmp_dump.specs.declared.fault.ReadFault.{ReadFault}
 use Rattle.mdmp_dump.specs.declared.fault.ReadFault.TheVariants as faults
 
--- what an item asks of a reader: to refuse it, or to take so many bytes for the item with this entry and index
+-- what an item asks of a reader: to refuse it, or to take so many bytes at an offset, for the item with this entry and index
 pub data ReadStep : Type 0 where
   Refuse : ReadFault → ReadStep
-  Take : ℕ → ℕ → ℕ → ReadStep
+  Take : ℕ → ℕ → (offset size : ℕ) → ReadStep
 
 -- ---- names and parts, of the item with entry e and index k
 
@@ -41,7 +41,7 @@ name_steps e k _ = []
 -- a part is refused outside the file, and taken inside
 abbrev pub part_steps : ℕ → ℕ → PartName → ℕ → ℕ → Extent → List ReadStep
 part_steps e k part offset size classes.Outside = Refuse (faults.PartOutside e k part offset size) ∷ []
-part_steps e k part offset size classes.Inside = Take e k size ∷ []
+part_steps e k part offset size classes.Inside = Take e k offset size ∷ []
 part_steps e k part offset size _ = []
 
 -- the same of a part that a location of this class names
@@ -68,10 +68,14 @@ parts_asked z r = record_steps z r.entry r.index r.offset r.fields names.None
 
 -- ---- items
 
--- the bytes of a stream whose records are not known are taken, inside a file of `size` bytes
+-- bytes are taken that lie inside a file of `size` bytes
+abbrev pub inside_steps : ℕ → ℕ → Location → List ReadStep
+inside_steps size e at = if is_inside at.rva at.size size then Take e 0 at.rva at.size ∷ [] else []
+
+-- those of a stream whose records are not known
 abbrev pub stream_steps : ℕ → ℕ → ℕ → Location → List ReadStep
 stream_steps size e t at =
-    if not (t == 0) && not (is_known t) && is_inside at.rva at.size size then Take e 0 at.size ∷ [] else []
+    if not (t == 0) && not (is_known t) && is_inside at.rva at.size size then Take e 0 at.rva at.size ∷ [] else []
 
 -- what an item of a file of `size` bytes asks, the name first and then the parts in the order of its fields
 abbrev pub item_steps : ℕ → Item → List ReadStep
@@ -90,13 +94,35 @@ item_steps size (items.MemoryInfo x) = []
 item_steps size (items.ThreadName x) = name_steps x.entry x.index x.name
 item_steps size (items.Range x) = part_steps x.entry x.index Memory x.offset x.size x.extent
 
+-- how many parts some steps take
+abbrev pub parts_in_steps : List ReadStep → ℕ
+parts_in_steps [] = 0
+parts_in_steps (Refuse fault ∷ steps) = parts_in_steps steps
+parts_in_steps (Take e k offset size ∷ steps) = 1 + parts_in_steps steps
+
+-- ---- a byte
+
+-- the byte at this place is one that some of these steps take
+abbrev pub TakesByte : List ReadStep → ℕ → Type 0
+TakesByte [] at = ⊥
+TakesByte (Refuse fault ∷ steps) at = TakesByte steps at
+TakesByte (Take e k offset size ∷ steps) at = ((offset ≤ at) × (at < offset + size)) ⊎ TakesByte steps at
+
+-- one of these items of a file of z bytes asks for the byte at this place: it lies in a part that the item names, or in the stream that
+-- it begins, whose records are not known
+pub record AsksByte (given : List Item) (z at : ℕ) : Type 0 where
+  pub index : ℕ
+  pub item : Item
+  pub is : slice_get given index ≡ Some item
+  pub byte : TakesByte (item_steps z item) at
+
 -- ---- a file
 
 -- the first step that is refused, or with which more than the limit was taken in all, or else the last fault
 unfoldable pub first_refusal : ℕ → ℕ → List ReadStep → Option ReadFault → Option ReadFault
 first_refusal limit total [] last = last
 first_refusal limit total (Refuse fault ∷ steps) last = Some fault
-first_refusal limit total (Take e k size ∷ steps) last =
+first_refusal limit total (Take e k offset size ∷ steps) last =
     if nat_lt limit (total + size) then Some (faults.PartsTooLarge e k) else first_refusal limit (total + size) steps last
 
 -- the first refusal among the items of a run, or else its fault

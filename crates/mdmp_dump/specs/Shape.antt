@@ -12,6 +12,7 @@ use Rattle.mdmp_dump.specs.declared.view.Kind.{Kind}
 use Rattle.mdmp_dump.specs.declared.view.Kind.TheVariants as kinds
 use Rattle.mdmp_dump.specs.declared.view.ViewFault.{ViewFault}
 use Rattle.mdmp_dump.specs.declared.view.ViewFault.TheVariants as view
+use Rattle.mdmp_source.specs.Count.{raised}
 use Rattle.mdmp_source.specs.declared.fault.SourceFault.TheVariants.{Changed}
 use Rattle.mdmp_dump.specs.declared.dump.Stream.{Stream}
 use Rattle.mdmp_dump.specs.declared.dump.Dump.{Dump}
@@ -232,16 +233,23 @@ pub record GivesRecord (old : StreamCursor) (f : Fields) (new : StreamCursor) : 
 
 -- ---- what is spent
 
--- the costs of the passes that were begun, and how many bytes of names, parts and raw streams were asked for; and the fault
--- that was answered last
+-- the costs of the passes that were begun, and how many bytes of names, parts and raw streams were asked for; how often its source was
+-- asked to fetch, of a value never; and the fault that was answered last
 pub record Spent : Type 0 where
   pub passed : ℕ
   pub asked : ℕ
+  pub fetches : ℕ
   pub fault : Option ViewFault
 
 -- nothing was spent
 abbrev pub unspent : Spent
-unspent = record { passed = 0; asked = 0; fault = None }
+unspent = record { passed = 0; asked = 0; fetches = 0; fault = None }
+
+-- so many bytes of a part are asked for: no pass begins, and its source is asked to fetch once at most, for all of them
+pub record AsksOnce (count : ℕ) (old new : Spent) : Type 0 where
+  pub passed : new.passed ≤ old.passed
+  pub asked : new.asked ≤ old.asked + count
+  pub fetches : new.fetches ≤ raised old.fetches 1
 
 -- a call tells at this place of a file that the file has changed
 abbrev pub IsChangeAt : ℕ → ViewFault → Type 0

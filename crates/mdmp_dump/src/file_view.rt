@@ -180,7 +180,7 @@ impl<S: Store + Drop, A: Allocator + Copy> DumpView for FileView<S, A> {
 
     ghost cursor = { λ v. file_cursor A v.walk v.pass };
 
-    ghost spent = { λ v. record { passed = v.passed; asked = v.asked; fault = v.last } };
+    ghost spent = { λ v. record { passed = v.passed; asked = v.asked; fetches = v.walk.source.calls; fault = v.last } };
 
     ghost Moves = { λ u v. HasMoved u.walk u.last v.walk v.last };
 

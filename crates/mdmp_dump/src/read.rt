@@ -1,5 +1,5 @@
 //! Reading a file into a value.
-ghost use Rattle.std.specs.Prelude.{◌≡◌, ◌<◌, ℕ, List, MatchResult, None, Some, Err, IfErr, IfOk};
+ghost use Rattle.std.specs.Prelude.{◌≡◌, ◌<◌, ℕ, List, [], MatchResult, None, Some, Err, IfErr, IfOk};
 ghost use Rattle.mdmp_source.specs.Store.{IsGood};
 ghost use Rattle.mdmp_lister.specs.Format.Listing.{Numbered};
 ghost use Rattle.mdmp_lister.specs.Meter.{IsBooked, KeepsTo};
@@ -8,7 +8,7 @@ ghost use Rattle.mdmp_dump.specs.Keeping.{KeepsStep, KeepsReading};
 ghost use Rattle.mdmp_dump.specs.LaysOut.{AreStreams, LaysOut};
 ghost use Rattle.mdmp_dump.specs.Left.{is_item_of, left_from, run_of};
 ghost use Rattle.mdmp_dump.specs.Reading.{Fetches, IsEntryRead, IsGoing, IsOfType, IsOneStream, IsRaw, IsReadRefusal, IsWithoutBudget, OpensWithin, Settles, TellsLimit, TellsOf, owed, read_within, refusal_of, store_fault};
-ghost use Rattle.mdmp_dump.specs.Refusal.{read_refusal};
+ghost use Rattle.mdmp_dump.specs.Refusal.{inside_steps, read_refusal, stream_steps};
 
 use crate::dump::{Dump, Stream};
 use crate::exception::Exception;
@@ -88,6 +88,8 @@ pub fn read_source<S: Store + Drop, A: Allocator + Copy>(
     ensures keeps { KeepsReading choice limits parts result.answer source result.source }
     ensures unbudgeted { limits.budget ≡ None → IfErr result.answer IsWithoutBudget }
 {
+    // The proof learns here that the size is that of the content.
+    let _size = source.size();
     let all = matches!(&choice, Choice::All);
     let lister = match Lister::open(alloc, source, limits, choice) {
         Ok(lister) => lister,
@@ -177,7 +179,7 @@ fn read_streams<S: Store + Drop, A: Allocator + Copy>(
 ) -> Result<Records<Stream<A>, A>, ReadFault>
     requires { reader.old.lister.stop ≡ None }
     ensures fetches { Fetches result reader.old.lister.source reader.new.lister.source }
-    ensures keeps { KeepsStep result reader.old reader.new }
+    ensures keeps { KeepsStep [] result reader.old reader.new }
     ensures of_file { (file : List ℕ) (limit : ℕ) (xs : List Numbered) → reader.old.lister.source.store.content ≡ Some file
         → reader.old.lister.left ≡ Some (run_of file limit xs)
         → IfOk result (AreStreams file xs) × Settles (owed file reader.old.left None reader.old.lister.left) result (λ _. None) }
@@ -206,7 +208,7 @@ fn read_stream<S: Store + Drop, A: Allocator + Copy>(
 ) -> Result<(Option<Stream<A>>, Option<StreamItem>), ReadFault>
     requires { reader.old.lister.stop ≡ None }
     ensures fetches { Fetches result reader.old.lister.source reader.new.lister.source }
-    ensures keeps { KeepsStep result reader.old reader.new }
+    ensures keeps { KeepsStep (stream_steps reader.old.lister.source.size item.entry item.stream_type item.location) result reader.old reader.new }
     ensures going { IfOk result (λ r. IsGoing reader.old.lister r.1 reader.new.lister) }
     ensures of_file { (file : List ℕ) (limit : ℕ) (x : Numbered) (xs : List Numbered) → reader.old.lister.source.store.content ≡ Some file
         → reader.old.lister.left ≡ Some (left_from file limit x 0 xs) → item ≡ is_item_of x → IsOfType reader.old.lister item.stream_type
@@ -265,7 +267,7 @@ fn read_raw<S: Store + Drop, A: Allocator + Copy>(
 ) -> Result<(Option<Stream<A>>, Option<StreamItem>), ReadFault>
     requires { reader.old.lister.stop ≡ None }
     ensures fetches { Fetches result reader.old.lister.source reader.new.lister.source }
-    ensures keeps { KeepsStep result reader.old reader.new }
+    ensures keeps { KeepsStep (inside_steps reader.old.lister.source.size item.entry item.location) result reader.old reader.new }
     ensures going { IfOk result (λ r. IsGoing reader.old.lister r.1 reader.new.lister) }
     ensures of_file { (file : List ℕ) (limit : ℕ) (x : Numbered) (xs : List Numbered) → reader.old.lister.source.store.content ≡ Some file
         → reader.old.lister.left ≡ Some (left_from file limit x 0 xs) → item ≡ is_item_of x → IsRaw x.entry.stream_type

@@ -19,6 +19,7 @@ ghost use Rattle.mdmp_dump.specs.Reading.{
   HasBytesAt,
   HasOneRecord,
   IsEntryRead,
+  IsFirstLeft,
   IsFoundOrBehind,
   IsGoing,
   IsGoingOn,
@@ -83,7 +84,7 @@ impl<S: Store + Drop, A: Allocator + Copy> Reader<S, A> {
     ) -> Result<Bytes<A>, ReadFault>
         requires inside { IsInside at size self.old.lister.source.size }
         requires sized { IsSizeOf self.old.lister.source.store.content self.old.lister.source.size }
-        ensures takes { TakesSteps (Take place.entry place.index size ∷ []) self.old result self.new }
+        ensures takes { TakesSteps (Take place.entry place.index at size ∷ []) self.old result self.new }
         ensures of_file { (file : List ℕ) → self.old.lister.source.store.content ≡ Some file → IfOk result (HasBytesAt file at size) }
     {
         if size > self.left {
@@ -206,7 +207,7 @@ impl<S: Store + Drop, A: Allocator + Copy> Reader<S, A> {
     pub(crate) fn behind(&mut self) -> Result<Option<StreamItem>, ReadFault>
         requires { self.old.lister.stop ≡ None }
         ensures fetches { Fetches result self.old.lister.source self.new.lister.source }
-        ensures keeps { KeepsStep result self.old self.new }
+        ensures keeps { KeepsStep [] result self.old self.new }
         ensures going { IfOk result (λ next. IsGoing self.old.lister next self.new.lister) }
         ensures gives { (file : List ℕ) (run : Run) → self.old.lister.source.store.content ≡ Some file → self.old.lister.left ≡ Some run → NoRowFirst run
             → IfOk result (λ next. IsNextStream run next self.new.lister.left) × Settles (owed file self.old.left None self.old.lister.left) result (λ next. owed file self.new.left next self.new.lister.left) }
@@ -223,8 +224,9 @@ impl<S: Store + Drop, A: Allocator + Copy> Reader<S, A> {
     fn find(&mut self) -> Result<Told<A>, ReadFault>
         requires { self.old.lister.stop ≡ None }
         ensures fetches { Fetches result self.old.lister.source self.new.lister.source }
-        ensures keeps { KeepsStep result self.old self.new }
+        ensures keeps { KeepsStep [] result self.old self.new }
         ensures left { self.new.left ≡ self.old.left }
+        ensures first { IfOk result (IsFirstLeft self.old.lister) }
         ensures of_file { (file : List ℕ) (limit : ℕ) (x : Numbered) (k : ℕ) (xs : List Numbered) (kind : StreamKind) → self.old.lister.source.store.content ≡ Some file
             → self.old.lister.left ≡ Some (left_from file limit x k xs) → kind_of x.entry.stream_type ≡ Some kind → IsOfType self.old.lister x.entry.stream_type
             → IfOk result (λ told. IsFoundOrBehind file limit x k xs kind told self.new.lister.left)
@@ -243,7 +245,7 @@ impl<S: Store + Drop, A: Allocator + Copy> Reader<S, A> {
     fn next<T: Row<A>>(&mut self) -> Result<Next<T>, ReadFault>
         requires { self.old.lister.stop ≡ None }
         ensures fetches { Fetches result self.old.lister.source self.new.lister.source }
-        ensures keeps { KeepsStep result self.old self.new }
+        ensures keeps { KeepsStep [] result self.old self.new }
         ensures going { IfOk result (λ next. IsGoingOn self.old.lister next self.new.lister) }
         ensures of_file { (file : List ℕ) (limit : ℕ) (x : Numbered) (k : ℕ) (xs : List Numbered) → self.old.lister.source.store.content ≡ Some file
             → self.old.lister.left ≡ Some (left_from file limit x k xs) → kind_of x.entry.stream_type ≡ Some T.kind → IsOfType self.old.lister x.entry.stream_type
@@ -271,7 +273,7 @@ impl<S: Store + Drop, A: Allocator + Copy> Reader<S, A> {
     ) -> Result<(Records<T, A>, Option<StreamItem>), ReadFault>
         requires { self.old.lister.stop ≡ None }
         ensures fetches { Fetches result self.old.lister.source self.new.lister.source }
-        ensures keeps { KeepsStep result self.old self.new }
+        ensures keeps { KeepsStep [] result self.old self.new }
         ensures going { IfOk result (λ r. IsGoing self.old.lister r.1 self.new.lister) }
         ensures of_file { (file : List ℕ) (limit : ℕ) (x : Numbered) (xs : List Numbered) → self.old.lister.source.store.content ≡ Some file
             → self.old.lister.left ≡ Some (left_from file limit x 0 xs) → kind_of x.entry.stream_type ≡ Some T.kind → IsOfType self.old.lister x.entry.stream_type
@@ -298,7 +300,7 @@ impl<S: Store + Drop, A: Allocator + Copy> Reader<S, A> {
     pub(crate) fn single<T: Row<A>>(&mut self) -> Result<(Option<T>, Option<StreamItem>), ReadFault>
         requires { self.old.lister.stop ≡ None }
         ensures fetches { Fetches result self.old.lister.source self.new.lister.source }
-        ensures keeps { KeepsStep result self.old self.new }
+        ensures keeps { KeepsStep [] result self.old self.new }
         ensures going { IfOk result (λ r. IsGoing self.old.lister r.1 self.new.lister) }
         ensures of_file { (file : List ℕ) (limit : ℕ) (x : Numbered) (xs : List Numbered) → self.old.lister.source.store.content ≡ Some file
             → self.old.lister.left ≡ Some (left_from file limit x 0 xs) → kind_of x.entry.stream_type ≡ Some T.kind → IsOfType self.old.lister x.entry.stream_type → HasOneRecord file x T.kind

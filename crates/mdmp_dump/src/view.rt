@@ -69,7 +69,7 @@ pub enum Kind {
 // No condition of a call is stated by what the view gives: of a view of a file that may be unknown.
 pub trait DumpView {
     ghost use Rattle.std.specs.Prelude.{◌≡◌, ◌<◌, ◌≤◌, ◌+◌, ℕ, List, [], Some, length, take, drop, get_or, IfErr, IfOk, IsTrue, OnOk};
-    ghost use Rattle.mdmp_dump.specs.Shape.{AreOfTheirKinds, begun, body_of, cost_at, place_at, StreamCursor, GivesRecord, HaveNoStrayParts, IsShapeOfSeen, IsToldAt, ViewShape, Spent, stream_at, told};
+    ghost use Rattle.mdmp_dump.specs.Shape.{AreOfTheirKinds, AsksOnce, begun, body_of, cost_at, place_at, StreamCursor, GivesRecord, HaveNoStrayParts, IsShapeOfSeen, IsToldAt, ViewShape, Spent, stream_at, told};
     ghost use Rattle.mdmp_dump.specs.View.{DumpSeen};
 
     /// The memory of a value that this may be a view of.
@@ -157,15 +157,14 @@ pub trait DumpView {
 
     /// The bytes of a part from a place on, as many as fit `out`: of the record given last the part of
     /// this index among its `parts`, a name's being its units; of a stream of raw bytes that was just
-    /// begun these, as part 0.
+    /// begun these, as part 0. A file is asked for all of them by one fetch.
     fn part(&mut self, which: usize, at: u64, out: &mut [u8]) -> Result<(), ViewFault>
         requires { at + length out.old ≤ (cursor self.old).sizes which }
         ensures shape { shape self.new ≡ shape self.old }
         ensures cursor { OnOk result (cursor self.new ≡ cursor self.old) }
         ensures bytes { OnOk result ((parts : List (List ℕ)) → (cursor self.old).parts ≡ Some parts
             → out.new ≡ take (length out.old) (drop at (get_or parts which []))) }
-        ensures passed { (spent self.new).passed ≤ (spent self.old).passed }
-        ensures asked { (spent self.new).asked ≤ (spent self.old).asked + length out.old }
+        ensures spends { AsksOnce (length out.old) (spent self.old) (spent self.new) }
         ensures told { IfErr result (IsToldAt (cursor self.old).at (spent self.new)) }
         ensures moves { Moves self.old self.new }
         ensures reliable { IsTrue (shape self.old).is_reliable → IfErr result (λ _. ⊥) };

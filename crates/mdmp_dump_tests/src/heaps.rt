@@ -1,6 +1,7 @@
 //! What large files take of a heap that are read into values, or opened as views: the bytes that docs/promises.md tells,
 //! each once, and with a limit that is a byte too small only what is taken before it is tested.
 use crate::dump::built::read_chosen;
+use crate::files::choice_of;
 use crate::same::assert_same_at;
 use crate::writer::{patchy_out, stored_size, write_view};
 use mdmp_dump::{FileView, MemoryRange, ReadFault, Stream, Thread};
@@ -194,6 +195,21 @@ fn value_takes_its_lists_and_parts_and_what_its_lister_does(rt: HostRuntime) {
         assert_value(&rt, rt.alloc(), number, row);
         number = number.saturating_add(1);
     }
+}
+
+/// Of 5,000 entries none is chosen. How many are is not known before they are listed, so a list of streams for all
+/// of them would be 5,000 too long.
+#[test]
+fn value_of_no_chosen_entry_takes_no_list_of_streams(rt: HostRuntime) {
+    let file = one_stream_file(rt.alloc(), MANY_ENTRIES).expect(&rt, "memory for a file");
+    let heap = MeteredHeap::new(rt.alloc(), Refusal::Never);
+    let limits = Limits::new(168, 0).expect(&rt, "limits");
+    let streams = match read_chosen(&heap, &file, limits, choice_of(&rt, &[4]), 0) {
+        Ok(dump) => Ok(dump.streams.as_slice().len() as u64),
+        Err(fault) => Err(fault),
+    };
+    let expected = (Ok(0), HeapCounts::once(168 + 12 * 5000, 2));
+    assert_same_at(&rt, &0usize, (streams, heap.counts()), expected);
 }
 
 /// A file of which a view is opened through a window of so many bytes, what it takes, W + 24s bytes, and how many bytes

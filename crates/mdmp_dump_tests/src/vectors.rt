@@ -11,6 +11,25 @@ pub const REGION: [u32; 19] = [
     4096, 0, 4096, 0, 4, 0, 8192, 0, 4096, 4, 131072, 0,
 ];
 
+/// The value of a thread and an exception.
+const CRASH_VALUE: &str =
+    "Dump { version_high: 0, checksum: 0, time: 0, flags: 0, streams: [Threads([Thread { thread_id: 7, \
+suspend_count: 0, priority_class: 32, priority: 0, teb: 20480, stack_start: 28672, stack: Bytes([83, \
+84, 65, 75]), context: Bytes([1, 2, 3, 4, 5, 6]) }]), Exception(Exception { thread_id: 7, \
+exception_code: 3221225477, exception_flags: 0, exception_record: 0, exception_address: 4198400, \
+number_parameters: 2, exception_information: [1, 16, 0, 0, 0, 0, 0, 0, 0, 0, 0, 0, 0, 0, 0], \
+context: Bytes([170, 187, 204, 221]) })] }";
+
+/// The value of a name of a thread, and the file that it is written as.
+const NAMED_THREAD_VALUE: &str =
+    "Dump { version_high: 0, checksum: 0, time: 0, flags: 0, streams: [ThreadNames([ThreadName { \
+thread_id: 7, name: Some(\"abcd\") }])] }";
+
+const NAMED_THREAD_FILE: Sample<'static> = Sample::Numbers(
+    1,
+    &[24, 16, 44, 1, 7, 60, 0, 8, 0x00620061, 0x00640063, 0],
+);
+
 /// A file that is read, its value as it is printed, and what is written of that.
 #[derive(Clone, Copy)]
 pub struct Vector {
@@ -89,12 +108,7 @@ Absent(PositiveSize { size: 256 }), context: Bytes([170]) }])] }",
     },
     Vector {
         reading: CRASH_READING,
-        value: "Dump { version_high: 0, checksum: 0, time: 0, flags: 0, streams: [Threads([Thread { thread_id: 7, \
-suspend_count: 0, priority_class: 32, priority: 0, teb: 20480, stack_start: 28672, stack: Bytes([83, \
-84, 65, 75]), context: Bytes([1, 2, 3, 4, 5, 6]) }]), Exception(Exception { thread_id: 7, \
-exception_code: 3221225477, exception_flags: 0, exception_record: 0, exception_address: 4198400, \
-number_parameters: 2, exception_information: [1, 16, 0, 0, 0, 0, 0, 0, 0, 0, 0, 0, 0, 0, 0], \
-context: Bytes([170, 187, 204, 221]) })] }",
+        value: CRASH_VALUE,
         written: CRASH_FILE,
     },
     Vector {
@@ -307,9 +321,8 @@ base_of_image: 4096, size_of_image: 512, checksum: 1, time_date_stamp: 2, name: 
             limits: NAMED,
             parts: 0,
         },
-        value: "Dump { version_high: 0, checksum: 0, time: 0, flags: 0, streams: [ThreadNames([ThreadName { \
-thread_id: 7, name: Some(\"abcd\") }])] }",
-        written: Sample::Numbers(1, &[24, 16, 44, 1, 7, 60, 0, 8, 0x00620061, 0x00640063, 0]),
+        value: NAMED_THREAD_VALUE,
+        written: NAMED_THREAD_FILE,
     },
     Vector {
         reading: DumpReading {
@@ -319,9 +332,8 @@ thread_id: 7, name: Some(\"abcd\") }])] }",
             limits: NAMED,
             parts: 0,
         },
-        value: "Dump { version_high: 0, checksum: 0, time: 0, flags: 0, streams: [ThreadNames([ThreadName { \
-thread_id: 7, name: Some(\"abcd\") }])] }",
-        written: Sample::Numbers(1, &[24, 16, 44, 1, 7, 60, 0, 8, 0x00620061, 0x00640063, 0]),
+        value: NAMED_THREAD_VALUE,
+        written: NAMED_THREAD_FILE,
     },
     Vector {
         reading: DumpReading {
@@ -370,12 +382,7 @@ context: Bytes([170, 187, 204, 221]) }), Memory([]), Raw(12, [1, 2, 3, 4])] }",
             limits: LEAST,
             parts: 14,
         },
-        value: "Dump { version_high: 0, checksum: 0, time: 0, flags: 0, streams: [Threads([Thread { thread_id: 7, \
-suspend_count: 0, priority_class: 32, priority: 0, teb: 20480, stack_start: 28672, stack: Bytes([83, \
-84, 65, 75]), context: Bytes([1, 2, 3, 4, 5, 6]) }]), Exception(Exception { thread_id: 7, \
-exception_code: 3221225477, exception_flags: 0, exception_record: 0, exception_address: 4198400, \
-number_parameters: 2, exception_information: [1, 16, 0, 0, 0, 0, 0, 0, 0, 0, 0, 0, 0, 0, 0], \
-context: Bytes([170, 187, 204, 221]) })] }",
+        value: CRASH_VALUE,
         written: CRASH_FILE,
     },
 ];

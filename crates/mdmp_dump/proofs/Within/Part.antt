@@ -39,7 +39,7 @@ module _ {Z : Type 0} (F : List ℕ) (at : Location) (e k : ℕ) (name : PartNam
   part_taken classes.Inside part is names =
       let same : parts.Bytes (array_at F at.rva at.size) ≡ part = cc (names) in
       let size : at.size ≡ part_size part = sym (length-array_at F at.rva at.size (extent-inside at (length F) is)) ∙ ap part_size same in
-      subst (λ (n : ℕ). IsTaken (location_steps e k name at classes.Inside) n) size (one_taken e k at.size)
+      subst (λ (n : ℕ). IsTaken (location_steps e k name at classes.Inside) n) size (one_taken e k at.rva at.size)
   part_taken classes.Outside part is names = absurd (cc (names))
 
   -- the part that a location names
@@ -54,4 +54,4 @@ range_taken z e k name offset size inside = by (size == 0) (is_inside offset siz
   by true inside is within =
       let zero : size ≡ 0 = grind (arith, nat_tests) in
       rw zero none_taken
-  by false inside is within = rw within (one_taken e k size)
+  by false inside is within = rw within (one_taken e k offset size)

@@ -53,7 +53,7 @@ module _ {X : Type 0} (F : List ℕ) (limit e at : ℕ) (kind : StreamKind) (IsA
 -- a stream of a known kind is not asked for as bytes
 known_unasked : (size e t : ℕ) (at : Location) (kind : StreamKind) → kind_of t ≡ Some kind → stream_steps size e t at ≡ []
 known_unasked size e t at kind known = rw known (by (not (t == 0)) (is_inside at.rva at.size size)) where
-  by : (used inside : Bool) → (if used && false && inside then Take e 0 at.size ∷ [] else []) ≡ []
+  by : (used inside : Bool) → (if used && false && inside then Take e 0 at.rva at.size ∷ [] else []) ≡ []
   by true inside = refl
   by false inside = refl
 
@@ -92,7 +92,7 @@ pub raw_taken : (F : List ℕ) (limit e : ℕ) (at : Location) (t : ℕ) (bytes 
     → IsRunTaken (length F) (entry_listing F limit (record { number = e; entry = record { stream_type = t; location = at } })) (length bytes)
 raw_taken F limit e at t bytes has =
     let entry : Numbered = record { number = e; entry = record { stream_type = t; location = at } } in
-    let asked : IsTaken (item_steps (length F) (stream_item entry)) at.size = rw (has.used, has.opaque, has.inside) (one_taken e 0 at.size) in
+    let asked : IsTaken (item_steps (length F) (stream_item entry)) at.size = rw (has.used, has.opaque, has.inside) (one_taken e 0 at.rva at.size) in
     let behind : IsRunTaken (length F) (entry_body F limit entry) 0 = rw (inside_placed t at (length F) has.inside, has.opaque) nothing_taken in
     let size : length bytes ≡ at.size = ap length (sym has.bytes_are) ∙ length-array_at F at.rva at.size has.inside in
     let total : at.size + 0 ≡ length bytes = omega (arith, size) in

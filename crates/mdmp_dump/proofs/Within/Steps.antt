@@ -13,8 +13,8 @@ pub record IsTaken (steps : List ReadStep) (bytes : ℕ) : Type 0 where
 pub none_taken : IsTaken [] 0
 none_taken = record { taken = λ left rest last room. let same : left ≡ left - 0 = omega arith in ap (λ n. first_refusal n 0 rest last) same }
 
-pub one_taken : (e k size : ℕ) → IsTaken (Take e k size ∷ []) size
-one_taken e k size = record { taken = λ left rest last room. take-taken left e k size rest last room }
+pub one_taken : (e k offset size : ℕ) → IsTaken (Take e k offset size ∷ []) size
+one_taken e k offset size = record { taken = λ left rest last room. take-taken left e k offset size rest last room }
 
 pub both_taken : {a b : List ReadStep} {m n : ℕ} → IsTaken a m → IsTaken b n → IsTaken (a ++ b) (m + n)
 both_taken {a = a} {b = b} {m = m} {n = n} first next = record {

@@ -38,7 +38,7 @@ impl DumpView for SizesView {
 
     ghost cursor = { λ v. record { kind = kinds.Unused; records = 1; room = 0; far = 0; bytes = 0; seen = None; sizes = λ k. 0; parts = None; at = 0 } };
 
-    ghost spent = { λ v. record { passed = 0; asked = 0; fault = Some (Source (Failed 0)) } };
+    ghost spent = { λ v. record { passed = 0; asked = 0; fetches = 0; fault = Some (Source (Failed 0)) } };
 
     ghost Moves = { λ u v. Unit {0} };
 

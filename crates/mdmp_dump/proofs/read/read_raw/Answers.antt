@@ -1,7 +1,8 @@
 use Rattle.std.proofs.Common.{◌∙◌, Err, Ok, sym}
-use Rattle.mdmp_dump.proofs.Keeping.{keeps_err, keeps_then}
-use Rattle.mdmp_dump.proofs.Streams.{RawTaken, raw_going, raw_left, raw_read, raw_taken, raw_untaken}
-use Rattle.mdmp_dump.proofs.Taking.{fetches_err, fetches_ok, refused_by}
+use Rattle.mdmp_dump.specs.Refusal.{inside_steps}
+use Rattle.mdmp_dump.proofs.Keeping.{keeps_any, keeps_err, keeps_then}
+use Rattle.mdmp_dump.proofs.Streams.{RawTaken, inside_untaken, raw_going, raw_left, raw_read, raw_taken, raw_untaken}
+use Rattle.mdmp_dump.proofs.Taking.{Fetches_as, fetches_err, fetches_ok, refused_by}
 use Rattle.mdmp_dump.proofs.read.read_raw.Goals as goal
 use Rattle.mdmp_dump.proofs.read.read_raw.Goals.{else-inside, then-inside+in_ok-bytes}
 
@@ -100,7 +101,19 @@ returns-in_err-behind-clause-keeps g c =
     ] in
     let fault = c.in_err-behind.field-0.0 in
     let is = refused_by c.from_residual-in_err-behind.result fault c.from_residual-in_err-behind.ensures.1 in
-    rw is (keeps_err old mid c.behind.new.self taken.keeps fault c.in_err-behind.ensures.keeps)
+    rw is (keeps_any (inside_steps old.lister.source.size item.entry item.location) fault old c.behind.new.self (keeps_err old mid c.behind.new.self taken.keeps fault c.in_err-behind.ensures.keeps))
+
+pub returns-in_err-bytes-clause-fetches : goal.returns-in_err-bytes-clause-fetches
+returns-in_err-bytes-clause-fetches g c =
+    let fault = c.in_err-bytes.field-0.0 in
+    let is = refused_by c.from_residual.result fault c.from_residual.ensures.1 in
+    rw is (Fetches_as fault c.args.reader.now.lister.source c.bytes.new.self.lister.source c.in_err-bytes.ensures.takes.fetches)
+
+pub returns-in_err-bytes-clause-keeps : goal.returns-in_err-bytes-clause-keeps
+returns-in_err-bytes-clause-keeps g c =
+    let fault = c.in_err-bytes.field-0.0 in
+    let is = refused_by c.from_residual.result fault c.from_residual.ensures.1 in
+    rw is (inside_untaken c.args.reader.now c.bytes.new.self c.args.item c.from-at.result c.from-size.result c.from-at.ensures c.from-size.ensures c.size.result c.size.ensures.value (sym c.inside.ensures.value ∙ c.if-inside.true) fault c.in_err-bytes.ensures.takes.keeps)
 
 pub returns-in_err-bytes-clause-of_file : goal.returns-in_err-bytes-clause-of_file
 returns-in_err-bytes-clause-of_file g c =

@@ -107,7 +107,7 @@ returns-in-Err-clause-keeps g c =
 pub returns-in-Ok-read_streams-clause-keeps : goal.returns-in-Ok-read_streams-clause-keeps
 returns-in-Ok-read_streams-clause-keeps g c =
     let opened = c.in-Ok.ensures.new in
-    reading_keeps c.args.choice c.args.limits c.args.parts c.args.source _ c.read_streams.new.reader c.source_of.result opened refl c.source_of.ensures.value c.source_of.ensures.booked c.source_of.ensures.kept _
+    reading_keeps c.args.choice c.args.limits c.args.parts c.args.source _ c.read_streams.new.reader c.source_of.result opened refl (λ file known. (let size = rw known at c.size-size.ensures.content in sym c.size-size.ensures.value ∙ size)) c.source_of.ensures.value c.source_of.ensures.booked c.source_of.ensures.kept _
     c.in-Ok-read_streams.ensures.keeps
 
 pub returns-in-Err-read_streams-clause-keeps : goal.returns-in-Err-read_streams-clause-keeps
@@ -115,5 +115,5 @@ returns-in-Err-read_streams-clause-keeps g c =
     let opened = c.in-Ok.ensures.new in
     let ended = c.source_of-in-Err-read_streams.ensures in
     rw c.told_within.ensures
-    (reading_ends c.args.choice c.args.limits c.args.parts c.args.source _ c.read_streams.new.reader c.source_of-in-Err-read_streams.result opened refl ended.value ended.booked ended.kept
+    (reading_ends c.args.choice c.args.limits c.args.parts c.args.source _ c.read_streams.new.reader c.source_of-in-Err-read_streams.result opened refl (λ file known. (let size = rw known at c.size-size.ensures.content in sym c.size-size.ensures.value ∙ size)) ended.value ended.booked ended.kept
     c.in-Err-read_streams.fault c.in-Err-read_streams.ensures.keeps)

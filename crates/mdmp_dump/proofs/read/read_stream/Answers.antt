@@ -13,6 +13,7 @@ use Rattle.mdmp_dump.specs.Exception.{IsException}
 use Rattle.mdmp_dump.specs.System.{IsSystem}
 use Rattle.mdmp_dump.proofs.Streams.{one_single, stream_read, stream_refused, unused_read}
 use Rattle.std.proofs.lemmas.Result.{IfOk-from_err}
+use Rattle.mdmp_dump.proofs.Keeping.{keeps_any}
 use Rattle.mdmp_dump.proofs.Taking.{Fetches_as, Fetches_only, refused_by}
 use Rattle.mdmp_dump.proofs.read.read_stream.Goals as goal
 
@@ -338,7 +339,7 @@ returns-in_err-regions-in-16-clause-of_file g c =
 pub returns-in_err-next-in-0-clause-keeps : goal.returns-in_err-next-in-0-clause-keeps
 returns-in_err-next-in-0-clause-keeps g c =
     let fault = c.in_err-next-in-0.field-0.0 in
-    rw (refused_by c.from_residual.result fault c.from_residual.ensures.1) (c.in_err-next-in-0.ensures.keeps)
+    rw (refused_by c.from_residual.result fault c.from_residual.ensures.1) (keeps_any _ fault c.args.reader.now _ c.in_err-next-in-0.ensures.keeps)
 
 pub returns-in_ok-next-in-0-clause-keeps : goal.returns-in_ok-next-in-0-clause-keeps
 returns-in_ok-next-in-0-clause-keeps g c = c.in_ok-next-in-0.ensures.keeps
@@ -346,7 +347,7 @@ returns-in_ok-next-in-0-clause-keeps g c = c.in_ok-next-in-0.ensures.keeps
 pub returns-in_err-threads-in-3-clause-keeps : goal.returns-in_err-threads-in-3-clause-keeps
 returns-in_err-threads-in-3-clause-keeps g c =
     let fault = c.in_err-threads-in-3.field-0.0 in
-    rw (refused_by c.from_residual-in_err-threads-in-3.result fault c.from_residual-in_err-threads-in-3.ensures.1) (c.in_err-threads-in-3.ensures.keeps)
+    rw (refused_by c.from_residual-in_err-threads-in-3.result fault c.from_residual-in_err-threads-in-3.ensures.1) (keeps_any _ fault c.args.reader.now _ c.in_err-threads-in-3.ensures.keeps)
 
 pub returns-in_ok-threads-in-3-clause-keeps : goal.returns-in_ok-threads-in-3-clause-keeps
 returns-in_ok-threads-in-3-clause-keeps g c = c.in_ok-threads-in-3.ensures.keeps
@@ -354,7 +355,7 @@ returns-in_ok-threads-in-3-clause-keeps g c = c.in_ok-threads-in-3.ensures.keeps
 pub returns-in_err-modules-in-4-clause-keeps : goal.returns-in_err-modules-in-4-clause-keeps
 returns-in_err-modules-in-4-clause-keeps g c =
     let fault = c.in_err-modules-in-4.field-0.0 in
-    rw (refused_by c.from_residual-in_err-modules-in-4.result fault c.from_residual-in_err-modules-in-4.ensures.1) (c.in_err-modules-in-4.ensures.keeps)
+    rw (refused_by c.from_residual-in_err-modules-in-4.result fault c.from_residual-in_err-modules-in-4.ensures.1) (keeps_any _ fault c.args.reader.now _ c.in_err-modules-in-4.ensures.keeps)
 
 pub returns-in_ok-modules-in-4-clause-keeps : goal.returns-in_ok-modules-in-4-clause-keeps
 returns-in_ok-modules-in-4-clause-keeps g c = c.in_ok-modules-in-4.ensures.keeps
@@ -362,7 +363,7 @@ returns-in_ok-modules-in-4-clause-keeps g c = c.in_ok-modules-in-4.ensures.keeps
 pub returns-in_err-ranges-in-5-clause-keeps : goal.returns-in_err-ranges-in-5-clause-keeps
 returns-in_err-ranges-in-5-clause-keeps g c =
     let fault = c.in_err-ranges-in-5.field-0.0 in
-    rw (refused_by c.from_residual-in_err-ranges-in-5.result fault c.from_residual-in_err-ranges-in-5.ensures.1) (c.in_err-ranges-in-5.ensures.keeps)
+    rw (refused_by c.from_residual-in_err-ranges-in-5.result fault c.from_residual-in_err-ranges-in-5.ensures.1) (keeps_any _ fault c.args.reader.now _ c.in_err-ranges-in-5.ensures.keeps)
 
 pub returns-in_ok-ranges-in-5-clause-keeps : goal.returns-in_ok-ranges-in-5-clause-keeps
 returns-in_ok-ranges-in-5-clause-keeps g c = c.in_ok-ranges-in-5.ensures.keeps
@@ -370,7 +371,7 @@ returns-in_ok-ranges-in-5-clause-keeps g c = c.in_ok-ranges-in-5.ensures.keeps
 pub returns-in_err-exception-in-6-clause-keeps : goal.returns-in_err-exception-in-6-clause-keeps
 returns-in_err-exception-in-6-clause-keeps g c =
     let fault = c.in_err-exception-in-6.field-0.0 in
-    rw (refused_by c.from_residual-in_err-exception-in-6.result fault c.from_residual-in_err-exception-in-6.ensures.1) (c.in_err-exception-in-6.ensures.keeps)
+    rw (refused_by c.from_residual-in_err-exception-in-6.result fault c.from_residual-in_err-exception-in-6.ensures.1) (keeps_any _ fault c.args.reader.now _ c.in_err-exception-in-6.ensures.keeps)
 
 pub returns-in_ok-exception-in-6-clause-keeps : goal.returns-in_ok-exception-in-6-clause-keeps
 returns-in_ok-exception-in-6-clause-keeps g c = c.in_ok-exception-in-6.ensures.keeps
@@ -378,7 +379,7 @@ returns-in_ok-exception-in-6-clause-keeps g c = c.in_ok-exception-in-6.ensures.k
 pub returns-in_err-system-in-7-clause-keeps : goal.returns-in_err-system-in-7-clause-keeps
 returns-in_err-system-in-7-clause-keeps g c =
     let fault = c.in_err-system-in-7.field-0.0 in
-    rw (refused_by c.from_residual-in_err-system-in-7.result fault c.from_residual-in_err-system-in-7.ensures.1) (c.in_err-system-in-7.ensures.keeps)
+    rw (refused_by c.from_residual-in_err-system-in-7.result fault c.from_residual-in_err-system-in-7.ensures.1) (keeps_any _ fault c.args.reader.now _ c.in_err-system-in-7.ensures.keeps)
 
 pub returns-in_ok-system-in-7-clause-keeps : goal.returns-in_ok-system-in-7-clause-keeps
 returns-in_ok-system-in-7-clause-keeps g c = c.in_ok-system-in-7.ensures.keeps
@@ -386,7 +387,7 @@ returns-in_ok-system-in-7-clause-keeps g c = c.in_ok-system-in-7.ensures.keeps
 pub returns-in_err-ranges-in-9-clause-keeps : goal.returns-in_err-ranges-in-9-clause-keeps
 returns-in_err-ranges-in-9-clause-keeps g c =
     let fault = c.in_err-ranges-in-9.field-0.0 in
-    rw (refused_by c.from_residual-in_err-ranges-in-9.result fault c.from_residual-in_err-ranges-in-9.ensures.1) (c.in_err-ranges-in-9.ensures.keeps)
+    rw (refused_by c.from_residual-in_err-ranges-in-9.result fault c.from_residual-in_err-ranges-in-9.ensures.1) (keeps_any _ fault c.args.reader.now _ c.in_err-ranges-in-9.ensures.keeps)
 
 pub returns-in_ok-ranges-in-9-clause-keeps : goal.returns-in_ok-ranges-in-9-clause-keeps
 returns-in_ok-ranges-in-9-clause-keeps g c = c.in_ok-ranges-in-9.ensures.keeps
@@ -394,7 +395,7 @@ returns-in_ok-ranges-in-9-clause-keeps g c = c.in_ok-ranges-in-9.ensures.keeps
 pub returns-in_err-modules-in-14-clause-keeps : goal.returns-in_err-modules-in-14-clause-keeps
 returns-in_err-modules-in-14-clause-keeps g c =
     let fault = c.in_err-modules-in-14.field-0.0 in
-    rw (refused_by c.from_residual-in_err-modules-in-14.result fault c.from_residual-in_err-modules-in-14.ensures.1) (c.in_err-modules-in-14.ensures.keeps)
+    rw (refused_by c.from_residual-in_err-modules-in-14.result fault c.from_residual-in_err-modules-in-14.ensures.1) (keeps_any _ fault c.args.reader.now _ c.in_err-modules-in-14.ensures.keeps)
 
 pub returns-in_ok-modules-in-14-clause-keeps : goal.returns-in_ok-modules-in-14-clause-keeps
 returns-in_ok-modules-in-14-clause-keeps g c = c.in_ok-modules-in-14.ensures.keeps
@@ -402,7 +403,7 @@ returns-in_ok-modules-in-14-clause-keeps g c = c.in_ok-modules-in-14.ensures.kee
 pub returns-in_err-regions-in-16-clause-keeps : goal.returns-in_err-regions-in-16-clause-keeps
 returns-in_err-regions-in-16-clause-keeps g c =
     let fault = c.in_err-regions-in-16.field-0.0 in
-    rw (refused_by c.from_residual-in_err-regions-in-16.result fault c.from_residual-in_err-regions-in-16.ensures.1) (c.in_err-regions-in-16.ensures.keeps)
+    rw (refused_by c.from_residual-in_err-regions-in-16.result fault c.from_residual-in_err-regions-in-16.ensures.1) (keeps_any _ fault c.args.reader.now _ c.in_err-regions-in-16.ensures.keeps)
 
 pub returns-in_ok-regions-in-16-clause-keeps : goal.returns-in_ok-regions-in-16-clause-keeps
 returns-in_ok-regions-in-16-clause-keeps g c = c.in_ok-regions-in-16.ensures.keeps
@@ -410,7 +411,7 @@ returns-in_ok-regions-in-16-clause-keeps g c = c.in_ok-regions-in-16.ensures.kee
 pub returns-in_err-threads-in-24-clause-keeps : goal.returns-in_err-threads-in-24-clause-keeps
 returns-in_err-threads-in-24-clause-keeps g c =
     let fault = c.in_err-threads-in-24.field-0.0 in
-    rw (refused_by c.from_residual-in_err-threads-in-24.result fault c.from_residual-in_err-threads-in-24.ensures.1) (c.in_err-threads-in-24.ensures.keeps)
+    rw (refused_by c.from_residual-in_err-threads-in-24.result fault c.from_residual-in_err-threads-in-24.ensures.1) (keeps_any _ fault c.args.reader.now _ c.in_err-threads-in-24.ensures.keeps)
 
 pub returns-in_ok-threads-in-24-clause-keeps : goal.returns-in_ok-threads-in-24-clause-keeps
 returns-in_ok-threads-in-24-clause-keeps g c = c.in_ok-threads-in-24.ensures.keeps

@@ -1,6 +1,6 @@
 use Rattle.std.proofs.Common.{Err, Ok, refl}
-use Rattle.mdmp_dump.proofs.Keeping.{keeps_err, keeps_memory, keeps_then}
-use Rattle.mdmp_dump.proofs.Walked.{all_read, awaited_going, fewer_left, more_read, more_refused, never_none, none_read, none_refused, none_refused_behind}
+use Rattle.mdmp_dump.proofs.Keeping.{keeps_memory, keeps_then}
+use Rattle.mdmp_dump.proofs.Walked.{all_read, awaited_going, fewer_left, given_before, given_going, more_read, more_refused, never_none, none_read, none_refused, none_refused_behind, stream_untaken}
 use Rattle.mdmp_dump.proofs.Taking.{FetchesSome_then, Fetches_as, Fetches_memory, fetches_err, refused_by}
 use Rattle.mdmp_dump.proofs.read.read_streams.Goals as goal
 
@@ -23,6 +23,7 @@ loop-next-init g c =
       fetches = r.ensures.fetches.fetches;
       keeps = r.ensures.keeps;
       awaited = awaited_going c.args.reader.now.lister r.next c.behind.new.self.lister r.ensures.going;
+      given = given_going c.args.reader.now.lister r.next c.behind.new.self.lister r.ensures.going;
       of_file = none_read c.args.reader.now c.behind.new.self (Ok r.next) r.ensures.gives r.next refl;
     })
 
@@ -58,6 +59,7 @@ loop-next-preserved-in-Ok-push g c =
       fetches = FetchesSome_then c.args.reader.now.lister.source mid.lister.source new.lister.source so_far.fetches r.ensures.fetches.fetches;
       keeps = keeps_then c.args.reader.now mid new so_far.keeps r.ensures.keeps;
       awaited = awaited_going mid.lister r.behind new.lister r.ensures.going;
+      given = given_before c.args.reader.now mid new r.behind so_far.keeps r.ensures.going;
       of_file = λ file limit xs known left.
           more_read c.args.reader.now mid new c.loop-next.streams.items c.in-Some.item so_far file limit xs known left r.stream c.in-Some-stream.stream r.behind r.ensures.of_file c.in-Some-stream.is;
     })
@@ -75,6 +77,7 @@ loop-next-preserved g c =
       fetches = FetchesSome_then c.args.reader.now.lister.source mid.lister.source new.lister.source so_far.fetches r.ensures.fetches.fetches;
       keeps = keeps_then c.args.reader.now mid new so_far.keeps r.ensures.keeps;
       awaited = awaited_going mid.lister r.behind new.lister r.ensures.going;
+      given = given_before c.args.reader.now mid new r.behind so_far.keeps r.ensures.going;
       of_file = λ file limit xs known left.
           absurd (never_none c.args.reader.now mid new c.loop-next.streams.items c.in-Some.item so_far file limit xs known left r.stream r.behind r.ensures.of_file c.in_default-stream.is);
     }
@@ -98,7 +101,8 @@ pub returns-in_err-stream-clause-keeps : goal.returns-in_err-stream-clause-keeps
 returns-in_err-stream-clause-keeps g c =
     let r = c.in_err-stream in
     let is = refused_by c.from_residual-in_err-stream.result r.field-0.0 c.from_residual-in_err-stream.ensures.1 in
-    rw is (keeps_err c.args.reader.now c.loop-next.reader c.read_stream.new.reader c.loop-next.invariant.keeps r.field-0.0 r.ensures.keeps)
+    let so_far = rw c.in-Some.is at c.loop-next.invariant in
+    rw is (stream_untaken c.args.reader.now c.loop-next.reader c.read_stream.new.reader c.in-Some.item so_far.keeps so_far.given r.field-0.0 r.ensures.keeps)
 
 pub returns-in-Err-clause-keeps : goal.returns-in-Err-clause-keeps
 returns-in-Err-clause-keeps g c =

@@ -1,4 +1,4 @@
-use Rattle.std.proofs.Common.{◌∙◌, ap, refl}
+use Rattle.std.proofs.Common.{refl}
 use Rattle.mdmp_dump.proofs.Taking.{refused_by}
 use Rattle.mdmp_dump.proofs.reader.found.Goals as goal
 

@@ -1,5 +1,5 @@
 -- The start of a range of a 64-bit memory list, and its bytes.
-use Rattle.std.proofs.Common.{ℕ, ◌≡◌, ◌∙◌, List, ap, refl, subst, sym}
+use Rattle.std.proofs.Common.{ℕ, ◌≡◌, ◌∙◌, List, refl, subst, sym}
 use Rattle.mdmp_wire.specs.Descriptor64.{descriptor64_at}
 use Rattle.mdmp_wire.specs.declared.descriptor64.Descriptor64.{Descriptor64}
 use Rattle.mdmp_lister.specs.Format.Item.{range_offset}

@@ -1,5 +1,6 @@
 use Rattle.mdmp_lister.specs.FaultLaws.{next_fits}
-use Rattle.std.proofs.Common.{refl}
+use Rattle.std.proofs.Common.{ap, refl}
+use Rattle.mdmp_wire.specs.declared.entry.Entry.{Entry}
 use Rattle.mdmp_dump.proofs.Keeping.{keeps_next, keeps_refused}
 use Rattle.mdmp_dump.proofs.Settled.{fault-owed}
 use Rattle.mdmp_dump.proofs.Taking.{Fetches_listed}
@@ -23,3 +24,12 @@ returns-in-Ok-Some-Stream-clause-keeps g c = keeps_next c.args.self.now _ refl c
 
 pub returns-clause-keeps : goal.returns-clause-keeps
 returns-clause-keeps g c = keeps_next c.args.self.now _ refl c.requires _ c.next.follows.holds-at-none
+
+pub returns-in-Ok-Some-Stream-clause-going : goal.returns-in-Ok-Some-Stream-clause-going
+returns-in-Ok-Some-Stream-clause-going g c =
+    let list = c.next.follows.holds-at-none.list in
+    let r = c.in-Ok-Some-Stream in
+    let stop = rw (r.is, r.field-0-is) at list.stands.stop in
+    let falls = rw (r.is, r.field-0-is) at list.stands.falls in
+    let entry = rw (r.is, r.field-0-is, r.field-0-0-is) at list.places.current in
+    ((stop, falls), ap (λ (e : Entry). e.stream_type) entry, λ run left. (0, rw (r.field-0-is, r.field-0-0-is) at (r.ensures.gives run left)))

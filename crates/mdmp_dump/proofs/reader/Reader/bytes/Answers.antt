@@ -1,6 +1,6 @@
 use Rattle.std.proofs.Common.{◌≡◌, ◌∙◌, ◌≤◌, ◌-◌, ℕ, ap, length, arith, refl, sym}
-use Rattle.mdmp_dump.proofs.Budget.{array_is, Fetches-none, Fetches-read, inside_is, none-bytes, taken-all, take-refused, take-taken}
-use Rattle.mdmp_dump.proofs.Keeping.{keeps_none, keeps_taken, keeps_till, keeps_untaken}
+use Rattle.mdmp_dump.proofs.Budget.{array_is, Fetches-none, inside_is, none-bytes, taken-all, take-refused, take-taken, untaken}
+use Rattle.mdmp_dump.proofs.Keeping.{keeps_none, keeps_taken, keeps_till}
 use Rattle.mdmp_dump.specs.Refusal.{first_refusal}
 use Rattle.mdmp_dump.proofs.Taking.{FetchesSome_none, Fetches_only, Takes_memory}
 use Rattle.mdmp_dump.proofs.reader.Reader.bytes.Goals as goal
@@ -9,8 +9,9 @@ pub returns-then-size-self-clause-takes : goal.returns-then-size-self-clause-tak
 returns-then-size-self-clause-takes g c = record {
   same = refl;
   fetches = Fetches-none _ c.args.self.now.lister.source refl tt;
-  settles = λ rest last own. take-refused c.args.self.now.left c.args.place.entry c.args.place.index c.args.size rest last c.if-size-self.true;
-  keeps = keeps_till c.args.self.now c.args.self.now _ tt (keeps_none c.args.self.now);
+  settles = λ rest last own. take-refused c.args.self.now.left c.args.place.entry c.args.place.index c.args.at c.args.size rest last c.if-size-self.true;
+  calls = omega arith;
+  keeps = keeps_till c.args.self.now c.args.self.now _ tt tt (keeps_none c.args.self.now);
 }
 
 pub returns-then-size-eq0-clause-takes : goal.returns-then-size-eq0-clause-takes
@@ -21,8 +22,9 @@ returns-then-size-eq0-clause-takes g c =
       same = refl;
       fetches = Fetches_only _ c.args.self.now.lister.source _ (FetchesSome_none c.args.self.now.lister.source);
       settles = λ rest last.
-          take-taken left c.args.place.entry c.args.place.index c.args.size rest last (omega (arith, c.if-size-self.false))
+          take-taken left c.args.place.entry c.args.place.index c.args.at c.args.size rest last (omega (arith, c.if-size-self.false))
           ∙ ap (λ (n : ℕ). first_refusal n 0 rest last) none;
+      calls = omega arith;
       keeps = keeps_none c.args.self.now;
     }
 
@@ -38,7 +40,8 @@ returns-clause-takes g c =
     record {
       same = reads.same;
       fetches = Fetches_only _ c.args.self.now.lister.source _ (record { count = _; fetches = reads.fetches });
-      settles = λ rest last. take-taken c.args.self.now.left c.args.place.entry c.args.place.index c.args.size rest last fits;
+      settles = λ rest last. take-taken c.args.self.now.left c.args.place.entry c.args.place.index c.args.at c.args.size rest last fits;
+      calls = omega (arith, reads.aside.aside_calls);
       keeps = keeps_taken c.args.self.now _ c.args.size reads.same (rw len at reads.aside) reads.fetches fits (omega (arith, fits));
     }
 
@@ -51,12 +54,8 @@ returns-in-Err-read_part-clause-takes g c =
     let fault = c.in-Err-read_part.fault in
     let len : length c.read_part.new.out ≡ c.args.size = omega (arith, c.deref_mut.ensures.len, c.in-Ok.ensures.len) in
     let fits : c.args.size ≤ c.args.self.now.left = omega (arith, c.if-size-self.false) in
-    record {
-      same = reads.same;
-      fetches = Fetches-read _ fault c.args.self.now.lister.source _ reads.fetches reads.told (λ file good. let no = reads.good file good in cc);
-      settles = λ rest last own. absurd (own tt);
-      keeps = keeps_untaken c.args.self.now _ c.args.size reads.same (rw len at reads.aside) reads.fetches fits _ (omega (arith, fits, c.if-size-eq0.false));
-    }
+    untaken c.args.self.now _ c.args.place.entry c.args.place.index c.args.at c.args.size fault reads.same (rw len at reads.aside) reads.fetches fits (omega (arith, c.if-size-eq0.false)) (rw len at c.in-Err-read_part.ensures.told)
+    (λ file good. let no = reads.good file good in cc)
 
 pub returns-clause-of_file : goal.returns-clause-of_file
 returns-clause-of_file g c = λ file known.

@@ -3,7 +3,7 @@ use Rattle.mdmp_lister.specs.Lister.{tail}
 use Rattle.mdmp_lister.specs.FaultLaws.{next_fits}
 use Rattle.mdmp_dump.specs.Left.{left_from}
 use Rattle.mdmp_dump.proofs.Keeping.{keeps_found, keeps_next, keeps_refused}
-use Rattle.mdmp_dump.proofs.Settled.{end-given, fault-owed, found-given, found_going, read_kind}
+use Rattle.mdmp_dump.proofs.Settled.{end-given, fault-owed, found-given, found_first, found_going, read_kind}
 use Rattle.mdmp_dump.proofs.Taking.{Fetches_found, Fetches_listed}
 use Rattle.mdmp_dump.proofs.reader.Reader.find.Goals as goal
 
@@ -43,7 +43,11 @@ returns-in-Ok-Some-clause-going g c =
     let stop = rw (c.in-Ok-Some.is, c.in-Ok-Some.field-0-is) at list.stands.stop in
     let falls = rw (c.in-Ok-Some.is, c.in-Ok-Some.field-0-is) at list.stands.falls in
     let entry = rw (c.in-Ok-Some.is, c.in-Ok-Some.field-0-is) at list.places.current in
-    found_going z c.in-Ok-Some.item c.args.self.now.lister c.next_read.follows.lender-at-none (stop, falls) entry c.found.result c.found.ensures
+    found_going z c.in-Ok-Some.item c.args.self.now.lister c.next_read.follows.lender-at-none (stop, falls) entry (λ run left. rw c.in-Ok-Some.field-0-is at (c.in-Ok-Some.ensures.gives run left)) c.found.result c.found.ensures
+
+pub returns-in-Ok-Some-clause-first : goal.returns-in-Ok-Some-clause-first
+returns-in-Ok-Some-clause-first g c =
+    found_first c.in-Ok-Some.item c.args.self.now.lister (λ run left. rw c.in-Ok-Some.field-0-is at (c.in-Ok-Some.ensures.gives run left)) c.found.result c.found.ensures
 
 pub returns-in-Err-clause-keeps : goal.returns-in-Err-clause-keeps
 returns-in-Err-clause-keeps g c =

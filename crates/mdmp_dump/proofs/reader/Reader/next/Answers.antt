@@ -1,6 +1,6 @@
-use Rattle.std.proofs.Common.{◌≡◌, ◌∙◌, ap, length, sym}
-use Rattle.mdmp_dump.proofs.Keeping.{keeps_err, keeps_then}
-use Rattle.mdmp_dump.proofs.Settled.{parts-read, row-read, row-refused}
+use Rattle.std.proofs.Common.{◌≡◌, ◌∙◌, length, sym}
+use Rattle.mdmp_dump.proofs.Keeping.{keeps_then}
+use Rattle.mdmp_dump.proofs.Settled.{parts-read, parts_untaken, row-read, row-refused}
 use Rattle.mdmp_dump.proofs.Taking.{Fetches_as, fetches_err, fetches_ok, refused_by}
 use Rattle.mdmp_dump.proofs.reader.Reader.next.Goals as goal
 
@@ -14,7 +14,8 @@ pub returns-in_err-parts-in-Record-clause-keeps : goal.returns-in_err-parts-in-R
 returns-in_err-parts-in-Record-clause-keeps g c =
     let fault = c.in_err-parts-in-Record.field-0.0 in
     let is = refused_by c.from_residual-in_err-parts-in-Record.result fault c.from_residual-in_err-parts-in-Record.ensures.1 in
-    rw is (keeps_err c.args.self.now c.find.new.self c.parts.new.self c.in_ok-read.ensures.keeps fault c.in_err-parts-in-Record.ensures.takes.keeps)
+    let first = rw c.in-Record.is at c.in_ok-read.ensures.first in
+    rw is (parts_untaken c.args.self.now c.find.new.self c.parts.new.self c.in_ok-read.ensures.keeps c.in-Record.read first fault c.in_err-parts-in-Record.ensures.takes.keeps)
 
 pub returns-in_err-parts-in-Record-clause-of_file : goal.returns-in_err-parts-in-Record-clause-of_file
 returns-in_err-parts-in-Record-clause-of_file g c = λ file limit x k xs known left kind current.

@@ -2,7 +2,7 @@ use Rattle.std.proofs.Common.{◌≡◌, ◌∙◌, ◌+◌, ◌∷◌, [], ◌+
 use Rattle.mdmp_wire.specs.declared.entry.Entry.{Entry}
 use Rattle.mdmp_dump.specs.Left.{left_from}
 use Rattle.mdmp_dump.proofs.Keeping.{keeps_err, keeps_memory, keeps_then}
-use Rattle.mdmp_dump.proofs.Settled.{rows-all, rows-more}
+use Rattle.mdmp_dump.proofs.Settled.{going_before, rows-all, rows-more}
 use Rattle.mdmp_dump.proofs.Taking.{FetchesSome_then, Fetches_memory, fetches_err, fetches_ok, refused_by}
 use Rattle.mdmp_dump.proofs.reader.Reader.rows.Goals as goal
 
@@ -78,3 +78,9 @@ returns-in-Err-clause-keeps g c =
 pub returns-in-Behind-clause-keeps : goal.returns-in-Behind-clause-keeps
 returns-in-Behind-clause-keeps g c =
     keeps_then c.args.self.now c.loop-rows.self c.next.new.self c.loop-rows.invariant.keeps c.in_ok-row.ensures.keeps
+
+pub returns-in-Behind-clause-going : goal.returns-in-Behind-clause-going
+returns-in-Behind-clause-going g c =
+    let before = c.loop-rows.invariant in
+    let going = rw c.in-Behind.is at c.in_ok-row.ensures.going in
+    going_before c.args.self.now.lister c.loop-rows.self.lister c.in-Behind.next c.next.new.self.lister before.rests before.keeps.left going

@@ -1,6 +1,6 @@
-use Rattle.std.proofs.Common.{◌∙◌, refl}
+use Rattle.std.proofs.Common.{◌∙◌, arith, refl}
 use Rattle.mdmp_dump.proofs.Keeping.{keeps_err, keeps_then}
-use Rattle.mdmp_dump.proofs.Settled.{behind-given, no-row-after-one, one-read}
+use Rattle.mdmp_dump.proofs.Settled.{behind-given, going_before, no-row-after-one, one-read}
 use Rattle.mdmp_dump.proofs.Taking.{Fetches_as, fetches_err, fetches_ok, refused_by}
 use Rattle.mdmp_dump.proofs.reader.Reader.single.Goals as goal
 
@@ -61,3 +61,8 @@ returns-in_err-row-clause-of_file g c =
     let fault = c.in_err-row.field-0.0 in
     let is = refused_by c.from_residual.result fault c.from_residual.ensures.1 in
     rw is (λ file limit x xs known left kind current one. record { value = tt; settles = λ own. (c.in_err-row.ensures.of_file file limit x 0 xs known left kind current).1 own })
+
+pub returns-in_ok-behind-in-Row-clause-going : goal.returns-in_ok-behind-in-Row-clause-going
+returns-in_ok-behind-in-Row-clause-going g c =
+    let first = rw c.in-Row.is at c.in_ok-row.ensures.going in
+    going_before c.args.self.now.lister c.next.new.self.lister c.in_ok-behind-in-Row.field-0 c.behind.new.self.lister (omega (arith, first.0.1)) c.in_ok-row.ensures.keeps.left c.in_ok-behind-in-Row.ensures.going

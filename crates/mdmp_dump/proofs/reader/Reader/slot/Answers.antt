@@ -1,6 +1,4 @@
-use Rattle.std.proofs.Common.{◌≡◌, ◌∙◌, ap, length, refl}
-use Rattle.mdmp_source.specs.Extent.{extent_of}
-use Rattle.mdmp_lister.specs.Format.Item.{range_extent_of}
+use Rattle.std.proofs.Common.{◌≡◌, length, refl}
 use Rattle.mdmp_dump.proofs.Budget.{range-bytes}
 use Rattle.mdmp_dump.proofs.Classed.{extent_in, range_in}
 use Rattle.mdmp_dump.proofs.Taking.{Takes_as, Takes_fault_as, Takes_none, refused_by}
