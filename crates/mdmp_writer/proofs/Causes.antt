@@ -83,17 +83,6 @@ uses_asked first shape spent = record {
   told = tt;
 }
 
--- one that went well
-pub uses_next : {T : Type 0} {x : T} {a b : Used} {n m : ℕ} {t : ViewShape} {q : Spent}
-    → Uses (Ok x) a n m b → t ≡ b.shape → q.passed ≤ b.spent.passed → q.asked ≤ b.spent.asked → Uses (Ok x) a n m (used t q b.out)
-uses_next first shape passed asked = record {
-  shape = shape ∙ first.shape;
-  cause = first.cause;
-  passed = omega (arith, first.passed, passed);
-  asked = omega (arith, first.asked, asked);
-  told = tt;
-}
-
 -- one that began a pass
 pub uses_pass : {T : Type 0} {x : T} {a b : Used} {n m : ℕ} {t : ViewShape} {q : Spent} (cost : ℕ)
     → Uses (Ok x) a n m b → t ≡ b.shape → q.passed ≤ b.spent.passed + cost → q.asked ≤ b.spent.asked → Uses (Ok x) a (n + cost) m (used t q b.out)
@@ -104,6 +93,11 @@ uses_pass cost first shape passed asked = record {
   asked = omega (arith, first.asked, asked);
   told = tt;
 }
+
+-- one that went well
+pub uses_next : {T : Type 0} {x : T} {a b : Used} {n m : ℕ} {t : ViewShape} {q : Spent}
+    → Uses (Ok x) a n m b → t ≡ b.shape → q.passed ≤ b.spent.passed → q.asked ≤ b.spent.asked → Uses (Ok x) a n m (used t q b.out)
+uses_next first shape passed asked = uses_within (uses_pass 0 first shape (omega (arith, passed)) asked) (omega arith) (omega arith)
 
 -- one that answered a fault
 pub uses_fault : {T U : Type 0} {x : T} {a b : Used} {n m passes asks : ℕ} {t : ViewShape} {q : Spent} {fault : ViewFault}

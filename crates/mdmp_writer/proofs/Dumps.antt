@@ -1,15 +1,14 @@
 -- The values of worked files.
-use Rattle.std.specs.Prelude.{ℕ, List, [], ◌∷◌, Some, None, codes, replicate}
+use Rattle.std.specs.Prelude.{ℕ, [], ◌∷◌, Some, None, codes, replicate}
 use Rattle.mdmp_wire.specs.declared.version.VersionInfo.{VersionInfo}
 use Rattle.mdmp_dump.specs.declared.part.Part.{Part}
 use Rattle.mdmp_dump.specs.declared.part.Part.TheVariants.{Bytes, Absent}
-use Rattle.mdmp_dump.specs.declared.thread.Thread.{Thread}
 use Rattle.mdmp_dump.specs.declared.module.Module.{Module}
-use Rattle.mdmp_dump.specs.declared.exception.Exception.{Exception}
 use Rattle.mdmp_dump.specs.declared.system.System.{System}
 use Rattle.mdmp_dump.specs.declared.dump.Stream.{Stream}
 use Rattle.mdmp_dump.specs.declared.dump.Stream.TheVariants as streams
 use Rattle.mdmp_dump.specs.declared.dump.Dump.{Dump}
+use Rattle.mdmp_dump.proofs.WorkedDumps.{absent_stack, crash, crash_thread, dump_of}
 
 abbrev pub no_version : VersionInfo
 no_version = record {
@@ -29,10 +28,6 @@ no_version = record {
 }
 
 module _ {Z : Type 0} where
-  -- a dump whose header has 0 in each field that a dump keeps
-  abbrev pub dump_of : List (Stream Z) → Dump Z
-  dump_of streams = record { version_high = 0; checksum = 0; time = 0; flags = 0; streams = streams }
-
   abbrev pub service_pack : System Z
   service_pack = record {
     processor_architecture = 9;
@@ -54,50 +49,13 @@ module _ {Z : Type 0} where
   abbrev pub system_dump : Dump Z
   system_dump = dump_of (streams.System service_pack ∷ [])
 
-  abbrev pub crash_thread : Thread Z
-  crash_thread = record {
-    thread_id = 7;
-    suspend_count = 0;
-    priority_class = 32;
-    priority = 0;
-    teb = 0x5000;
-    stack_start = 0x7000;
-    stack = Bytes (codes "STAK");
-    context = Bytes (1 ∷ 2 ∷ 3 ∷ 4 ∷ 5 ∷ 6 ∷ []);
-  }
-
-  abbrev pub crash : Exception Z
-  crash = record {
-    thread_id = 7;
-    exception_code = 0xC0000005;
-    exception_flags = 0;
-    exception_record = 0;
-    exception_address = 0x401000;
-    number_parameters = 2;
-    exception_information = 1 ∷ 16 ∷ replicate 13 0;
-    context = Bytes (0xaa ∷ 0xbb ∷ 0xcc ∷ 0xdd ∷ []);
-  }
-
-  -- the value of the file with a thread and an exception
-  abbrev pub crash_dump : Dump Z
-  crash_dump = dump_of (streams.Threads (crash_thread ∷ []) ∷ streams.Exception crash ∷ [])
-
   -- six streams: a system, a thread, no modules, an exception, no memory and raw bytes
   abbrev pub six_streams : Dump Z
   six_streams = dump_of (streams.System service_pack ∷ streams.Threads (crash_thread ∷ []) ∷ streams.Modules [] ∷ streams.Exception crash ∷ streams.Memory [] ∷ streams.Raw 12 (1 ∷ 2 ∷ 3 ∷ 4 ∷ []) ∷ [])
 
   -- a thread whose stack is absent
-  abbrev pub absent_stack : Dump Z
-  absent_stack = dump_of (streams.Threads (record {
-    thread_id = 7;
-    suspend_count = 0;
-    priority_class = 0;
-    priority = 0;
-    teb = 0;
-    stack_start = 0x7000;
-    stack = Absent 256;
-    context = Bytes (0xAA ∷ []);
-  } ∷ []) ∷ [])
+  abbrev pub absent_dump : Dump Z
+  absent_dump = dump_of (absent_stack ∷ [])
 
   -- modules with every kind of name and part
   abbrev pub module_of : ℕ → Part Z → Part Z → Module Z

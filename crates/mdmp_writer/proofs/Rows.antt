@@ -11,6 +11,7 @@ use Rattle.mdmp_dump.specs.declared.view.Kind.{Kind}
 use Rattle.mdmp_dump.specs.declared.view.Kind.TheVariants as kinds
 use Rattle.mdmp_dump.specs.Shape.{StreamShape, rooms, fars as memory_in}
 use Rattle.mdmp_dump.specs.Value.{select}
+use Rattle.mdmp_dump.proofs.WorkedDumps as worked
 use Rattle.mdmp_writer.specs.declared.fault.LayoutFault.TheVariants.{RawKnownType, TooLarge}
 use Rattle.mdmp_writer.specs.Layout.{written_size, blocks_size, fars_size, first_misnamed, shape_fault, layout_fault}
 use Rattle.mdmp_writer.specs.Written.{all_padded, rows, parts_of, ranges_text, blocks, far_texts, directory, written}
@@ -37,19 +38,19 @@ module_file =
 
 module _ (Z : Type 0) where
   abbrev dump_of : List (Stream Z) → Dump Z
-  dump_of = dumps.dump_of {Z = Z}
+  dump_of = worked.dump_of {Z = Z}
 
   abbrev system_dump : Dump Z
   system_dump = dumps.system_dump {Z = Z}
 
   abbrev crash_dump : Dump Z
-  crash_dump = dumps.crash_dump {Z = Z}
+  crash_dump = worked.crash_dump {Z = Z}
 
   abbrev six_streams : Dump Z
   six_streams = dumps.six_streams {Z = Z}
 
   abbrev absent_stack : Dump Z
-  absent_stack = dumps.absent_stack {Z = Z}
+  absent_stack = dumps.absent_dump {Z = Z}
 
   abbrev each_kind : Dump Z
   each_kind = dumps.each_kind {Z = Z}

@@ -1,5 +1,5 @@
 //! A dump to an output.
-ghost use Rattle.std.specs.Prelude.{◌≡◌, ◌<◌, ◌≤◌, ◌+◌, ◌*◌, ◌++◌, IfOk, None, OnOk, Some, length};
+ghost use Rattle.std.specs.Prelude.{◌≡◌, ◌<◌, ◌≤◌, ◌+◌, ◌++◌, IfOk, None, OnOk, Some, length};
 ghost use Rattle.mdmp_dump.specs.declared.dump.Dump.{Dump};
 ghost use Rattle.mdmp_dump.specs.Shape.{IsViewOf};
 ghost use Rattle.mdmp_dump.specs.View.{DumpSeen};
@@ -7,7 +7,7 @@ ghost use Rattle.mdmp_writer.specs.Block.{AllAreKnown};
 ghost use Rattle.mdmp_writer.specs.Gather.{gathered, PutsDump, PutsSome, Writes};
 ghost use Rattle.mdmp_writer.specs.Layout.{AreEnds, blocks_end, blocks_size, fars_size, first_block, shape_fault};
 ghost use Rattle.mdmp_writer.specs.Cause.{IsToldBy};
-ghost use Rattle.mdmp_writer.specs.Passes.{all_asks, all_costs};
+ghost use Rattle.mdmp_writer.specs.Passes.{all_asks, all_passes};
 ghost use Rattle.mdmp_writer.specs.Writing.{GoesOut, IsWritingOf, IsWritingOfDump};
 ghost use Rattle.mdmp_writer.specs.Written.{blocks, far_texts, seen_text};
 ghost use Rattle.mdmp_writer.specs.Uses.{used, Uses};
@@ -24,12 +24,12 @@ use mdmp_source::Out;
 /// Writes a dump to an output, from front to back, and answers how many bytes it has.
 ///
 /// Small pieces are gathered in `buffer`, which must not be empty, and parts are fetched into it: no
-/// memory is taken, and nothing that went out is written again. Each stream is begun at most twice, and
-/// no more bytes are asked for than its names, parts and raw bytes have. A dump that can't be written
-/// is refused before any byte goes out. Where the output refuses or the view answers a fault, a first
-/// part of the dump went out, perhaps none of it. The output is not flushed, and the view wants a
-/// `rewind` before it is asked for records again. Raw streams are written as their bytes: offsets in
-/// them are not moved.
+/// memory is taken, and nothing that went out is written again. Each stream is begun at most once, and
+/// once more if it has names or parts, or is 64-bit memory. No more bytes are asked for than these and raw
+/// streams have. A dump that can't be written is refused before any byte goes out. Where the output
+/// refuses or the view answers a fault, a first part of the dump went out, perhaps none of it. The output
+/// is not flushed, and the view wants a `rewind` before it is asked for records again. Raw streams are
+/// written as their bytes: offsets in them are not moved.
 pub fn write_dump<V: DumpView, O: Out>(
     view: &mut V,
     out: &mut O,
@@ -40,7 +40,7 @@ pub fn write_dump<V: DumpView, O: Out>(
     ensures ends { IsWritingOf (V.shape view.old) result (O.state out.old) (O.state out.new) }
     ensures writes { (d : Dump V.Memory) → IsViewOf d (V.shape view.old) → IsWritingOfDump d result (O.state out.old) (O.state out.new) }
     ensures out { IfOk result (λ size. GoesOut (V.shape view.old) size (O.state out.old) (O.state out.new)) }
-    ensures passed { (V.spent view.new).passed ≤ (V.spent view.old).passed + 2 * all_costs (V.shape view.old) }
+    ensures passed { (V.spent view.new).passed ≤ (V.spent view.old).passed + all_passes (V.shape view.old) }
     ensures asked { (V.spent view.new).asked ≤ (V.spent view.old).asked + all_asks (V.shape view.old) }
     ensures told { IsToldBy result (V.spent view.new).fault }
     ensures moves { V.Moves view.old view.new }
@@ -71,7 +71,7 @@ fn write_gathered<V: DumpView, O: Out>(
     ensures writes { (x : DumpSeen) → (V.shape view.old).seen ≡ Some x → AllAreKnown x
         → Writes result (gathered (O.state out.old) gather.old) (seen_text x) (gathered (O.state out.new) gather.new) }
     ensures out { OnOk result (PutsDump (V.shape view.old) (gathered (O.state out.old) gather.old) (gathered (O.state out.new) gather.new)) }
-    ensures uses { Uses result (used (V.shape view.old) (V.spent view.old) (O.state out.old)) (2 * all_costs (V.shape view.old)) (all_asks (V.shape view.old)) (used (V.shape view.new) (V.spent view.new) (O.state out.new)) }
+    ensures uses { Uses result (used (V.shape view.old) (V.spent view.old) (O.state out.old)) (all_passes (V.shape view.old)) (all_asks (V.shape view.old)) (used (V.shape view.new) (V.spent view.new) (O.state out.new)) }
     ensures moves { V.Moves view.old view.new }
 {
     let header = view.header();
@@ -105,7 +105,7 @@ fn write_streams<V: DumpView, O: Out>(
     ensures writes { (x : DumpSeen) → (V.shape view.old).seen ≡ Some x → AllAreKnown x
         → Writes result (gathered (O.state out.old) gather.old) (blocks x.streams first.at first.far ++ far_texts x.streams) (gathered (O.state out.new) gather.new) }
     ensures some { OnOk result (PutsSome (gathered (O.state out.old) gather.old) (blocks_size (V.shape view.old).streams + fars_size (V.shape view.old).streams) (gathered (O.state out.new) gather.new)) }
-    ensures uses { Uses result (used (V.shape view.old) (V.spent view.old) (O.state out.old)) (2 * all_costs (V.shape view.old)) (all_asks (V.shape view.old)) (used (V.shape view.new) (V.spent view.new) (O.state out.new)) }
+    ensures uses { Uses result (used (V.shape view.old) (V.spent view.old) (O.state out.old)) (all_passes (V.shape view.old)) (all_asks (V.shape view.old)) (used (V.shape view.new) (V.spent view.new) (O.state out.new)) }
     ensures moves { V.Moves view.old view.new }
 {
     match write_blocks(view, out, gather, first) {

@@ -9,7 +9,7 @@ use Rattle.mdmp_writer.proofs.Causes.{cause_of_output}
 use Rattle.mdmp_writer.proofs.Counting.{dump_out}
 use Rattle.mdmp_writer.proofs.Runs.{all_of_dump, all_out, cut_of_dump, cut_out, fault_of_dump, size_of_shape, stopped}
 use Rattle.mdmp_writer.proofs.Sending.{puts_all, puts_flush}
-use Rattle.mdmp_writer.specs.Passes.{all_asks, all_costs}
+use Rattle.mdmp_writer.specs.Passes.{all_asks, all_passes}
 use Rattle.mdmp_writer.proofs.dump_out.write_dump.Goals as goal
 
 pub returns-in-Err-clause-writes : goal.returns-in-Err-clause-writes
@@ -59,7 +59,7 @@ returns-in-Ok-flush-clause-shape g c = c.in-Ok-write_gathered.ensures.uses.shape
 
 pub returns-in-Ok-flush-clause-passed : goal.returns-in-Ok-flush-clause-passed
 returns-in-Ok-flush-clause-passed g c =
-    omega (arith, c.in-Ok-write_gathered.ensures.uses.passed, ap (λ (q : Spent). q.passed) c.layout.ensures.spent, ap (λ (t : ViewShape). all_costs t) c.layout.ensures.shape)
+    omega (arith, c.in-Ok-write_gathered.ensures.uses.passed, ap (λ (q : Spent). q.passed) c.layout.ensures.spent, ap (λ (t : ViewShape). all_passes t) c.layout.ensures.shape)
 
 pub returns-in-Ok-flush-clause-asked : goal.returns-in-Ok-flush-clause-asked
 returns-in-Ok-flush-clause-asked g c =
@@ -73,7 +73,7 @@ returns-in-Err-flush-clause-shape g c = c.in-Ok-write_gathered.ensures.uses.shap
 
 pub returns-in-Err-flush-clause-passed : goal.returns-in-Err-flush-clause-passed
 returns-in-Err-flush-clause-passed g c =
-    omega (arith, c.in-Ok-write_gathered.ensures.uses.passed, ap (λ (q : Spent). q.passed) c.layout.ensures.spent, ap (λ (t : ViewShape). all_costs t) c.layout.ensures.shape)
+    omega (arith, c.in-Ok-write_gathered.ensures.uses.passed, ap (λ (q : Spent). q.passed) c.layout.ensures.spent, ap (λ (t : ViewShape). all_passes t) c.layout.ensures.shape)
 
 pub returns-in-Err-flush-clause-asked : goal.returns-in-Err-flush-clause-asked
 returns-in-Err-flush-clause-asked g c =
@@ -87,7 +87,7 @@ returns-in-Err-write_gathered-clause-shape g c = c.in-Err-write_gathered.ensures
 
 pub returns-in-Err-write_gathered-clause-passed : goal.returns-in-Err-write_gathered-clause-passed
 returns-in-Err-write_gathered-clause-passed g c =
-    omega (arith, c.in-Err-write_gathered.ensures.uses.passed, ap (λ (q : Spent). q.passed) c.layout.ensures.spent, ap (λ (t : ViewShape). all_costs t) c.layout.ensures.shape)
+    omega (arith, c.in-Err-write_gathered.ensures.uses.passed, ap (λ (q : Spent). q.passed) c.layout.ensures.spent, ap (λ (t : ViewShape). all_passes t) c.layout.ensures.shape)
 
 pub returns-in-Err-write_gathered-clause-asked : goal.returns-in-Err-write_gathered-clause-asked
 returns-in-Err-write_gathered-clause-asked g c =

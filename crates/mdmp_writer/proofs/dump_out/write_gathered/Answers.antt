@@ -3,7 +3,7 @@ use Rattle.mdmp_wire.specs.Header.{header_bytes}
 use Rattle.mdmp_dump.specs.Shape.{ViewShape}
 use Rattle.mdmp_dump.specs.View.{DumpSeen}
 use Rattle.mdmp_writer.specs.Layout.{blocks_end, blocks_size, fars_size, first_block}
-use Rattle.mdmp_writer.specs.Passes.{all_asks, all_costs}
+use Rattle.mdmp_writer.specs.Passes.{all_asks, all_passes}
 use Rattle.mdmp_writer.specs.Written.{blocks, directory, far_texts, header_of, seen_text}
 use Rattle.mdmp_writer.proofs.Causes.{uses_asked, uses_none, uses_out, uses_sent, uses_then, uses_within}
 use Rattle.mdmp_writer.proofs.Counting.{dump_then, ok_is}
@@ -68,7 +68,7 @@ returns-in-Ok-write_directory-clause-uses g c =
     let same = c.write_directory.ensures.shape ∙ c.streams-streams.ensures.shape ∙ c.header-header.ensures.shape in
     uses_then
     (uses_sent (uses_asked head c.write_directory.ensures.shape c.write_directory.ensures.spent) c.in-Ok-write_directory.ensures.cause)
-    c.write_streams.ensures.uses (omega (arith, ap (λ (t : ViewShape). all_costs t) same)) (omega (arith, ap (λ (t : ViewShape). all_asks t) same))
+    c.write_streams.ensures.uses (omega (arith, ap (λ (t : ViewShape). all_passes t) same)) (omega (arith, ap (λ (t : ViewShape). all_asks t) same))
 
 pub returns-in-Err-write_directory-clause-uses : goal.returns-in-Err-write_directory-clause-uses
 returns-in-Err-write_directory-clause-uses g c =
