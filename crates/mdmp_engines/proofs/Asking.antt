@@ -1,5 +1,5 @@
 -- The requests of a command.
-use Rattle.std.proofs.Common.{◌≡◌, ◌∙◌, ℕ, List, [], ◌∷◌, ◌++◌, Bool, true, false, Option, None, Some, Result, Ok, Err, ◌⊎◌, ap, inl, inr, refl, subst, sym}
+use Rattle.std.proofs.Common.{◌≡◌, ◌∙◌, List, [], ◌∷◌, ◌++◌, Bool, true, false, None, Some, Result, Ok, Err, ◌⊎◌, ap, inl, inr, refl, subst, sym}
 use Rattle.mdmp_lister.specs.declared.fault.FaultKind.{FaultKind}
 use Rattle.mdmp_lister.specs.declared.fault.FaultKind.TheVariants as kinds
 use Rattle.mdmp_lister.specs.declared.fault.ListFault.{ListFault}
@@ -10,7 +10,7 @@ use Rattle.mdmp_lister.specs.Format.Listing.{Run, nothing, only_fault}
 use Rattle.mdmp_lister.specs.Lister.{ListerState}
 use Rattle.mdmp_lister.specs.Requested.{AnswersRequest, AreRequested, EndsRequests, GivesByRequests, IsRequested, OnlyReadsAside, RunRequests}
 use Rattle.mdmp_lister.specs.Requested.EndsRequests.{asks_in_vain, stops_asking}
-use Rattle.mdmp_lister.proofs.Requested.{all_items, aside_more, aside_none, given_aside, requested_left, run_given, whole_fault, whole_none}
+use Rattle.mdmp_lister.proofs.Requested.{all_items, aside_none, given_aside, requested_append, requested_left, run_given, whole_fault, whole_none}
 use Rattle.mdmp_engines.specs.declared.fault.ToolFault.{ToolFault}
 use Rattle.mdmp_engines.specs.declared.fault.ToolFault.TheVariants.{List as BadList, Memory, Out}
 use Rattle.mdmp_engines.specs.Engines.{HasRequested, KeepsRequests, Pace, WhereToldToEnd, WhereToldToFault, at_the_end, past_faults, up_to_a_fault}
@@ -36,12 +36,6 @@ end_holds (Ok x) P holds = holds
 end_holds (Err f) P holds = fault_holds f P holds
 
 -- ---- behind some items
-
-pub requested_append : (xs ys : List Item) (u v w : ListerState) → AreRequested u xs v → AreRequested v ys w → AreRequested u (xs ++ ys) w
-requested_append [] [] u v w aside then = aside_more u v w aside then
-requested_append [] (y ∷ ys) u v w aside then = (then.0, (aside_more u v then.0 aside then.1.0, then.1.1))
-requested_append (x ∷ xs) ys u v w so_far then =
-    (so_far.0, (so_far.1.0, (so_far.1.1.0, (so_far.1.1.1.0, requested_append xs ys so_far.1.1.0 v w so_far.1.1.1.1 then))))
 
 pub requested_behind : {T : Type 0} (xs : List Item) (u v w : ListerState) (answer : Result T ToolFault) → AreRequested u xs v → HasRequested v answer w → HasRequested u answer w
 requested_behind {T} xs u v w answer chain last = record {

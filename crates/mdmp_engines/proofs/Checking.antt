@@ -1,5 +1,5 @@
 -- A run of `check`, or of `check --parts`, from its parts.
-use Rattle.std.proofs.Common.{◌≡◌, ◌∙◌, ◌≤◌, ◌<◌, ◌+◌, ◌^◌, ◌++◌, ℕ, zero, suc, List, [], ◌∷◌, Option, Some, None, ap, refl, sym, length, map, subst, arith, inl, inr}
+use Rattle.std.proofs.Common.{◌≡◌, ◌∙◌, ◌≤◌, ◌<◌, ◌+◌, ◌^◌, ◌++◌, ℕ, zero, suc, List, [], ◌∷◌, Option, Some, None, ap, refl, sym, length, map, subst, arith, inl, inr, append-nil}
 use Rattle.std.specs.Prelude.{IfErr, Result, Ok, Err, flat_map, sum_by}
 use Rattle.std.proofs.lemmas.List.Concat.{flat_map-append}
 use Rattle.std.proofs.lemmas.List.Sums.{sum_by-cons}
@@ -15,15 +15,18 @@ use Rattle.mdmp_lister.specs.declared.choice.Choice.TheVariants.{All}
 use Rattle.mdmp_lister.specs.declared.fault.FaultKind.{FaultKind}
 use Rattle.mdmp_lister.specs.declared.fault.FaultKind.TheVariants as kinds
 use Rattle.mdmp_lister.specs.declared.fault.ListFault.{ListFault}
+use Rattle.mdmp_lister.specs.declared.item.Item.{Item}
 use Rattle.mdmp_lister.specs.declared.sink.RunFault.{RunFault}
 use Rattle.mdmp_lister.specs.declared.sink.RunFault.TheVariants as run
 use Rattle.mdmp_lister.specs.declared.sink.Stopped.{Stopped}
 use Rattle.mdmp_lister.specs.declared.verdict.Verdict.{Verdict}
-use Rattle.mdmp_lister.specs.Check.{AreFirstVerdicts, CheckLeaves}
+use Rattle.mdmp_lister.specs.Check.{AreFirstVerdicts, CheckLeaves, ReadsFirst, items_of}
 use Rattle.mdmp_lister.specs.Fault.{IsOfStore, IsUnobtained, IsToldByFetch, IsToldIn}
-use Rattle.mdmp_lister.specs.Format.Listing.{Numbered, entries_from, entry_count, only_chosen, verdicts}
+use Rattle.mdmp_lister.specs.Format.Listing.{Numbered, chosen, entries_from, entry_count, only_chosen, verdicts}
 use Rattle.mdmp_lister.specs.Lister.{IsRefusedIn, ListerState}
+use Rattle.mdmp_lister.specs.NamesFetched.{FetchesNames}
 use Rattle.mdmp_lister.specs.Sink.{Taken, TakenToStop}
+use Rattle.mdmp_summary.specs.BadEntries.{all_items}
 use Rattle.mdmp_summary.specs.InEntry.{EndsInEntry}
 use Rattle.mdmp_summary.proofs.InEntries.{check_ends}
 use Rattle.mdmp_dump.specs.Reading.{IsLastTold}
@@ -31,7 +34,7 @@ use Rattle.mdmp_engines.specs.declared.fault.ToolFault.{ToolFault}
 use Rattle.mdmp_engines.specs.declared.fault.ToolFault.TheVariants.{Source, Budget}
 use Rattle.mdmp_engines.specs.CheckRuns.{AreFirstChecked, HandsChecked, TakesLine, TellsRun}
 use Rattle.mdmp_engines.specs.CheckText.{bad_count, fault_count, verdict_count}
-use Rattle.mdmp_engines.specs.Engines.{StopsShort}
+use Rattle.mdmp_engines.specs.Engines.{FetchesAllNames, StopsShort}
 use Rattle.mdmp_engines.specs.Telling.{told_by}
 use Rattle.mdmp_print.specs.declared.form.LineForm.{LineForm}
 
@@ -141,6 +144,20 @@ bad_entries F limit =
 
 -- ---- a sink was handed the verdicts on all entries
 
+-- a check that came to the end has read all items
+read_all : (F : List ℕ) (limit : ℕ) (n : ℕ) (items : List Item) → ReadsFirst F limit (chosen F All) n items (Ok tt) → items ≡ all_items F limit
+read_all F limit n items read =
+    let all : chosen F All ≡ read.judged = read.in_order ∙ ap (λ (xs : List Numbered). read.judged ++ xs) read.ends.0 ∙ append-nil read.judged in
+    read.items_are ∙ ap (λ (xs : List Item). items_of F limit read.judged ++ xs) read.ends.1 ∙ append-nil (items_of F limit read.judged) ∙ ap (items_of F limit) (sym all)
+
+all_judged : (old : ListerState) (result : Result (Unit {0}) RunFault) (new : ListerState) (items : List Item) (n : ℕ) → old.choice ≡ All
+    → ((file : List ℕ) → old.source.store.content ≡ Some file → ReadsFirst file old.limit (chosen file old.choice) n items result)
+    → FetchesNames 1 items old.counts.fetched new.counts.fetched → FetchesAllNames old result new
+all_judged old (Ok done) new items n all read named = λ file known.
+    let whole = read_all file old.limit n items (subst (λ (choice : Choice). ReadsFirst file old.limit (chosen file choice) n items (Ok tt)) all (read file known)) in
+    subst (λ (xs : List Item). FetchesNames 1 xs old.counts.fetched new.counts.fetched) whole named
+all_judged old (Err fault) new items n all read named = tt
+
 pub hands_verdicts : {K : Type 0} (step : K → Verdict → Result (Unit {0}) Stopped → K → Type 0) (old : ListerState) (k : K) (result : Result (Unit {0}) RunFault) (new : ListerState) (l : K)
     → old.choice ≡ All → CheckLeaves step old k result new l → HandsChecked k step verdict_count (λ file limit. verdicts file All limit) old result new l
 hands_verdicts step old k result new l all checks = record {
@@ -150,6 +167,7 @@ hands_verdicts step old k result new l all checks = record {
       (first_verdicts (verdicts file old.choice old.limit) checks.judged result (checks.of_file file known));
   few = λ file. bad_entries file old.limit;
   fetches = record { count = _; fetches = checks.fetches };
+  named = all_judged old result new checks.items (length checks.judged) all checks.read checks.named;
 }
 
 -- ---- a fault of the store or the budget, as it is told

@@ -282,15 +282,7 @@ module _ (Z : Type 0) (content : Option (List ℕ)) (file_size : ℕ) (types : L
     opened opening.Memory told refusal tells limited = absurd refusal
     opened (opening.MemoryLimit held) told refusal tells limited = of_memory_limit held (λ F known. (limited.1 F known).0)
     opened (opening.Budget offset size) told refusal tells limited = of_budget offset size
-    opened fault told refusal tells limited = record {
-      all_copied = refl;
-      refusal = (tt, refusal);
-      quiet = refl;
-      out_cause = refl;
-      changed = tt;
-      of_shape = tt;
-      of_file = λ F known. told F known (λ own. own);
-    }
+    opened fault told refusal tells limited = record { all_copied = refl; refusal = (tt, refusal); quiet = refl; out_cause = refl; changed = tt; of_shape = tt; of_file = λ F known. told F known (λ own. own) }
 
     listed : (kind : FaultKind) (fault : ListFault) → fault.kind ≡ kind → IsTold (reads.List fault) → IsViewRefusal budget file_size (reads.List fault) → TellsOf content (reads.List fault) → Answers (Err (told_by kind fault))
     listed (kinds.Source f) fault is told fits tells = of_source f (subst (λ (k : FaultKind). MayBeTold content (store_fault_in k)) is tells.changed)
@@ -313,15 +305,7 @@ module _ (Z : Type 0) (content : Option (List ℕ)) (file_size : ℕ) (types : L
     refused (reads.PartsTooLarge e k) told refusal tells limited = absurd refusal
     refused reads.Memory told refusal tells limited = of_memory (tells.memory refl)
     refused (reads.Source fault) told refusal tells limited = of_source fault tells.changed
-    refused fault told refusal tells limited = record {
-      all_copied = refl;
-      refusal = tt;
-      quiet = refl;
-      out_cause = refl;
-      changed = tt;
-      of_shape = tt;
-      of_file = λ F known. told F known (λ own. own);
-    }
+    refused fault told refusal tells limited = record { all_copied = refl; refusal = tt; quiet = refl; out_cause = refl; changed = tt; of_shape = tt; of_file = λ F known. told F known (λ own. own) }
 
   -- the file gives no view
   pub Copies-refused : (limits : Limits) (budget : Option ℕ) (fault : ReadFault) → IsTold fault → IsViewRefusal budget file_size fault → (file_size < 32 → fault ≡ reads.Opening (opening.TooShort file_size)) → TellsOf content fault → IsLimited limits content fault

@@ -4,7 +4,7 @@ use Rattle.std.proofs.Math.Seq.{take-append_seam}
 use Rattle.std.specs.Prelude.{not, take, IfSome, MatchResult, Result}
 use Rattle.mdmp_source.specs.Output.{OutState, Puts}
 use Rattle.mdmp_source.specs.Range.{bytes_at, is_inside}
-use Rattle.mdmp_source.specs.Source.{SourceState}
+use Rattle.mdmp_source.specs.Source.{FetchesAtMost, SourceState}
 use Rattle.mdmp_wire.specs.Number.{array_at, number_at}
 use Rattle.mdmp_wire.specs.NumberLaws.{number_at-part}
 use Rattle.mdmp_wire.specs.Units.{units_over}
@@ -13,11 +13,12 @@ use Rattle.mdmp_lister.specs.Format.Name.{name_at}
 use Rattle.mdmp_lister.specs.declared.fault.Fault.{Fault}
 use Rattle.mdmp_lister.specs.declared.name.Name.{Name}
 use Rattle.mdmp_lister.specs.declared.name.Name.TheVariants as names
+use Rattle.mdmp_summary.specs.Summary.{file_summary}
 use Rattle.mdmp_summary.specs.declared.summary.FileSummary.{FileSummary}
 use Rattle.mdmp_summary_lines.specs.SummaryText.{summary_text}
 use Rattle.mdmp_summary_lines.specs.declared.names.SummaryNames.{SummaryNames}
-use Rattle.mdmp_engines.specs.KeptNames.{IsNameFault, good_name, told_name, told_names}
-use Rattle.mdmp_engines.specs.SummaryRuns.{IsPrintedOrUnread, IsUnreadFault}
+use Rattle.mdmp_engines.specs.KeptNames.{IsNameFault, good_name, told_bytes, told_name, told_names}
+use Rattle.mdmp_engines.specs.SummaryRuns.{FetchesTold, IsNamed, IsPrintedOrUnread, IsUnreadFault, summary_names}
 use Rattle.mdmp_engines.specs.declared.fault.ToolFault.{ToolFault}
 use Rattle.mdmp_engines.specs.declared.fault.ToolFault.TheVariants as tool
 
@@ -132,3 +133,20 @@ pub printed_named : (name F : List ℕ) (limit : ℕ) (summary : FileSummary) (k
     → Puts answer before (summary_text name summary kept) after → IsPrintedOrUnread name F limit summary before answer after
 printed_named name F limit summary kept before answer after is told puts =
     IsPrintedOrUnread.printed told (subst (λ (n : SummaryNames). Puts answer before (summary_text name summary n) after) is puts)
+
+-- ---- what was fetched for names
+
+-- an error of a name leaves one that was not read
+pub unnamed : (old new : SourceState) (f : ToolFault) → IsNameFault old new f → IsNamed (Err f) → ⊥
+unnamed old new tool.Memory is named = named
+unnamed old new (tool.Source s) is named = named
+unnamed old new f is named = is
+
+-- the names of a known file's summary are those that are told
+pub fetches_summary : (limit : ℕ) (summary : FileSummary) (answer : Result ℕ ToolFault) (old new : SourceState)
+    → ((file : List ℕ) → old.store.content ≡ Some file → summary ≡ file_summary file limit)
+    → FetchesTold limit (λ file. told_names file limit summary) answer old new → FetchesTold limit (summary_names limit) answer old new
+fetches_summary limit summary answer old new is fetches = record {
+  most = fetches.most;
+  all = λ named file known. subst (λ (s : FileSummary). FetchesAtMost (told_bytes (told_names file limit s)) old new) (is file known) (fetches.all named file known);
+}

@@ -1,11 +1,14 @@
 -- What is printed and read of an object around its names.
-use Rattle.std.proofs.Common.{ℕ, List, [], Result, Ok, Err, refl}
+use Rattle.std.proofs.Common.{◌≡◌, ℕ, List, [], Some, Result, Ok, Err, refl, subst}
 use Rattle.mdmp_source.specs.Output.{OutState}
 use Rattle.mdmp_source.specs.OutputLaws.{PutsAll-nothing}
 use Rattle.mdmp_source.specs.Source.{SourceState}
+use Rattle.mdmp_lister.specs.Walker.{WalkerState}
+use Rattle.mdmp_summary.specs.Spending.{ReadsOutside}
+use Rattle.mdmp_summary_lines.specs.declared.names.SummaryNames.{SummaryNames}
 use Rattle.mdmp_engines.specs.Causes.{HasOutCause, HasSourceCause}
-use Rattle.mdmp_engines.specs.KeptNames.{IsNameFault}
-use Rattle.mdmp_engines.specs.ObjectRuns.{IsPrintEnd, IsQuietObject, PrintsThrough}
+use Rattle.mdmp_engines.specs.KeptNames.{IsNameFault, told_bytes, names_cost}
+use Rattle.mdmp_engines.specs.ObjectRuns.{IsPrintEnd, IsQuietObject, PrintsThrough, ReadsObject}
 use Rattle.mdmp_engines.specs.SummaryRuns.{IsUnreadFault}
 use Rattle.mdmp_engines.specs.declared.fault.ToolFault.{ToolFault}
 use Rattle.mdmp_engines.specs.declared.fault.ToolFault.TheVariants as tool
@@ -59,3 +62,13 @@ quiet_printed (Err tool.Out) untouched stops = tt
 quiet_printed (Err (tool.Source s)) untouched stops = tt
 quiet_printed (Err (tool.Budget offset size)) untouched stops = tt
 quiet_printed (Err f) untouched stops = absurd stops
+
+-- ---- the names that are told
+
+pub object_as_told : (told other : List ℕ → SummaryNames) (old : WalkerState) (before : OutState) (answer : Result ℕ ToolFault) (new : WalkerState) (after : OutState)
+    → ((file : List ℕ) → old.list.source.store.content ≡ Some file → told file ≡ other file) → ReadsObject told old before answer new after → ReadsObject other old before answer new after
+object_as_told told other old before answer new after same (ReadsObject.unread fault reads quiet) = ReadsObject.unread fault reads quiet
+object_as_told told other old before answer new after same (ReadsObject.printed named reads leaves lists) = ReadsObject.printed named (record {
+  most = reads.most;
+  all = λ file known. subst (λ (n : SummaryNames). ReadsOutside (names_cost (told_bytes n)) old named) (same file known) (reads.all file known);
+}) leaves lists

@@ -1,23 +1,26 @@
 -- A run of `check --parts`, from its parts.
-use Rattle.std.proofs.Common.{◌≡◌, ◌∙◌, ◌≤◌, ◌+◌, ℕ, List, [], ◌∷◌, Bool, true, false, Option, Some, None, ap, refl, sym, length, map, arith}
+use Rattle.std.proofs.Common.{◌≡◌, ◌∙◌, ◌≤◌, ◌+◌, ℕ, List, [], ◌∷◌, Bool, true, false, Option, Some, None, ap, refl, sym, length, map, arith, subst}
 use Rattle.std.specs.Prelude.{Result, Ok, Err, flat_map}
 use Rattle.std.proofs.lemmas.List.Sums.{sum_by-append, sum_by-cons}
 use Rattle.mdmp_lister.specs.declared.choice.Choice.TheVariants.{All}
 use Rattle.mdmp_lister.specs.declared.fault.ListFault.{ListFault}
+use Rattle.mdmp_lister.specs.declared.item.Item.{Item}
 use Rattle.mdmp_lister.specs.declared.meter.Amount.{Amount}
 use Rattle.mdmp_lister.specs.declared.sink.RunFault.{RunFault}
 use Rattle.mdmp_lister.specs.declared.sink.Stopped.{Stopped}
 use Rattle.mdmp_lister.specs.Check.{items_of, names_judged}
 use Rattle.mdmp_lister.specs.Format.Listing.{Numbered, chosen, entries_from, entry_count, entry_listing, verdicts}
 use Rattle.mdmp_lister.specs.Lister.{IsSameLister, ListerState}
-use Rattle.mdmp_summary.specs.Checking.{IsAllLeft, RowsHanded}
+use Rattle.mdmp_lister.specs.NamesFetched.{FetchesNames}
+use Rattle.mdmp_summary.specs.BadEntries.{all_items}
+use Rattle.mdmp_summary.specs.Checking.{AreRead, IsAllLeft, RowsHanded}
 use Rattle.mdmp_summary.specs.CheckRows.{AreFirstRows, are_some, check_rows, entry_parts, entry_rows, result_row}
 use Rattle.mdmp_summary.specs.declared.check_row.CheckRow.{CheckRow}
 use Rattle.mdmp_summary.specs.declared.check_row.CheckRow.TheVariants.{Part}
 use Rattle.mdmp_summary.specs.declared.part.PartOutside.{PartOutside}
 use Rattle.mdmp_engines.specs.CheckParts.{bad_rows, loss_count, row_count}
 use Rattle.mdmp_engines.specs.CheckRuns.{AreFirstChecked, HandsChecked}
-use Rattle.mdmp_engines.specs.Engines.{IsOpened, KeepsReads, at_most, past_faults}
+use Rattle.mdmp_engines.specs.Engines.{FetchesAllNames, IsOpened, KeepsReads, at_most, past_faults}
 use Rattle.mdmp_engines.proofs.Checking.{all_chosen, count_entries}
 
 -- its first rows are the first rows of a check
@@ -62,6 +65,12 @@ bad_of_file F limit =
 
 -- ---- a sink was handed the rows of all entries
 
+all_read : (old : ListerState) (result : Result (Unit {0}) RunFault) (new : ListerState) (items : List Item)
+    → ((file : List ℕ) → old.source.store.content ≡ Some file → AreRead (all_items file old.limit) items result)
+    → FetchesNames 1 items old.counts.fetched new.counts.fetched → FetchesAllNames old result new
+all_read old (Ok done) new items read named = λ file known. subst (λ (xs : List Item). FetchesNames 1 xs old.counts.fetched new.counts.fetched) (sym (read file known)) named
+all_read old (Err fault) new items read named = tt
+
 pub hands_parts : {K : Type 0} (step : K → CheckRow → Result (Unit {0}) Stopped → K → Type 0) (old : ListerState) (k : K) (result : Result (Unit {0}) RunFault) (new : ListerState) (l : K)
     → RowsHanded step old k result new l → HandsChecked k step row_count check_rows old result new l
 hands_parts step old k result new l told = record {
@@ -70,6 +79,7 @@ hands_parts step old k result new l told = record {
   of_file = λ file known. first_rows (check_rows file old.limit) told.rows result (told.of_file file known);
   few = λ file. bad_of_file file old.limit;
   fetches = record { count = _; fetches = told.fetches };
+  named = all_read old result new told.items told.read told.named;
 }
 
 -- a lister that was opened has given nothing

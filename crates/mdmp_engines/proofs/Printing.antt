@@ -13,6 +13,7 @@ use Rattle.mdmp_lister.specs.Format.Listing.{Run}
 use Rattle.mdmp_engines.proofs.Engining.{StopsShort-nothing}
 use Rattle.mdmp_engines.specs.declared.fault.ToolFault.{ToolFault}
 use Rattle.mdmp_engines.specs.declared.fault.ToolFault.TheVariants.{List as BadList, Source, Budget, AsideLimit, Out}
+use Rattle.mdmp_engines.specs.Engines.{StopsShort}
 use Rattle.mdmp_engines.specs.Runs.{ListsNext, ListsRun}
 use Rattle.mdmp_engines.specs.Text.{item_lines, next_lines, run_text}
 use Rattle.mdmp_print.specs.declared.form.LineForm.{LineForm}
@@ -76,6 +77,15 @@ module _ (form : LineForm) (pdb : Bool) (F : List ℕ) (limit : ℕ) where
   ListsRun-end run left before now after printed (end, same) =
       rw same (record { ends = printed.fault ∙ ap (λ (r : Run). r.fault) end; writes = whole run left before now None printed end })
 
+  -- the lines of the next one stop short behind all others
+  cut_short : (run left : Run) (before now after : OutState) → HasPrinted run before left now → StopsShort now (next_lines form pdb F limit left) after → StopsShort before (run_text form pdb F limit run) after
+  cut_short run left before now after printed short = record {
+    took =
+        rw (text_split run left before now printed)
+        (TakesPrefix-behind before.taken now.taken after.taken (flat_map lines printed.given) (next_lines form pdb F limit left) (run_text form pdb F limit (tail left)) printed.text.took short.took);
+    steady = short.steady ∙ printed.text.steady;
+  }
+
   -- the next one was not printed, or not all of it
   pub ListsRun-fault : (run left : Run) (before now after : OutState) (f : ToolFault) → HasPrinted run before left now → ListsNext form pdb F limit left now (Err f) after
       → ListsRun form pdb F limit run before (Err f) after
@@ -83,22 +93,11 @@ module _ (form : LineForm) (pdb : Bool) (F : List ℕ) (limit : ℕ) where
       rw same (record { ends = printed.fault ∙ ap (λ (r : Run). r.fault) end; writes = whole run left before now (Some fault) printed end })
   ListsRun-fault run left before now after (Source fault) printed short = record {
     ends = tt;
-    writes = record {
-      took =
-          rw (text_split run left before now printed)
-          (TakesPrefix-behind before.taken now.taken after.taken (flat_map lines printed.given) (next_lines form pdb F limit left) (run_text form pdb F limit (tail left)) printed.text.took short.took);
-      steady = short.steady ∙ printed.text.steady;
-    };
+    writes = cut_short run left before now after printed short;
   }
   ListsRun-fault run left before now after (Budget offset size) printed same = record {
     ends = tt;
-    writes = record {
-      took =
-          rw (text_split run left before now printed)
-          (TakesPrefix-behind before.taken now.taken after.taken (flat_map lines printed.given) (next_lines form pdb F limit left) (run_text form pdb F limit (tail left)) printed.text.took
-          (rw same (StopsShort-nothing now (next_lines form pdb F limit left)).took));
-      steady = ap (λ (o : OutState). o.failures) same ∙ printed.text.steady;
-    };
+    writes = cut_short run left before now after printed (rw same (StopsShort-nothing now (next_lines form pdb F limit left)));
   }
   ListsRun-fault run left before now after (AsideLimit offset size) printed (among, short) = record {
     ends = record {
@@ -112,12 +111,7 @@ module _ (form : LineForm) (pdb : Bool) (F : List ℕ) (limit : ℕ) where
           ∙ sym (append_assoc printed.given among.before (among.item ∷ (among.after ++ drop 1 left.items)));
       at = among.at;
     };
-    writes = record {
-      took =
-          rw (text_split run left before now printed)
-          (TakesPrefix-behind before.taken now.taken after.taken (flat_map lines printed.given) (next_lines form pdb F limit left) (run_text form pdb F limit (tail left)) printed.text.took short.took);
-      steady = short.steady ∙ printed.text.steady;
-    };
+    writes = cut_short run left before now after printed short;
   }
   ListsRun-fault run left before now after Out printed cut = record {
     ends = tt;

@@ -15,7 +15,7 @@ use Rattle.mdmp_lister.specs.Sink.{Handed}
 use Rattle.mdmp_engines.specs.declared.fault.ToolFault.{ToolFault}
 use Rattle.mdmp_engines.specs.declared.fault.ToolFault.TheVariants.{Source, Budget, Out}
 use Rattle.mdmp_engines.specs.CheckText.{bad_count, check_text}
-use Rattle.mdmp_engines.specs.Engines.{Runs, RunsThrough, past_faults}
+use Rattle.mdmp_engines.specs.Engines.{FetchesAllNames, Runs, RunsThrough, past_faults}
 use Rattle.mdmp_print.specs.declared.form.LineForm.{LineForm}
 
 -- ---- the rows of a check: each has a line, and a count, which is 1 if it tells of a bad entry
@@ -36,7 +36,7 @@ module _ {R : Type 0} where
   AreFirstChecked all rows (Ok done) = all ≡ rows
   AreFirstChecked all rows (Err fault) = (rest : List R) × (all ≡ rows ++ rest)
 
--- a sink was handed some rows, of a known file the first of all
+-- a sink was handed some rows, of a known file the first of all, and the names of the items were fetched
 pub record HandsChecked {K R : Type 0} (k : K) (step : K → R → Result (Unit {0}) Stopped → K → Type 0) (count : R → ℕ) (all : List ℕ → ℕ → List R)
     (old : ListerState) (result : Result (Unit {0}) RunFault) (new : ListerState) (l : K) : Type 0 where
   pub rows : List R
@@ -45,6 +45,7 @@ pub record HandsChecked {K R : Type 0} (k : K) (step : K → R → Result (Unit 
   -- no more entries are bad than the directory has
   pub few : (file : List ℕ) → sum_by count (all file old.limit) ≤ entry_count file
   pub fetches : FetchesSome old.source new.source
+  pub named : FetchesAllNames old result new
 
 -- the fault by which a run of rows ended: bytes were not obtained. It has its cause in this run
 pub record IsRunFault (old : ListerState) (fault : ListFault) (new : ListerState) : Type 0 where

@@ -1,7 +1,7 @@
 -- What every command over a listing promises, whatever it prints.
 use Rattle.std.specs.Prelude.{◌≡◌, ◌≢◌, ◌<◌, ◌≤◌, ◌+◌, ◌*◌, ◌⊎◌, ◌++◌, ℕ, Bool, List, [], Option, Some, None, Result, Ok, Err, true, false}
 use Rattle.mdmp_source.specs.Output.{HasRefused, OutState, PutsAll, PutsPrefix, TakesPrefix, refused_once}
-use Rattle.mdmp_source.specs.Source.{SourceState, FetchesAtMost, FetchesSome}
+use Rattle.mdmp_source.specs.Source.{SourceState, FetchesSome}
 use Rattle.mdmp_source.specs.Store.{StoreState, IsGood}
 use Rattle.mdmp_lister.specs.declared.choice.Choice.{Choice}
 use Rattle.mdmp_lister.specs.declared.fault.OpenFault.{OpenFault}
@@ -18,9 +18,11 @@ use Rattle.mdmp_lister.specs.Opening.{IsHandedBack, KeepsOpening}
 use Rattle.mdmp_lister.specs.Memory.{is_within, leaving, opening_fault_within}
 use Rattle.mdmp_lister.specs.Format.Numbers.{range_count}
 use Rattle.mdmp_lister.specs.Lister.{HasReadDirectory, IsAskedFor, IsNewLister, ListerState, room_held}
+use Rattle.mdmp_lister.specs.NamesFetched.{FetchesNames}
 use Rattle.mdmp_lister.specs.Requested.{GivesByRequests}
 use Rattle.mdmp_wire.specs.Header.{header_at}
 use Rattle.mdmp_lister.specs.Format.Refusal.{directory_refusal, most_ranges, opening_fault}
+use Rattle.mdmp_summary.specs.BadEntries.{all_items}
 use Rattle.mdmp_engines.specs.declared.fault.ToolFault.{ToolFault}
 use Rattle.mdmp_engines.specs.declared.fault.ToolFault.TheVariants.{Opening, List as BadList, Source, Budget, Out, Memory, MemoryLimit, AsideLimit}
 use Rattle.mdmp_engines.specs.Symbols.{symbols_bytes}
@@ -238,10 +240,15 @@ pub record HasRequested {T : Type 0} (old : ListerState) (answer : Result T Tool
   pub given : GivesByRequests old items new
   pub whole : (left : Run) → old.left ≡ Some left → WhereToldToEnd answer (items ≡ left.items)
 
--- so it did for a command that does not go on behind a fault
+-- a run that came to the end of a known file fetched no less than the names of all its items
+abbrev pub FetchesAllNames : {T E : Type 0} → ListerState → Result T E → ListerState → Type 0
+FetchesAllNames old (Ok x) new = (file : List ℕ) → old.source.store.content ≡ Some file → FetchesNames 1 (all_items file old.limit) old.counts.fetched new.counts.fetched
+FetchesAllNames old (Err fault) new = Unit {0}
+
+-- a lister gave its items so for a command that does not go on behind a fault; one that does fetched the names of all
 abbrev pub KeepsRequests : {T : Type 0} → Pace → ListerState → Result T ToolFault → ListerState → Type 0
 KeepsRequests up_to_a_fault old answer new = HasRequested old answer new
-KeepsRequests past_faults old answer new = Unit {0}
+KeepsRequests past_faults old answer new = FetchesAllNames old answer new
 KeepsRequests at_the_end old answer new = HasRequested old answer new
 
 -- both

@@ -1,14 +1,16 @@
 -- The names of a summary, as they are read from a file.
-use Rattle.std.specs.Prelude.{ℕ, ◌+◌, List, Option, Some, None, Result, Ok, Err}
+use Rattle.std.specs.Prelude.{◌≡◌, ℕ, ◌+◌, List, length, Option, Some, None, Result, Ok, Err}
 use Rattle.mdmp_source.specs.Source.{IsTold, SourceState}
 use Rattle.mdmp_wire.specs.Units.{units_over}
 use Rattle.mdmp_wire.specs.declared.module.ModuleRecord.{ModuleRecord}
 use Rattle.mdmp_wire.specs.declared.thread_name.ThreadNameRecord.{ThreadNameRecord}
 use Rattle.mdmp_lister.specs.Format.Name.{name_at, plain_name}
+use Rattle.mdmp_lister.specs.Walker.{WalkerState}
 use Rattle.mdmp_lister.specs.declared.fault.Fault.{Fault}
 use Rattle.mdmp_lister.specs.declared.meter.Amount.{Amount}
 use Rattle.mdmp_lister.specs.declared.name.Name.{Name}
 use Rattle.mdmp_lister.specs.declared.name.Name.TheVariants as names
+use Rattle.mdmp_summary.specs.Spending.{ReadsOutside}
 use Rattle.mdmp_summary.specs.declared.summary.Crash.{Crash}
 use Rattle.mdmp_summary.specs.declared.summary.FileSummary.{FileSummary}
 use Rattle.mdmp_summary.specs.declared.summary.PlaceInModule.{PlaceInModule}
@@ -53,17 +55,6 @@ abbrev pub thread_rva : Option Crash → ℕ
 thread_rva (Some crash) = name_record_rva crash.thread_name
 thread_rva None = 0
 
--- how many bytes are read for three names of at most `limit` bytes
-abbrev pub names_room : ℕ → ℕ
-names_room limit = 4 + limit + (4 + limit + (4 + limit))
-
--- what one of them costs, and all three
-abbrev pub kept_name_cost : ℕ → Amount
-kept_name_cost limit = record { bytes = 4 + limit; calls = 2 }
-
-abbrev pub names_cost : ℕ → Amount
-names_cost limit = record { bytes = names_room limit; calls = 6 }
-
 -- the names that a summary of F tells
 abbrev pub told_names : List ℕ → ℕ → FileSummary → SummaryNames
 told_names F limit summary = record {
@@ -85,6 +76,41 @@ kept_names k = record { program = kept_name k.program; owner = kept_name k.owner
 -- names, whatever place their units are lent from
 abbrev pub plain_names : SummaryNames → SummaryNames
 plain_names n = record { program = plain_name n.program; owner = plain_name n.owner; thread = plain_name n.thread }
+
+-- ---- what is read for them
+
+-- how many bytes are read for a name at most: its length, and its own if it is kept
+abbrev pub name_bytes : Name → ℕ
+name_bytes names.None = 4
+name_bytes (names.Units units) = 4 + length units.bytes.now
+name_bytes (names.Long length) = 4
+
+-- for the three of a summary
+abbrev pub told_bytes : SummaryNames → ℕ
+told_bytes n = name_bytes n.program + (name_bytes n.owner + name_bytes n.thread)
+
+-- and for three names of at most `limit` bytes
+abbrev pub names_room : ℕ → ℕ
+names_room limit = 4 + limit + (4 + limit + (4 + limit))
+
+-- what a name costs whose reading ended so
+abbrev pub kept_name_cost : {Z : Type 0} → ℕ → Result (KeptName Z) ToolFault → Amount
+kept_name_cost limit (Ok kept) = record { bytes = name_bytes (kept_name kept); calls = 2 }
+kept_name_cost limit (Err fault) = record { bytes = 4 + limit; calls = 2 }
+
+-- three names of so many bytes together
+abbrev pub names_cost : ℕ → Amount
+names_cost bytes = record { bytes = bytes; calls = 6 }
+
+-- the names of a summary were read: at most three of `limit` bytes, and of a known file those that it tells
+pub record ReadsNames (limit : ℕ) (told : List ℕ → SummaryNames) (old new : WalkerState) : Type 0 where
+  pub most : ReadsOutside (names_cost (names_room limit)) old new
+  pub all : (file : List ℕ) → old.list.source.store.content ≡ Some file → ReadsOutside (names_cost (told_bytes (told file))) old new
+
+-- or one was not
+abbrev pub EndsNames : {T : Type 0} → ℕ → (List ℕ → SummaryNames) → Result T ToolFault → WalkerState → WalkerState → Type 0
+EndsNames limit told (Ok kept) old new = ReadsNames limit told old new
+EndsNames limit told (Err fault) old new = ReadsOutside (names_cost (names_room limit)) old new
 
 -- memory ran out, or the store failed since
 abbrev pub IsNameFault : SourceState → SourceState → ToolFault → Type 0

@@ -19,18 +19,19 @@ use Rattle.mdmp_summary.specs.Spending.{PaysPasses, ReadsOutside, SpendsPasses}
 use Rattle.mdmp_summary.specs.Summary.{file_summary}
 use Rattle.mdmp_summary.specs.Summing.{IsCallFault, SpendsToFault}
 use Rattle.mdmp_summary.specs.Visiting.{RisesOutside, Visits}
-use Rattle.mdmp_summary.specs.Walking.{IsSameListing}
+use Rattle.mdmp_summary.specs.Walking.{IsSameListing, KeepsItsBudget}
 use Rattle.mdmp_summary.specs.declared.summary.SummaryFault.{SummaryFault}
 use Rattle.mdmp_summary.specs.declared.visiting.VisitEnd.{VisitEnd}
 use Rattle.mdmp_summary.specs.declared.visiting.VisitEnd.TheVariants as ends
 use Rattle.mdmp_summary.specs.declared.visiting.VisitFault.{VisitFault}
 use Rattle.mdmp_summary.specs.declared.visiting.VisitFault.TheVariants as faults
+use Rattle.mdmp_summary_lines.specs.declared.names.SummaryNames.{SummaryNames}
 use Rattle.mdmp_engines.specs.Causes.{HasBudgetCause, HasSourceCause, IsNoSourceFault}
 use Rattle.mdmp_engines.specs.Engines.{RefusesWithin, StopsShort}
-use Rattle.mdmp_engines.specs.KeptNames.{IsNameFault, names_cost}
+use Rattle.mdmp_engines.specs.KeptNames.{IsNameFault, ReadsNames, names_cost, names_room}
 use Rattle.mdmp_engines.specs.ObjectVisits.{module_room, thread_room}
 use Rattle.mdmp_engines.specs.SummaryObject.{object_text}
-use Rattle.mdmp_engines.specs.SummaryRuns.{IsUnreadFault, summary_told}
+use Rattle.mdmp_engines.specs.SummaryRuns.{IsUnreadFault, summary_names, summary_told}
 use Rattle.mdmp_engines.specs.Telling.{listing_told, opening_beside}
 use Rattle.mdmp_engines.specs.declared.fault.ToolFault.{ToolFault}
 use Rattle.mdmp_engines.specs.declared.fault.ToolFault.TheVariants as tool
@@ -124,23 +125,23 @@ PrintsThrough text bad before answer after = PrintsAnswer text bad before answer
 
 -- how an open file was read after the passes of its summary: a name was not read, or memory ran out, and nothing was printed; or
 -- both lists were printed
-pub data ReadsObject (old : WalkerState) (before : OutState) (answer : Result ℕ ToolFault) (new : WalkerState) (after : OutState) : Type 0 where
-  unread : IfErr answer (IsNameFault old.list.source new.list.source) → ReadsOutside (names_cost old.list.limit) old new → after ≡ before
-      → ReadsObject old before answer new after
-  printed : (named : WalkerState) → ReadsOutside (names_cost old.list.limit) old named → LeavesPasses 2 named answer new
-      → ReadsLists old.list.limit old.list.source.store.content answer named.list.counts.aside new.list.counts.aside → ReadsObject old before answer new after
+pub data ReadsObject (told : List ℕ → SummaryNames) (old : WalkerState) (before : OutState) (answer : Result ℕ ToolFault) (new : WalkerState) (after : OutState) : Type 0 where
+  unread : IfErr answer (IsNameFault old.list.source new.list.source) → ReadsOutside (names_cost (names_room old.list.limit)) old new → after ≡ before
+      → ReadsObject told old before answer new after
+  printed : (named : WalkerState) → ReadsNames old.list.limit told old named → LeavesPasses 2 named answer new
+      → ReadsLists old.list.limit old.list.source.store.content answer named.list.counts.aside new.list.counts.aside → ReadsObject told old before answer new after
 
 -- how the source was read, whatever it holds: the file was not opened; or the passes of its summary were made, or ended by an error
--- that has its cause and its place in them; or its object was printed too. They read no more than is said here. Nothing was printed
--- before the passes of the summary were made and the names were read
+-- that has its cause and its place in them; or its object was printed too. They read no more than is said here, and all passes together
+-- no more than the budget. Nothing was printed before the passes of the summary were made and the names were read
 pub data IsObjectThrough (limits : Limits) (old : SourceState) (before : OutState) (answer : Result ℕ ToolFault) (new : SourceState) (after : OutState) : Type 0 where
   refused : (fault : OpenFault) → IsRefusedWalker (within_object limits) old fault new → answer ≡ Err (opening_beside (object_held limits) fault) → after ≡ before
       → IsObjectThrough limits old before answer new after
   unread : (opened ended : WalkerState) (fault : SummaryFault) → IsNewWalker old All (within_object limits) opened → SpendsToFault fault opened ended
-      → IsSameListing opened.list ended.list → IsCallFault opened.list ended.list fault → answer ≡ Err (summary_told fault) → new ≡ ended.list.source → after ≡ before
+      → KeepsItsBudget opened.list ended.list → IsCallFault opened.list ended.list fault → answer ≡ Err (summary_told fault) → new ≡ ended.list.source → after ≡ before
       → IsObjectThrough limits old before answer new after
   printed : (opened ended last : WalkerState) → IsNewWalker old All (within_object limits) opened → SpendsPasses 2 1 opened ended
-      → IsSameListing opened.list ended.list → ReadsObject ended before answer last after → new ≡ last.list.source → IsObjectThrough limits old before answer new after
+      → KeepsItsBudget opened.list ended.list → ReadsObject (summary_names limits.name) ended before answer last after → KeepsItsBudget ended.list last.list → new ≡ last.list.source → IsObjectThrough limits old before answer new after
 
 -- an error leaves the output as it was, but the output's own, and that bytes were not read
 abbrev pub IsQuietObject : Result ℕ ToolFault → Type 0 → Type 0

@@ -1,6 +1,7 @@
 -- What a run of `list` answers, and what it leaves written.
-use Rattle.std.specs.Prelude.{◌≡◌, ◌<◌, ◌≤◌, ◌+◌, ◌++◌, ℕ, Bool, true, false, List, Option, None, Some, Result, Ok, Err, length, take}
+use Rattle.std.specs.Prelude.{◌≡◌, ◌<◌, ◌≤◌, ◌+◌, ◌++◌, ℕ, Bool, true, false, List, Option, None, Some, Result, Ok, Err, IfOk, length, take}
 use Rattle.std.specs.Option.{option_map}
+use Rattle.mdmp_source.specs.Count.{raised}
 use Rattle.mdmp_source.specs.Output.{OutState, PutsAll, PutsPrefix}
 use Rattle.mdmp_lister.specs.declared.choice.Choice.TheVariants.{All}
 use Rattle.mdmp_lister.specs.Format.Listing.{Run, listing, nothing, only_fault}
@@ -15,7 +16,7 @@ use Rattle.mdmp_lister.specs.Requested.{IsRequested, OnlyReadsAside}
 use Rattle.mdmp_engines.specs.Engines.{HasRequested, Runs, RunsThrough, StopsShort, WritesText, up_to_a_fault}
 use Rattle.mdmp_print.specs.Forms.{dump_line_in}
 use Rattle.mdmp_print.specs.declared.form.LineForm.{LineForm}
-use Rattle.mdmp_engines.specs.Symbols.{IsRecordAmong, IsRecordAt, symbols_bytes}
+use Rattle.mdmp_engines.specs.Symbols.{IsRecordAmong, IsRecordAt, symbols_bytes, symbols_read, symbols_taken, taken_bytes}
 use Rattle.mdmp_engines.specs.declared.list.ModuleSymbols.{ModuleSymbols}
 use Rattle.mdmp_engines.specs.Text.{run_text, list_text, next_lines}
 
@@ -80,10 +81,26 @@ RequestsNext old (Ok true) new = (x : Item) × ((m : ListerState) × (IsRequeste
 RequestsNext old (Ok false) new = HasRequested {T = Bool} old (Ok false) new
 RequestsNext old (Err fault) new = HasRequested {T = Bool} old (Err fault) new
 
--- both
+-- a list that ends by a fault of the listing has read nothing beside it, and one that ends by the limit of what is read aside nothing
+-- of the CodeView record that it tells
+abbrev pub RestsAside : {T : Type 0} → ListerState → Result T ToolFault → ListerState → Type 0
+RestsAside old (Err (BadList fault)) new = new.counts.aside ≡ old.counts.aside
+RestsAside old (Err (AsideLimit offset size)) new = new.counts.aside ≡ old.counts.aside
+RestsAside old answer new = Unit {0}
+
+-- no more than that was read of a CodeView record; and what was read of one of a known file was counted, unless the list ended there
+pub record ReadsSymbols {T : Type 0} (limit : ℕ) (symbols : Option ModuleSymbols) (old : ListerState) (answer : Result T ToolFault) (new : ListerState) : Type 0 where
+  pub most : new.counts.aside.bytes ≤ old.counts.aside.bytes + symbols_read limit symbols
+  pub rests : RestsAside old answer new
+  pub taken : (file : List ℕ) → old.source.store.content ≡ Some file → IfOk answer (λ _. raised old.counts.aside.bytes (symbols_taken file limit symbols) ≤ new.counts.aside.bytes)
+
+-- what giving the next item reads, for the listing and beside it
 pub record ReadsRequested (pdb : Bool) (old : ListerState) (answer : Result Bool ToolFault) (new : ListerState) : Type 0 where
   pub beside : ReadsNext pdb old new
   pub requests : RequestsNext old answer new
+  pub rests : RestsAside old answer new
+  pub taken : (file : List ℕ) → old.source.store.content ≡ Some file → (left : Run) → old.left ≡ Some left
+      → IfOk answer (λ _. raised old.counts.aside.bytes (taken_bytes file pdb old.limit (take 1 left.items)) ≤ new.counts.aside.bytes)
 
 -- how many names were reached then: those of the item, and where there is a fault maybe one
 abbrev pub NamesNext : Run → Result Bool ToolFault → ℕ → ℕ → Type 0

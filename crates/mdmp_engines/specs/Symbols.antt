@@ -1,7 +1,9 @@
 -- Which CodeView records `list` tells, and how much of them it reads.
-use Rattle.std.specs.Prelude.{◌≡◌, ◌++◌, ◌∷◌, ℕ, List, Bool, true, Option, Some, None, sum_by}
+use Rattle.std.specs.Prelude.{◌≡◌, ◌+◌, ◌++◌, ◌∷◌, ℕ, List, Bool, true, Option, Some, None, min, sum_by}
 use Rattle.mdmp_source.specs.declared.location.Extent.{Extent}
 use Rattle.mdmp_source.specs.declared.location.Extent.TheVariants.{Inside}
+use Rattle.mdmp_source.specs.declared.location.Location.{Location}
+use Rattle.mdmp_lister.specs.CodeView.{codeview_head_of, fetched_behind}
 use Rattle.mdmp_lister.specs.declared.item.Item.{Item}
 use Rattle.mdmp_lister.specs.declared.item.Item.TheVariants as items
 use Rattle.mdmp_engines.specs.Causes.{symbols_cost}
@@ -38,3 +40,15 @@ pub record IsRecordAmong (pdb : Bool) (limit : ℕ) (items : List Item) (offset 
 -- and of those of some items together: 24 bytes and a name for each, or the whole record if it is shorter
 abbrev pub symbols_bytes : Bool → ℕ → List Item → ℕ
 symbols_bytes pdb limit items = sum_by (λ item. symbols_read limit (symbols_of pdb item)) items
+
+-- how many bytes of the record at a location of F are read: its first 24, and of one of the kind RSDS those that follow, up to `limit`
+abbrev pub codeview_taken : List ℕ → ℕ → Location → ℕ
+codeview_taken F limit at = min at.size 24 + fetched_behind (codeview_head_of F at) at.size limit
+
+-- how many of one that is told, and of those of some items together
+abbrev pub symbols_taken : List ℕ → ℕ → Option ModuleSymbols → ℕ
+symbols_taken F limit None = 0
+symbols_taken F limit (Some of) = codeview_taken F limit of.location
+
+abbrev pub taken_bytes : List ℕ → Bool → ℕ → List Item → ℕ
+taken_bytes F pdb limit items = sum_by (λ item. symbols_taken F limit (symbols_of pdb item)) items

@@ -3,7 +3,7 @@ ghost use Rattle.std.specs.Prelude.{◌≡◌, ℕ, List, None, Some, flat_map, 
 ghost use Rattle.mdmp_lister.specs.declared.choice.Choice.TheVariants.{All};
 ghost use Rattle.mdmp_engines.specs.Causes.{EndsByBudget, KeepsAside};
 ghost use Rattle.mdmp_engines.specs.CheckRuns.{EndsCounted};
-ghost use Rattle.mdmp_engines.specs.Engines.{IsOpened, IsSameRun, KeepsReads, Leaves, WritesText, at_most, past_faults};
+ghost use Rattle.mdmp_engines.specs.Engines.{IsOpened, IsSameRun, Leaves, ReadsByRequests, WritesText, at_most, past_faults};
 
 use crate::engine::Engine;
 use crate::fault::{ToolFault, told_list};
@@ -132,7 +132,7 @@ fn check_listed<R: CheckedRows, S: Store + Drop, A: Allocator + Copy, O: Printer
     ensures same { IsSameRun lister.old lister.new }
     ensures over { EndsByBudget lister.old result lister.new }
     ensures aside { KeepsAside None result lister.new }
-    ensures read { KeepsReads (at_most 0) past_faults lister.new }
+    ensures read { ReadsByRequests (at_most 0) past_faults lister.old result lister.new }
 {
     // The prover needs that a directory has fewer than 2^32 entries: so the count is never at its greatest.
     let _entries = lister.header().number_of_streams;

@@ -1,10 +1,10 @@
 //! Names that are read from a file and kept.
-ghost use Rattle.std.specs.Prelude.{◌≡◌, ◌+◌, ◌*◌, ◌%◌, ℕ, List, Some, IfErr, IfOk, length};
+ghost use Rattle.std.specs.Prelude.{◌≡◌, ◌≤◌, ◌+◌, ◌*◌, ◌%◌, ℕ, List, Some, IfErr, IfOk, length};
 ghost use Rattle.mdmp_source.specs.Store.{IsGood};
 ghost use Rattle.mdmp_lister.specs.Format.Name.{plain_name};
 ghost use Rattle.mdmp_summary.specs.Spending.{ReadsOutside};
 ghost use Rattle.mdmp_engines.specs.Causes.{IsNoSourceFault};
-ghost use Rattle.mdmp_engines.specs.KeptNames.{IsNameFault, crash_rva, kept_name, kept_names, module_rva, kept_name_cost, names_cost, plain_names, thread_rva, told_name, told_names};
+ghost use Rattle.mdmp_engines.specs.KeptNames.{EndsNames, IsNameFault, crash_rva, kept_name, kept_names, module_rva, kept_name_cost, name_bytes, plain_names, thread_rva, told_name, told_names};
 
 use crate::fault::ToolFault;
 use crate::kept_units::KeptUnits;
@@ -68,7 +68,8 @@ fn read_name<S: Store + Drop, A: Allocator + Copy>(
     limit: u32,
 ) -> Result<KeptName<A>, ToolFault>
     ensures name { (file : List ℕ) → walker.old.list.source.store.content ≡ Some file → IfOk result (λ kept. kept_name kept ≡ told_name file limit rva) }
-    ensures reads { ReadsOutside (kept_name_cost limit) walker.old walker.new }
+    ensures reads { ReadsOutside (kept_name_cost limit result) walker.old walker.new }
+    ensures few { IfOk result (λ kept. name_bytes (kept_name kept) ≤ 4 + limit) }
     ensures fault { IfErr result (IsNameFault walker.old.list.source walker.new.list.source) }
     ensures good { (file : List ℕ) → IsGood walker.old.list.source.store file → IsNoSourceFault result }
 {
@@ -146,7 +147,7 @@ pub(crate) fn read_names<S: Store + Drop, A: Allocator + Copy>(
     limit: u32,
 ) -> Result<KeptNames<A>, ToolFault>
     ensures names { (file : List ℕ) → walker.old.list.source.store.content ≡ Some file → IfOk result (λ kept. kept_names kept ≡ told_names file limit summary.now) }
-    ensures reads { ReadsOutside (names_cost limit) walker.old walker.new }
+    ensures reads { EndsNames limit (λ file. told_names file limit summary.now) result walker.old walker.new }
     ensures fault { IfErr result (IsNameFault walker.old.list.source walker.new.list.source) }
     ensures good { (file : List ℕ) → IsGood walker.old.list.source.store file → IsNoSourceFault result }
 {

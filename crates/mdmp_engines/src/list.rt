@@ -8,8 +8,8 @@ ghost use Rattle.mdmp_lister.specs.Sink.{names_of_all};
 ghost use Rattle.mdmp_engines.specs.Causes.{EndsByBudget, IsWithinBudget, KeepsAside, MayReachAside, MayReachBudget, MayReachMemory, symbols_cost};
 ghost use Rattle.mdmp_engines.specs.Dropping.{DropsStore};
 ghost use Rattle.mdmp_engines.specs.Engines.{HasRequested, IsSameRun, IsReadThrough, Leaves, ReadsSource, Tells, WhereToldToFault, directly, up_to_a_fault, list_access};
-ghost use Rattle.mdmp_engines.specs.Runs.{IsBehindNext, Lists, ListsFile, ListsNext, ListsRun, NamesNext, PutsSymbols, ReadsLeft, ReadsRequested};
-ghost use Rattle.mdmp_engines.specs.Symbols.{symbols_of, symbols_read};
+ghost use Rattle.mdmp_engines.specs.Runs.{IsBehindNext, Lists, ListsFile, ListsNext, ListsRun, NamesNext, PutsSymbols, ReadsLeft, ReadsRequested, ReadsSymbols};
+ghost use Rattle.mdmp_engines.specs.Symbols.{symbols_of};
 ghost use Rattle.mdmp_engines.specs.Text.{symbols_text};
 
 use crate::engine::{Engine, run, run_source};
@@ -271,7 +271,7 @@ fn list_symbols<S: Store + Drop, A: Allocator + Copy, O: Printer>(
     ensures same { IsSameRun lister.old lister.new }
     ensures over { IsWithinBudget result }
     ensures aside { is_within aside lister.old.counts.aside.bytes ≡ true → KeepsAside aside result lister.new }
-    ensures read { lister.new.counts.aside.bytes ≤ lister.old.counts.aside.bytes + symbols_read lister.old.limit symbols }
+    ensures read { ReadsSymbols lister.old.limit symbols lister.old result lister.new }
     ensures names { lister.new.counts.names ≡ lister.old.counts.names }
     ensures only { IfErr result (λ fault. WhereToldToFault fault ⊥) }
 {

@@ -1,13 +1,12 @@
 //! The command `summary`.
 ghost use Rattle.std.specs.Prelude.{◌≡◌, ◌+◌, ◌*◌, ℕ, List, Some, None, false, IfErr, IfOk, MatchResult};
 ghost use Rattle.mdmp_source.specs.Output.{Puts};
-ghost use Rattle.mdmp_source.specs.Source.{FetchesAtMost};
 ghost use Rattle.mdmp_source.specs.Store.{IsGood};
 ghost use Rattle.mdmp_summary_lines.specs.SummaryText.{summary_text};
 ghost use Rattle.mdmp_engines.specs.Causes.{HasOutCause, IsNoSourceFault};
 ghost use Rattle.mdmp_engines.specs.Engines.{ReadsSource};
-ghost use Rattle.mdmp_engines.specs.KeptNames.{kept_names, names_room};
-ghost use Rattle.mdmp_engines.specs.SummaryRuns.{IsNameEnd, IsPrintedOrUnread, IsQuietSummary, IsSummed, IsSummedThrough, IsUnsummed, Summarizes, summary_told};
+ghost use Rattle.mdmp_engines.specs.KeptNames.{kept_names, told_names};
+ghost use Rattle.mdmp_engines.specs.SummaryRuns.{FetchesTold, IsNameEnd, IsPrintedOrUnread, IsQuietSummary, IsSummed, IsSummedThrough, IsUnsummed, Summarizes, summary_told};
 
 use crate::engine::refused_beside;
 use crate::fault::{ToolFault, told_list, told_opening};
@@ -115,7 +114,7 @@ fn print_told<S: Store + Drop, A: Allocator + Copy, O: Printer>(
 ) -> Result<u64, ToolFault>
     ensures told { (bytes : List ℕ) → walker.old.list.source.store.content ≡ Some bytes → IsPrintedOrUnread file.now bytes limit summary.now (O.state out.old) result (O.state out.new) }
     ensures good { (bytes : List ℕ) → IsGood walker.old.list.source.store bytes → IsNoSourceFault result }
-    ensures fetches { FetchesAtMost (names_room limit) walker.old.list.source walker.new.list.source }
+    ensures fetches { FetchesTold limit (λ bytes. told_names bytes limit summary.now) result walker.old.list.source walker.new.list.source }
     ensures end { IfErr result (IsNameEnd walker.old.list.source walker.new.list.source) }
     ensures quiet { IsQuietSummary result (O.state out.new ≡ O.state out.old) }
     ensures out_cause { HasOutCause (O.state out.old) result (O.state out.new) }

@@ -8,7 +8,7 @@ ghost use Rattle.mdmp_summary.specs.BadEntries.{all_items};
 ghost use Rattle.mdmp_summary.specs.Walking.{IsSameListing};
 ghost use Rattle.mdmp_engines.specs.Causes.{HasOutCause, HasSourceCause, IsNoSourceFault};
 ghost use Rattle.mdmp_engines.specs.Engines.{IsFlushed, ReadsSource};
-ghost use Rattle.mdmp_engines.specs.KeptNames.{kept_names};
+ghost use Rattle.mdmp_engines.specs.KeptNames.{kept_names, told_names};
 ghost use Rattle.mdmp_engines.specs.ObjectRuns.{IsObjectThrough, IsQuietObject, LeavesPasses, PrintsAnswer, PrintsObject, PrintsThrough, PrintsWhileRead, ReadsItems, ReadsLists, ReadsObject, ShowsAll, visit_told};
 ghost use Rattle.mdmp_engines.specs.ObjectVisits.{HasSymbolsRoom, module_room, thread_room};
 ghost use Rattle.mdmp_engines.specs.SummaryObject.{crashed_id, found_among, lists_text, modules_text, named_object, symbols_most, threads_and_end, threads_text, told_object};
@@ -72,6 +72,8 @@ pub fn summary_json_source<S: Store + Drop, A: Allocator + Copy, O: Out>(
         &summary,
         blocks,
     );
+    // The proof learns here that the walker kept to its read limit.
+    let _counts = walker.counts();
     Outcome {
         answer,
         source: walker.into_source(),
@@ -95,7 +97,7 @@ fn print_object<S: Store + Drop, A: Allocator + Copy, O: Out>(
     requires none { blocks.old.pending ≡ [] }
     ensures prints { (bytes : List ℕ) → walker.old.list.source.store.content ≡ Some bytes
         → PrintsThrough (told_object file.now bytes limit symbols summary.now) summary.now.bad.count blocks.old.inner result blocks.new.inner }
-    ensures reads { ReadsObject walker.old blocks.old.inner result walker.new blocks.new.inner }
+    ensures reads { ReadsObject (λ bytes. told_names bytes limit summary.now) walker.old blocks.old.inner result walker.new blocks.new.inner }
     ensures same { IsSameListing walker.old.list walker.new.list }
     ensures good { (bytes : List ℕ) → IsGood walker.old.list.source.store bytes → IsNoSourceFault result }
     ensures cause { HasSourceCause walker.old.list.source result walker.new.list.source }

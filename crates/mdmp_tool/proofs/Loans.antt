@@ -13,6 +13,7 @@ use Rattle.mdmp_engines.specs.Causes.{HasOutCause}
 use Rattle.mdmp_tool.specs.Commands.{HasRun, HasRunThrough, IsObjectPrinted}
 use Rattle.mdmp_engines.specs.Engines.{IsFlushed, Pace, RefusesWithin, RunsThrough, StopsShort, Tells, WritesText, in_blocks, Access}
 use Rattle.mdmp_engines.specs.ObjectRuns.{IsObjectThrough, IsQuietObject, PrintsObject, PrintsThrough, ReadsObject}
+use Rattle.mdmp_engines.specs.SummaryRuns.{summary_names}
 use Rattle.mdmp_engines.proofs.BlockLemmas.{at_fault, quiet_from}
 
 -- ---- the loans stay
@@ -123,16 +124,17 @@ module _ (name : ℕ) (a b : OutState) where
   prints_lent file F limits r (PrintsObject.refused fault is told same) = PrintsObject.refused fault is told (same_out same)
   prints_lent file F limits r (PrintsObject.printed walks prints) = PrintsObject.printed walks (through_lent _ _ r prints)
 
-  reads_lent : (old : WalkerState) (r : Result ℕ ToolFault) (new : WalkerState) → ReadsObject old (lent name a) r new (lent name b) → ReadsObject old a r new b
-  reads_lent old r new (ReadsObject.unread fault outside same) = ReadsObject.unread fault outside (same_out same)
-  reads_lent old r new (ReadsObject.printed named outside leaves lists) = ReadsObject.printed named outside leaves lists
+  reads_lent : (limit : ℕ) (old : WalkerState) (r : Result ℕ ToolFault) (new : WalkerState)
+      → ReadsObject (summary_names limit) old (lent name a) r new (lent name b) → ReadsObject (summary_names limit) old a r new b
+  reads_lent limit old r new (ReadsObject.unread fault outside same) = ReadsObject.unread fault outside (same_out same)
+  reads_lent limit old r new (ReadsObject.printed named outside leaves lists) = ReadsObject.printed named outside leaves lists
 
   object_lent_through : (limits : Limits) (old : SourceState) (r : Result ℕ ToolFault) (new : SourceState) → IsObjectThrough limits old (lent name a) r new (lent name b) → IsObjectThrough limits old a r new b
   object_lent_through limits old r new (IsObjectThrough.refused fault is told same) = IsObjectThrough.refused fault is told (same_out same)
   object_lent_through limits old r new (IsObjectThrough.unread opened ended fault is spends listing called told last same) =
       IsObjectThrough.unread opened ended fault is spends listing called told last (same_out same)
-  object_lent_through limits old r new (IsObjectThrough.printed opened ended last is spends listing reads ends) =
-      IsObjectThrough.printed opened ended last is spends listing (reads_lent ended r last reads) ends
+  object_lent_through limits old r new (IsObjectThrough.printed opened ended last is spends listing reads keeps ends) =
+      IsObjectThrough.printed opened ended last is spends listing (reads_lent limits.name ended r last reads) keeps ends
 
   object_lent : (file : List ℕ) (limits : Limits) (old : SourceState) (r : Result ℕ ToolFault) (new : SourceState)
       → IsObjectPrinted file limits old (lent name a) r new (lent name b) → IsObjectPrinted file limits old a r new b

@@ -161,9 +161,7 @@ fn assert_row(rt: &impl Abort, alloc: Global, number: usize, row: &CommandHeapRo
 
 #[test]
 fn command_over_a_large_file_takes_what_is_promised(rt: HostRuntime) {
-    let mut number: usize = 0;
-    for row in &ROWS {
+    for (number, row) in ROWS.iter().enumerate() {
         assert_row(&rt, rt.alloc(), number, row);
-        number = number.saturating_add(1);
     }
 }

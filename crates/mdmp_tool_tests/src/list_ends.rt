@@ -17,37 +17,11 @@ pub const MODULES: [u32; 85] = [
 
 /// A module whose file has another version than its product.
 const VERSIONS: [u32; 31] = [
-    4,
-    112,
-    44,
-    1, // the directory, and the count
-    0x4000_0000,
-    1,
-    4096,
-    0,
-    0,
-    0,
-    0,
-    0, // up to the versions
-    0x000a_0000,
-    0x4a61_0001, // the file's
-    0x0006_0001,
-    0x0007_0002, // the product's
-    0,
-    0,
-    0,
-    0,
-    0,
-    0,
-    0,
-    0,
-    0,
-    0,
-    0,
-    0,
-    0,
-    0,
-    0,
+    4, 112, 44, 1, // the directory, and the count
+    0x40000000, 1, 4096, 0, 0, 0, 0, 0, // up to the versions
+    0xa_0000, 0x4a610001, // the file's
+    0x6_0001, 0x7_0002, // the product's
+    0, 0, 0, 0, 0, 0, 0, 0, 0, 0, 0, 0, 0, 0, 0,
 ];
 
 /// An entry with another number in each field.

@@ -113,6 +113,15 @@ returns-in-Err-At-clause-same g c = run_list _ _ _ (run_none _) c.in-Err-At.ensu
 pub returns-in-Err-Stopped-clause-same : goal.returns-in-Err-Stopped-clause-same
 returns-in-Err-Stopped-clause-same g c = run_list _ _ _ (run_none _) c.in-Err-Stopped.ensures.same
 
+pub returns-in-Ok-clause-read : goal.returns-in-Ok-clause-read
+returns-in-Ok-clause-read g c = record { keeps = c.in-Ok.ensures.read; requests = c.in-Ok.ensures.hands.named }
+
+pub returns-in-Err-At-clause-read : goal.returns-in-Err-At-clause-read
+returns-in-Err-At-clause-read g c = record { keeps = c.in-Err-At.ensures.read; requests = tt }
+
+pub returns-in-Err-Stopped-clause-read : goal.returns-in-Err-Stopped-clause-read
+returns-in-Err-Stopped-clause-read g c = record { keeps = c.in-Err-Stopped.ensures.read; requests = tt }
+
 pub returns-in-Err-At-clause-over : goal.returns-in-Err-At-clause-over
 returns-in-Err-At-clause-over g c =
     let f = c.in-Err-At.fault in

@@ -38,7 +38,7 @@ returns-else-is_over-clause-reads g c =
     let moved = c.write_copy.ensures.moves in
     rw c.into_source-in-Ok.ensures.value (record {
       cause = cause_copied c.args.source c.in-Ok.field-0.view.walk c.write_copy.new.view.walk c.in-Ok.field-0.view.last c.write_copy.new.view.last c.write_copy.result new.fetches new.last moved c.write_copy.ensures.told;
-      fetches = FetchesSome_then c.args.source c.in-Ok.field-0.view.walk.source c.write_copy.new.view.walk.source new.fetches moved.fetches;
+      fetches = FetchesSome_then c.args.source c.in-Ok.field-0.view.walk.source c.write_copy.new.view.walk.source new.fetches moved.same.fetches;
     })
 
 pub returns-in-Err-clause-good : goal.returns-in-Err-clause-good
@@ -67,17 +67,17 @@ returns-else-is_over-clause-spends g c =
     let later : opened_by after ≡ 32 + 12 * entries_in after + sum (file_shape g.row.A.Denot after.walk after.counts.items after.rooms.items).costs = opening_cost_told g.row.A.Denot after.walk after.counts.items after.rooms.items in
     let first : opened_by view ≡ 32 + 12 * entries_in view + sum shape.costs = opening_cost_told g.row.A.Denot view.walk view.counts.items view.rooms.items in
     let costs : sum (file_shape g.row.A.Denot after.walk after.counts.items after.rooms.items).costs ≡ sum shape.costs = ap (λ (s : ViewShape). sum s.costs) written.shape in
-    let entries : entries_in after ≡ entries_in view = ap (λ h. h.number_of_streams) written.moves.header in
+    let entries : entries_in after ≡ entries_in view = ap (λ h. h.number_of_streams) written.moves.same.header in
     spent (record {
       shape = shape;
       size = shape_copied shape (g.O.Out.state c.args.out.now) (g.O.Out.state c.write_copy.new.out) c.write_copy.result written.ends;
       walk = after.walk;
-      held = omega (arith, of.new.held, written.moves.held, entries);
-      start = written.moves.start ∙ of.new.start;
+      held = omega (arith, of.new.held, written.moves.same.held, entries);
+      start = written.moves.same.start ∙ of.new.start;
       source = sym c.into_source-in-Ok.ensures.value;
       entries = entries_in view;
       entries_are = sym entries;
-      fetched = omega (arith, c.into_source-in-Ok.ensures.spent, later, costs, entries, written.moves.start, of.new.start, of.new.passed, of.new.asked, written.passed, written.asked);
+      fetched = omega (arith, c.into_source-in-Ok.ensures.spent, later, costs, entries, written.moves.same.start, of.new.start, of.new.passed, of.new.asked, written.passed, written.asked);
       costs = λ F known. sym first ∙ of.costs.cost F known;
       asks = of.views.shows;
     })
@@ -125,7 +125,7 @@ returns-else-is_over-clause-within g c =
     let later : opened_by after ≡ 32 + 12 * entries_in after + sum (file_shape g.row.A.Denot after.walk after.counts.items after.rooms.items).costs = opening_cost_told g.row.A.Denot after.walk after.counts.items after.rooms.items in
     let first : opened_by view ≡ 32 + 12 * entries_in view + sum shape.costs = opening_cost_told g.row.A.Denot view.walk view.counts.items view.rooms.items in
     let costs : sum (file_shape g.row.A.Denot after.walk after.counts.items after.rooms.items).costs ≡ sum shape.costs = ap (λ (s : ViewShape). sum s.costs) written.shape in
-    let entries : entries_in after ≡ entries_in view = ap (λ h. h.number_of_streams) written.moves.header in
+    let entries : entries_in after ≡ entries_in view = ap (λ h. h.number_of_streams) written.moves.same.header in
     within_written c.args.limits.budget c.args.source c.into_source-in-Ok.result shape (g.O.Out.state c.args.out.now) (g.O.Out.state c.write_copy.new.out) c.write_copy.result written.ends (λ F known.
     let kept = sym (c.is_over.ensures.bound (copy_bound g.row.A.Denot F (Types c.args.types)) (c.needed-needed.ensures ∙ of.costs.needs F known)) ∙ c.if-is_over.false in
     let now : view.walk.source.store.content ≡ Some F = of.new.fetches.fetches.same_content ∙ known in
@@ -136,7 +136,7 @@ returns-else-is_over-clause-within g c =
       copy_bound g.row.A.Denot F (Types c.args.types),
       (
         kept,
-        omega (arith, c.into_source-in-Ok.ensures.spent, later, first, costs, entries, listed, asked, opened, bound, written.moves.start, of.new.start, of.new.passed, of.new.asked, written.passed, written.asked),
+        omega (arith, c.into_source-in-Ok.ensures.spent, later, first, costs, entries, listed, asked, opened, bound, written.moves.same.start, of.new.start, of.new.passed, of.new.asked, written.passed, written.asked),
       ),
     ))
 

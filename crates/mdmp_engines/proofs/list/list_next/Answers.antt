@@ -13,7 +13,7 @@ use Rattle.mdmp_engines.specs.Runs.{PutsSymbols}
 use Rattle.mdmp_engines.specs.Text.{symbols_text}
 use Rattle.mdmp_engines.specs.declared.list.ModuleSymbols.{ModuleSymbols}
 use Rattle.mdmp_engines.proofs.Symbols.{IsBehindNext-aside, Leaves-cut, Leaves-done, Leaves-fault, Leaves-later, Leaves-listed, ListsNext-cut, ListsNext-fault, ListsNext-line, ListsNext-symbols, end-more, fault-more, refused_by, symbols-inside, symbols_text-is}
-use Rattle.mdmp_engines.proofs.Besides.{ReadsNext-none, ReadsNext-record}
+use Rattle.mdmp_engines.proofs.Besides.{ReadsNext-none, ReadsNext-record, rests_fault, rests_listing, taken_end, taken_next}
 use Rattle.mdmp_engines.proofs.Reached.{names_fault, names_next, names_none}
 use Rattle.mdmp_engines.proofs.SameRuns.{budget_fault, budget_listing, run_list, run_none, run_then, aside_fault, aside_listing, aside_same}
 use Rattle.mdmp_engines.proofs.list.list_next.Goals as goal
@@ -172,6 +172,8 @@ returns-in-Ok-None-clause-read g c = record {
     leaves = rw (c.in-Ok-None.is, c.in-Ok-None.field-0-is) at c.next_inlined.follows.holds-at-none;
     gives = λ left known. rw c.in-Ok-None.field-0-is at (c.in-Ok-None.ensures.gives left known);
   };
+  rests = tt;
+  taken = λ file content left known. taken_end file c.args.pdb c.args.lister.now c.next_inlined.follows.lender-at-none left c.next_inlined.follows.holds-at-none.list.same.aside (rw c.in-Ok-None.field-0-is at (c.in-Ok-None.ensures.gives left known));
 }
 
 pub returns-in-Err-print_item-clause-read : goal.returns-in-Err-print_item-clause-read
@@ -179,12 +181,16 @@ returns-in-Err-print_item-clause-read g c = record {
   beside = ReadsNext-none c.args.pdb _ _ c.next_inlined.follows.holds-at-none.list.same.aside;
   requests = requested_one c.args.lister.now c.next_inlined.follows.lender-at-none c.next_inlined.follows.lender-at-none (plain c.in-Ok-Some.item) Out
       (item_requested c.args.lister.now c.in-Ok-Some.item c.next_inlined.follows.lender-at-none (rw (c.in-Ok-Some.is, c.in-Ok-Some.field-0-is) at c.next_inlined.follows.holds-at-none) (λ left known. rw c.in-Ok-Some.field-0-is at (c.in-Ok-Some.ensures.gives left known))) (aside_none _) tt;
+  rests = tt;
+  taken = λ file content left known. tt;
 }
 
 pub returns-in-Err-clause-read : goal.returns-in-Err-clause-read
 returns-in-Err-clause-read g c = rw c.told_list.ensures (record {
   beside = ReadsNext-none c.args.pdb _ _ c.next_inlined.follows.holds-at-none.list.same.aside;
   requests = requested_fault c.args.lister.now c.next_inlined.follows.lender-at-none c.in-Err.fault record { leaves = rw c.in-Err.is at c.next_inlined.follows.holds-at-none; gives = c.in-Err.ensures.gives };
+  rests = rests_listing Bool c.in-Err.fault c.args.lister.now c.next_inlined.follows.lender-at-none c.next_inlined.follows.holds-at-none.list.same.aside;
+  taken = λ file content left known. tt;
 })
 
 pub returns-in_err-list_symbols-clause-read : goal.returns-in_err-list_symbols-clause-read
@@ -193,20 +199,27 @@ returns-in_err-list_symbols-clause-read g c =
     let is = refused_by c.from_residual.result f c.from_residual.ensures.1 in
     rw is (record {
       beside = ReadsNext-record c.args.pdb _ _ _ c.in-Ok-Some.item _ c.next_inlined.follows.holds-at-none.list.same c.symbols_of-symbols.ensures
-          (λ left known. rw c.in-Ok-Some.field-0-is at (c.in-Ok-Some.ensures.gives left known)) c.in_err-list_symbols.ensures.read;
+          (λ left known. rw c.in-Ok-Some.field-0-is at (c.in-Ok-Some.ensures.gives left known)) c.in_err-list_symbols.ensures.read.most;
       requests = requested_one c.args.lister.now c.next_inlined.follows.lender-at-none c.list_symbols.new.lister (plain c.in-Ok-Some.item) f
           (item_requested c.args.lister.now c.in-Ok-Some.item c.next_inlined.follows.lender-at-none (rw (c.in-Ok-Some.is, c.in-Ok-Some.field-0-is) at c.next_inlined.follows.holds-at-none) (λ left known. rw c.in-Ok-Some.field-0-is at (c.in-Ok-Some.ensures.gives left known))) c.in_err-list_symbols.ensures.stays c.in_err-list_symbols.ensures.only;
+      rests = rests_fault (Unit {0}) Bool f c.args.lister.now c.next_inlined.follows.lender-at-none c.list_symbols.new.lister c.next_inlined.follows.holds-at-none.list.same.aside c.in_err-list_symbols.ensures.read.rests;
+      taken = λ file content left known. tt;
     })
 
 pub returns-clause-read : goal.returns-clause-read
 returns-clause-read g c =
     record {
       beside = ReadsNext-record c.args.pdb _ _ _ c.in-Ok-Some.item _ c.next_inlined.follows.holds-at-none.list.same c.symbols_of-symbols.ensures
-          (λ left known. rw c.in-Ok-Some.field-0-is at (c.in-Ok-Some.ensures.gives left known)) c.in_ok-list_symbols.ensures.read;
+          (λ left known. rw c.in-Ok-Some.field-0-is at (c.in-Ok-Some.ensures.gives left known)) c.in_ok-list_symbols.ensures.read.most;
       requests = (
         plain c.in-Ok-Some.item,
         (c.next_inlined.follows.lender-at-none, ((item_requested c.args.lister.now c.in-Ok-Some.item c.next_inlined.follows.lender-at-none (rw (c.in-Ok-Some.is, c.in-Ok-Some.field-0-is) at c.next_inlined.follows.holds-at-none) (λ left known. rw c.in-Ok-Some.field-0-is at (c.in-Ok-Some.ensures.gives left known))), c.in_ok-list_symbols.ensures.stays)),
       );
+      rests = tt;
+      taken = λ file content left known.
+          let holds = c.next_inlined.follows.holds-at-none.list in
+          taken_next file c.args.pdb c.args.lister.now c.next_inlined.follows.lender-at-none c.list_symbols.new.lister c.in-Ok-Some.item c.symbols_of-symbols.result left holds.same c.symbols_of-symbols.ensures
+          (rw c.in-Ok-Some.field-0-is at (c.in-Ok-Some.ensures.gives left known)) (c.in_ok-list_symbols.ensures.read.taken file (holds.spends.fetches.same_content ∙ content));
     }
 
 pub returns-in-Ok-None-clause-names : goal.returns-in-Ok-None-clause-names

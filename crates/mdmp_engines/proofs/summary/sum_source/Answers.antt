@@ -53,10 +53,10 @@ returns-in-Ok-summarize_listing-clause-summed g c =
       opened = opened;
       is_new = subst (λ (l : Limits). IsNewWalker c.args.source All l opened) within new;
       spends = spends_both c.summarize_listing.result opened ended c.summarize_listing.ensures.spends;
-      same = sums.same;
-      fetches = record { count = _; fetches = fetches_then _ _ c.args.source opened.list.source ended.list.source new.fetches sums.same.same_file.fetches };
-      choice_is = sums.same.choice ∙ new.list.asked.choice_is;
-      limit_is = sums.same.limit ∙ limit;
+      keeps = sums.keeps;
+      fetches = record { count = _; fetches = fetches_then _ _ c.args.source opened.list.source ended.list.source new.fetches sums.keeps.same.same_file.fetches };
+      choice_is = sums.keeps.same.choice ∙ new.list.asked.choice_is;
+      limit_is = sums.keeps.same.limit ∙ limit;
       going = sums.going;
       opens = λ bytes known. subst (λ (l : Limits). walk_fault l bytes ≡ None) within (c.in-Ok.ensures.within bytes known);
       sums = λ bytes known. sums.sums bytes (new.fetches.same_content ∙ known) ∙ ap (file_summary bytes) limit;
@@ -71,7 +71,7 @@ returns-in-Err-summarize_listing-clause-unsummed g c =
     let ended = c.summarize_listing.new.walker in
     let sums = c.in-Err-summarize_listing.ensures in
     IsUnsummed.unread opened ended c.in-Err-summarize_listing.fault (subst (λ (l : Limits). IsNewWalker c.args.source All l opened) within c.in-Ok.ensures.new)
-    (λ bytes known. subst (λ (l : Limits). walk_fault l bytes ≡ None) within (c.in-Ok.ensures.within bytes known)) sums.spends sums.same sums.fault
+    (λ bytes known. subst (λ (l : Limits). walk_fault l bytes ≡ None) within (c.in-Ok.ensures.within bytes known)) sums.spends sums.keeps sums.fault
     (ap Err c.told_summary.ensures) c.into_source.ensures.value
 
 pub returns-in-Err-summarize_listing-clause-good : goal.returns-in-Err-summarize_listing-clause-good
@@ -90,5 +90,5 @@ returns-in-Err-summarize_listing-clause-reads g c =
     let cause = cause-unread first opened ended fault (record { count = _; fetches = new }) c.in-Err-summarize_listing.ensures.fault in
     subst (λ (s : SourceState). ReadsSource {T = ℕ} first (Err c.told_summary.result) s) (sym c.into_source.ensures.value) (record {
       cause = subst (λ (f : ToolFault). HasSourceCause {T = ℕ} first (Err f) ended.source) (sym c.told_summary.ensures) cause;
-      fetches = record { count = _; fetches = fetches_then _ _ first opened.source ended.source new c.in-Err-summarize_listing.ensures.same.same_file.fetches };
+      fetches = record { count = _; fetches = fetches_then _ _ first opened.source ended.source new c.in-Err-summarize_listing.ensures.keeps.same.same_file.fetches };
     })

@@ -1,13 +1,13 @@
 use Rattle.std.proofs.Common.{◌≡◌, ◌∙◌, ◌*◌, ℕ, ap, refl, subst, sym}
 use Rattle.std.specs.Prelude.{IfErr}
-use Rattle.mdmp_source.specs.Source.{FetchesAtMost, SourceState}
+use Rattle.mdmp_source.specs.Source.{SourceState}
 use Rattle.mdmp_source.specs.SourceLaws.{fetches_then}
 use Rattle.mdmp_summary.proofs.Told.{good_still}
+use Rattle.mdmp_engines.proofs.NamesRead.{fetches_summary}
 use Rattle.mdmp_engines.proofs.Summarizing.{cause-named, summarizes_told}
 use Rattle.mdmp_engines.proofs.Unsummed.{quiet_unsummed, unsummed_lines, unsummed_out, unsummed_through}
 use Rattle.mdmp_engines.specs.Engines.{ReadsSource}
-use Rattle.mdmp_engines.specs.KeptNames.{names_room}
-use Rattle.mdmp_engines.specs.SummaryRuns.{IsNameEnd, IsSummed, IsSummedThrough, IsUnsummed, names_held}
+use Rattle.mdmp_engines.specs.SummaryRuns.{FetchesTold, IsNameEnd, IsSummed, IsSummedThrough, IsUnsummed, names_held, summary_names}
 use Rattle.mdmp_engines.proofs.summary.summary_source.Goals as goal
 
 -- ---- there is no summary
@@ -55,8 +55,10 @@ returns-clause-through g c =
     subst (λ (n : ℕ). IsSummed n c.args.limits c.args.source walker summary) held c.in-Ok.ensures.summed in
     let answer = c.print_told-answer.result in
     let value = sym c.into_source.ensures.value in
-    IsSummedThrough.summed of.opened walker of.is_new of.spends of.same
-    (subst (λ (s : SourceState). FetchesAtMost (names_room c.args.limits.name) walker.list.source s) value c.print_told-answer.ensures.fetches)
+    IsSummedThrough.summed of.opened walker of.is_new of.spends of.keeps
+    (subst (λ (s : SourceState). FetchesTold c.args.limits.name (summary_names c.args.limits.name) answer walker.list.source s) value
+    (fetches_summary c.args.limits.name summary answer walker.list.source c.print_told-answer.new.walker.list.source
+    (λ bytes known. of.sums bytes (sym of.fetches.fetches.same_content ∙ known)) c.print_told-answer.ensures.fetches))
     (subst (λ (s : SourceState). IfErr answer (IsNameEnd walker.list.source s)) value c.print_told-answer.ensures.end)
 
 pub returns-clause-reads : goal.returns-clause-reads
@@ -67,5 +69,5 @@ returns-clause-reads g c =
     let passed = c.in-Ok.ensures.summed.fetches.fetches in
     subst (λ (s : SourceState). ReadsSource c.args.source answer s) (sym c.into_source.ensures.value) (record {
       cause = cause-named c.args.source ended last _ answer passed c.print_told-answer.ensures.end;
-      fetches = record { count = _; fetches = fetches_then _ _ c.args.source ended last passed c.print_told-answer.ensures.fetches };
+      fetches = record { count = _; fetches = fetches_then _ _ c.args.source ended last passed c.print_told-answer.ensures.fetches.most };
     })

@@ -9,7 +9,7 @@ use Rattle.mdmp_engines.proofs.summary_json.show_all.Goals as goal
 pub returns-in-Ok-clause-shows : goal.returns-in-Ok-clause-shows
 returns-in-Ok-clause-shows g c =
     let visits = c.in-Ok.ensures.visits in
-    record { outcome = Ok tt; told = refl; unread = tt; visits = record { items = visits.items; visited = visits.visited; all = visits.all; outside = visits.outside } }
+    record { outcome = Ok tt; told = refl; unread = tt; visits = record { items = visits.items; visited = visits.visited; all = visits.all; outside = visits.outside; named = visits.named } }
 
 pub returns-in-Ok-clause-leaves : goal.returns-in-Ok-clause-leaves
 returns-in-Ok-clause-leaves g c =
@@ -31,6 +31,7 @@ returns-in-Err-clause-shows g c =
         visited = visited_err g.V.Visitor.taken (g.V.Visitor.looked old.source.store.content old.limit) BadEntries (Unit {0}) fault c.args.visitor.now visits.items c.visit_all.new.visitor visits.visited;
         all = visits.all;
         outside = visits.outside;
+        named = visits.named;
       };
     }
 

@@ -1,16 +1,17 @@
 use Rattle.std.proofs.Common.{◌≡◌, ◌∙◌, ◌*◌, ℕ, ap, refl, subst, sym}
 use Rattle.mdmp_source.specs.Source.{SourceState}
 use Rattle.mdmp_source.specs.SourceLaws.{fetches_then}
-use Rattle.mdmp_summary.proofs.Told.{good_still}
+use Rattle.mdmp_summary.proofs.Told.{good_still, keeps_counted}
 use Rattle.mdmp_summary.specs.declared.summary.FileSummary.{FileSummary}
 use Rattle.mdmp_engines.proofs.ObjectBlocks.{still_flushed}
-use Rattle.mdmp_engines.proofs.ObjectNames.{quiet_untouched}
+use Rattle.mdmp_engines.proofs.ObjectNames.{object_as_told, quiet_untouched}
 use Rattle.mdmp_engines.proofs.Symbols.{cause_then}
 use Rattle.mdmp_engines.proofs.Unsummed.{unsummed_object, unsummed_object_through, unsummed_out}
 use Rattle.mdmp_engines.specs.Engines.{ReadsSource}
+use Rattle.mdmp_engines.specs.KeptNames.{told_names}
 use Rattle.mdmp_engines.specs.ObjectRuns.{IsObjectThrough, PrintsThrough, PrintsObject, object_held}
 use Rattle.mdmp_engines.specs.SummaryObject.{limited_object}
-use Rattle.mdmp_engines.specs.SummaryRuns.{IsSummed, IsUnsummed}
+use Rattle.mdmp_engines.specs.SummaryRuns.{IsSummed, IsUnsummed, summary_names}
 use Rattle.mdmp_engines.proofs.summary_json.summary_json_source.Goals as goal
 
 -- ---- there is no summary
@@ -62,7 +63,10 @@ returns-clause-through g c =
     let summary = c.in-Ok.summed.summary in
     let of : IsSummed (object_held c.args.limits) c.args.limits c.args.source walker summary =
     subst (λ (n : ℕ). IsSummed n c.args.limits c.args.source walker summary) held c.in-Ok.ensures.summed in
-    IsObjectThrough.printed of.opened walker c.print_object-answer.new.walker of.is_new of.spends of.same c.print_object-answer.ensures.reads c.into_source.ensures.value
+    IsObjectThrough.printed of.opened walker c.print_object-answer.new.walker of.is_new of.spends of.keeps
+    (object_as_told _ (summary_names c.args.limits.name) walker c.args.blocks.now.inner c.print_object-answer.result c.print_object-answer.new.walker c.print_object-answer.new.blocks.inner
+    (λ bytes known. ap (told_names bytes c.args.limits.name) (of.sums bytes (sym of.fetches.fetches.same_content ∙ known))) c.print_object-answer.ensures.reads)
+    (keeps_counted walker.list c.print_object-answer.new.walker.list c.counts-counts.result c.print_object-answer.ensures.same c.counts-counts.ensures.value c.counts-counts.ensures.held) c.into_source.ensures.value
 
 pub returns-clause-reads : goal.returns-clause-reads
 returns-clause-reads g c =
