@@ -12,7 +12,7 @@ use Rattle.mdmp_lister.specs.declared.fault.OpenFault.TheVariants as opening
 use Rattle.mdmp_lister.specs.declared.limits.Limits.{Limits}
 use Rattle.mdmp_lister.specs.Counts.{numbers_of}
 use Rattle.mdmp_lister.specs.Format.Refusal.{behind_directory, directory_refusal, opening_fault, range_fault}
-use Rattle.mdmp_lister.specs.Lister.{ListerState}
+use Rattle.mdmp_lister.specs.Lister.{IsNewLister, ListerState}
 use Rattle.mdmp_lister.specs.Memory.{earlier_fault, is_within, leaving, mapped_fault, opening_fault_within, unmapped_fault}
 use Rattle.mdmp_engines.specs.CheckRuns.{Checks}
 use Rattle.mdmp_engines.specs.Engines.{IsReadThrough, check_access}
@@ -20,9 +20,10 @@ use Rattle.mdmp_engines.specs.declared.fault.ToolFault.{ToolFault}
 use Rattle.mdmp_engines.specs.declared.fault.ToolFault.TheVariants.{AsideLimit, Budget, MemoryLimit, Opening}
 use Rattle.mdmp_print.specs.declared.form.LineForm.{LineForm}
 use Rattle.mdmp_c.specs.declared.limits.PlainLimits.{PlainLimits}
-use Rattle.mdmp_c.specs.Limits.{AreGiven, EndsChecking, KeepsMemory, most_read, names_checked, reaches_memory}
+use Rattle.mdmp_c.specs.Limits.{AreGiven, EndsChecking, KeepsChecking, KeepsMemory, most_read, names_checked, reaches_memory}
 use Rattle.mdmp_c.specs.ToolFault.{check_answer}
 use Rattle.mdmp_c.proofs.Coming.{IsOpenedIn, stays_on}
+use Rattle.mdmp_c.proofs.Ending.{keeps_checking, keeps_unchecked, names_within}
 use Rattle.mdmp_c.proofs.Stopping.{ended_as, ended_by, ended_over, is_limit, least_read, most_for, opening_passed}
 use Rattle.mdmp_c.proofs.Told.{IsAnswered, IsLimited}
 
@@ -85,15 +86,19 @@ opened_within limits F choice fault opens is = by (directory_refusal F) (unmappe
   by None (Some f) none some = none-some f (sym none)
   by None None none some = ranged (range_fault F choice) (mapped_fault limits F choice) fault none some
 
--- of a file of which it tells, the limit of memory was kept
-pub check_keeps : (plain : PlainLimits) (limits : Limits) (F : List ℕ) (old new : SourceState) (answer : Result ℕ ToolFault) (form : LineForm) (before after : OutState) → AreGiven plain limits → old.store.content ≡ Some F
-    → IsReadThrough (check_access limits) old answer new → Checks form F limits.name before answer after → IsAnswered answer → KeepsMemory plain F All
-check_keeps plain limits F old new (Ok bad) form before after given known (IsReadThrough.listed run) runs told =
-    record { limits = limits; given = given; within = subst (λ (l : Limits). opening_fault_within l F All ≡ None) (leaving_none limits) (run.opens F known) ∙ sym runs.says.0; opening = λ _. run.opening F known }
-check_keeps plain limits F old new (Ok bad) form before after given known (IsReadThrough.refused asked early kept memory fetches inside) runs told = absurd early
-check_keeps plain limits F old new (Err (Opening fault)) form before after given known (IsReadThrough.listed run) runs told =
+-- of a file of which it tells, the limits were kept
+pub check_keeps : (plain : PlainLimits) (limits : Limits) (F : List ℕ) (old new : SourceState) (answer : Result ℕ ToolFault) (form : LineForm) (before after : OutState) → AreGiven plain limits → old.store.content ≡ Some F → old.size ≡ length F
+    → IsReadThrough (check_access limits) old answer new → Checks form F limits.name before answer after → IsAnswered answer → KeepsChecking plain F
+check_keeps plain limits F old new (Ok bad) form before after given known size (IsReadThrough.listed run) runs told =
+    let memory : KeepsMemory plain F All = record { limits = limits; given = given; within = subst (λ (l : Limits). opening_fault_within l F All ≡ None) (leaving_none limits) (run.opens F known) ∙ sym runs.says.0; opening = λ _. run.opening F known } in
+    let first = run.asked.first in
+    let is_new : IsNewLister old All limits first = subst (λ (l : Limits). IsNewLister old All l first) (leaving_none limits) run.asked.is_new in
+    keeps_checking plain limits F old first given known size is_new memory
+    (names_within F first run.lister (run.budget ∙ sym is_new.list.counts.budget_is) run.held.kept.kept (run.asked.requests F (is_new.list.same_content ∙ known)))
+check_keeps plain limits F old new (Ok bad) form before after given known size (IsReadThrough.refused asked early kept memory fetches inside) runs told = absurd early
+check_keeps plain limits F old new (Err (Opening fault)) form before after given known size (IsReadThrough.listed run) runs told =
     let opens : opening_fault_within limits F All ≡ None = subst (λ (l : Limits). opening_fault_within l F All ≡ None) (leaving_none limits) (run.opens F known) in
     absurd (opened_within limits F All fault opens runs.says)
-check_keeps plain limits F old new (Err (Opening fault)) form before after given known (IsReadThrough.refused asked early kept memory fetches inside) runs told =
-    record { limits = limits; given = given; within = subst (λ (l : Limits). opening_fault_within l F All ≡ Some fault) (leaving_none limits) (memory F known) ∙ sym runs.says; opening = λ none. absurd (none-some fault (sym none ∙ runs.says)) }
-check_keeps plain limits F old new answer form before after given known through runs told = absurd told
+check_keeps plain limits F old new (Err (Opening fault)) form before after given known size (IsReadThrough.refused asked early kept memory fetches inside) runs told =
+    keeps_unchecked plain F fault runs.says record { limits = limits; given = given; within = subst (λ (l : Limits). opening_fault_within l F All ≡ Some fault) (leaving_none limits) (memory F known) ∙ sym runs.says; opening = λ none. absurd (none-some fault (sym none ∙ runs.says)) }
+check_keeps plain limits F old new answer form before after given known size through runs told = absurd told

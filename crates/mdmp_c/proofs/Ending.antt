@@ -1,5 +1,5 @@
 -- How a call that gives rows ends.
-use Rattle.std.proofs.Common.{◌≡◌, ◌∙◌, ℕ, false, arith, List, [], Option, Some, None, ap, refl, subst, sym, length}
+use Rattle.std.proofs.Common.{◌≡◌, ◌≤◌, Bool, ◌∙◌, ℕ, false, arith, List, [], Option, Some, None, ap, refl, subst, sym, length}
 use Rattle.std.specs.Prelude.{filter_map, nat_lt, if◌then◌else◌}
 use Rattle.std.proofs.lemmas.Bool.Decides.{nat_tests}
 use Rattle.std.proofs.lemmas.Option.{none-some}
@@ -7,9 +7,11 @@ use Rattle.std.proofs.lemmas.List.Elements.{filter_map-append}
 use Rattle.mdmp_c.specs.declared.fault.PlainFault.{PlainFault}
 use Rattle.mdmp_c.specs.Fault.{budget_fault, list_told, open_fault, plain_by_kind, plain_list_fault, status_of, told_unless, wide_fault}
 use Rattle.mdmp_c.specs.Giving.{Ends, GivesList, answers, bad_limits, stops, told_count, wants}
-use Rattle.mdmp_c.specs.Limits.{AreGiven, KeepsListing, KeepsMemory}
+use Rattle.mdmp_c.specs.GivenRows.{AreNamesWithin}
+use Rattle.mdmp_c.specs.Limits.{AreGiven, KeepsChecking, KeepsListing, KeepsMemory, KeepsText}
 use Rattle.mdmp_c.specs.declared.limits.PlainLimits.{PlainLimits}
 use Rattle.mdmp_lister.specs.declared.limits.Limits.{Limits}
+use Rattle.mdmp_source.specs.Count.{raised}
 use Rattle.mdmp_source.specs.Source.{SourceState}
 use Rattle.mdmp_lister.specs.Lister.{IsNewLister, ListerState}
 use Rattle.mdmp_lister.specs.Requested.{GivesByRequests}
@@ -18,6 +20,7 @@ use Rattle.mdmp_c.specs.Table.{Collects, IsTable, PutsRows, collects_all, collec
 use Rattle.mdmp_c.proofs.Gathered.{put_front-nothing}
 use Rattle.mdmp_c.proofs.Stopping.{IsLimitTold}
 use Rattle.mdmp_lister.specs.declared.choice.Choice.{Choice}
+use Rattle.mdmp_lister.specs.declared.choice.Choice.TheVariants.{All}
 use Rattle.mdmp_lister.specs.declared.fault.FaultKind.{FaultKind}
 use Rattle.mdmp_lister.specs.declared.fault.FaultKind.TheVariants as kinds
 use Rattle.mdmp_lister.specs.declared.fault.ListFault.{ListFault}
@@ -26,7 +29,12 @@ use Rattle.mdmp_lister.specs.declared.fault.OpenFault.TheVariants as opening
 use Rattle.mdmp_lister.specs.declared.item.Item.{Item}
 use Rattle.mdmp_lister.specs.Format.Listing.{Run, listing}
 use Rattle.mdmp_lister.specs.Format.Refusal.{opening_fault}
+use Rattle.mdmp_lister.specs.Meter.{KeepsTo}
+use Rattle.mdmp_lister.specs.NamesFetched.{FetchesNames, names_bytes}
 use Rattle.mdmp_lister.specs.Opening.{IsRefusalOf, IsUnread, KeepsOpening}
+use Rattle.mdmp_lister.specs.StreamHead.{opening_bytes}
+use Rattle.mdmp_summary.specs.BadEntries.{all_items}
+use Rattle.mdmp_summary.specs.SpendingLaws.{kept_below}
 
 -- a fault of the budget tells no entry
 pub plain_budget : (f : ListFault) → f.kind ≡ kinds.Budget → plain_list_fault f ≡ budget_fault f.offset f.size
@@ -53,6 +61,14 @@ pub record WouldTell {T : Type 0} (IsTold : PlainFault → List T → Type 0) : 
 pub keeps_unlisted : (plain : PlainLimits) (F : List ℕ) (choice : Choice) (fault : OpenFault) → opening_fault F choice ≡ Some fault → KeepsMemory plain F choice → KeepsListing plain F choice
 keeps_unlisted plain F choice fault is keeps = record { memory = keeps; listed = λ none. absurd (none-some fault (sym none ∙ is)) }
 
+-- nor is it checked
+pub keeps_unchecked : (plain : PlainLimits) (F : List ℕ) (fault : OpenFault) → opening_fault F All ≡ Some fault → KeepsMemory plain F All → KeepsChecking plain F
+keeps_unchecked plain F fault is keeps = record { memory = keeps; checked = λ none. absurd (none-some fault (sym none ∙ is)) }
+
+-- nor is its text
+pub keeps_untold : (plain : PlainLimits) (F : List ℕ) (pdb : Bool) (fault : OpenFault) → opening_fault F All ≡ Some fault → KeepsMemory plain F All → KeepsText plain F pdb
+keeps_untold plain F pdb fault is keeps = record { listed = keeps_unlisted plain F All fault is keeps; beside = λ none. absurd (none-some fault (sym none ∙ is)) }
+
 -- the listing of one that was opened was given by requests
 pub keeps_listing : (plain : PlainLimits) (limits : Limits) (F : List ℕ) (choice : Choice) (source : SourceState) (opened last : ListerState) → AreGiven plain limits → source.store.content ≡ Some F
     → IsNewLister source choice limits opened → KeepsMemory plain F choice → GivesByRequests opened (listing F choice limits.name).items last → KeepsListing plain F choice
@@ -60,6 +76,28 @@ keeps_listing plain limits F choice source opened last given known new keeps so 
   memory = keeps;
   listed = λ _. (limits, (given, record { source = source; known = known; opened = opened; is_new = new; last = last; given = so }));
 }
+
+-- a lister that fetched the names of all items kept to its budget
+pub names_within : (F : List ℕ) (old new : ListerState) → new.counts.budget ≡ old.counts.budget → KeepsTo new.counts.budget new.counts.fetched → FetchesNames 1 (all_items F old.limit) old.counts.fetched new.counts.fetched
+    → AreNamesWithin old F
+names_within F old new same kept named =
+    let least : raised old.counts.fetched (names_bytes (all_items F old.limit)) ≤ new.counts.fetched = omega (arith, named) in
+    kept_below old.counts.budget (raised old.counts.fetched (names_bytes (all_items F old.limit))) new.counts.fetched least (subst (λ (b : Option ℕ). KeepsTo b new.counts.fetched) same kept)
+
+-- and so did the check of a file that it was opened over
+pub keeps_checking : (plain : PlainLimits) (limits : Limits) (F : List ℕ) (source : SourceState) (opened : ListerState) → AreGiven plain limits → source.store.content ≡ Some F → source.size ≡ length F
+    → IsNewLister source All limits opened → KeepsMemory plain F All → AreNamesWithin opened F → KeepsChecking plain F
+keeps_checking plain limits F source opened given known size new keeps within =
+    let fetched : opened.counts.fetched ≡ opening_bytes All (length F) opened.entries = new.fetched ∙ ap (λ z. opening_bytes All z opened.entries) size in
+    let limit : opened.limit ≡ plain.name = new.list.asked.limit_is ∙ given.name in
+    let named = subst (λ n. KeepsTo opened.counts.budget (raised opened.counts.fetched (names_bytes (all_items F n)))) limit within in
+    let all = subst (λ n. KeepsTo opened.counts.budget (raised n (names_bytes (all_items F plain.name)))) fetched named in
+    let budget = new.list.counts.budget_is ∙ given.budget in
+    let least = raised (opening_bytes All (length F) opened.entries) (names_bytes (all_items F plain.name)) in
+    record {
+      memory = keeps;
+      checked = λ _. record { entries = opened.entries; directory = new.list.read.directory F known; kept = subst (λ (b : Option ℕ). KeepsTo b least) budget all };
+    }
 
 module _ {T : Type 0} (IsTold : PlainFault → List T → Type 0) (F : List ℕ) (choice : Choice) (valid : Type 0) (plain : PlainLimits) (limits : Limits) (given : AreGiven plain limits) (MayTell : PlainFault → Type 0)
     (none_told : (fault : OpenFault) → opening_fault F choice ≡ Some fault → IsTold (open_fault fault) []) (would : WouldTell IsTold)
@@ -112,15 +150,9 @@ module _ {T : Type 0} (IsTold : PlainFault → List T → Type 0) (F : List ℕ)
   Ends-refused_by (opening.TooManyRanges n) status count told before after ok can is within read ends none tells same =
       refused (opening.TooManyRanges n) status count told before after ok is within ends none tells same
 
--- of a call that keeps to the limit of memory, and of one that lists the file
+-- of a call that lists the file
 module _ {T : Type 0} (IsTold : PlainFault → List T → Type 0) (F : List ℕ) (choice : Choice) (valid : Type 0) (plain : PlainLimits) (limits : Limits) (given : AreGiven plain limits) (MayTell : PlainFault → Type 0)
     (none_told : (fault : OpenFault) → opening_fault F choice ≡ Some fault → IsTold (open_fault fault) []) (would : WouldTell IsTold) where
-  pub Ends-refused : (fault : OpenFault) (status count : ℕ) (told : PlainFault) (before after : List T) → valid
-      → (IsLimitTold fault → MayTell (open_fault fault)) → IsRefusalOf F choice fault → IsRefusalWithin limits F choice fault → (IsUnread fault → ⊥)
-      → status ≡ status_of (open_fault fault) → count ≡ 0 → told ≡ open_fault fault → after ≡ before
-      → Ends IsTold valid (KeepsMemory plain F choice) MayTell bad_limits status count told before after
-  Ends-refused = Ends-refused_by IsTold F choice valid plain limits given MayTell none_told would (KeepsMemory plain F choice) (λ fault is keeps. keeps)
-
   pub Ends-unlisted : (fault : OpenFault) (status count : ℕ) (told : PlainFault) (before after : List T) → valid
       → (IsLimitTold fault → MayTell (open_fault fault)) → IsRefusalOf F choice fault → IsRefusalWithin limits F choice fault → (IsUnread fault → ⊥)
       → status ≡ status_of (open_fault fault) → count ≡ 0 → told ≡ open_fault fault → after ≡ before

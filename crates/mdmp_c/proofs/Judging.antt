@@ -94,17 +94,17 @@ module _ {R : Type 0} (rows_of : List ℕ → ℕ → List R) (given : R → Lis
   rows_given rows judged status count told fault before after h ends counts same =
       record { status_is = ends (length (flat_map given rows)) h.count_is; count_is = counts ∙ h.count_is; fault_is = same; out = h.out }
 
-  pub Ends-checked : (valid kept : Type 0) (MayTell : PlainFault → Type 0) (MayEnd : ListFault → Type 0) (judged : Judged) (status count : ℕ) (told fault : PlainFault) (before after : List PlainFault) → valid → kept
+  pub Ends-checked : (valid kept : Type 0) (MayTell : PlainFault → Type 0) (IsReadSo : Type 0) (MayEnd : ListFault → Type 0) (judged : Judged) (status count : ℕ) (told fault : PlainFault) (before after : List PlainFault) → valid → (IsReadSo → kept)
       → ((f : ListFault) → MayEnd f → MayTell (budget_fault f.offset f.size)) → opening_fault F All ≡ None
-      → entry_count F < 2 ^ 32 → sum_by is_bad (rows_of F limit) ≤ entry_count F → GivesChecked given is_bad (rows_of F limit) MayEnd judged before after → told ≡ ending_told judged.bad judged.fault
+      → entry_count F < 2 ^ 32 → sum_by is_bad (rows_of F limit) ≤ entry_count F → GivesChecked given is_bad (rows_of F limit) IsReadSo MayEnd judged before after → told ≡ ending_told judged.bad judged.fault
       → ((n : ℕ) → judged.count ≡ told_count n → status ≡ (if nat_lt (length before) n then 4 else status_of told)) → count ≡ judged.count → fault ≡ told
       → Ends (AreChecked rows_of given is_bad F limit) valid kept MayTell bad_limits status count fault before after
-  Ends-checked valid kept MayTell MayEnd judged status count told fault before after ok keeps can opened entries few (gives_all none h) tells ends counts same =
+  Ends-checked valid kept MayTell IsReadSo MayEnd judged status count told fault before after ok keeps can opened entries few (gives_all none so h) tells ends counts same =
       let bad : judged.bad ≡ sum_by is_bad (rows_of F limit) = h.bad_is ∙ few_told entries few in
-      answers told (flat_map given (rows_of F limit)) ok keeps
+      answers told (flat_map given (rows_of F limit)) ok (keeps so)
       record { told_is = tells ∙ ap (ending_told judged.bad) none ∙ ap bad_entries bad ∙ (rw opened refl); rows_are = rw opened refl }
       (rows_given (rows_of F limit) judged status count told fault before after h ends counts same)
-  Ends-checked valid kept MayTell MayEnd judged status count told fault before after ok keeps can opened entries few (gives_some rows cut h) tells ends counts same =
+  Ends-checked valid kept MayTell IsReadSo MayEnd judged status count told fault before after ok keeps can opened entries few (gives_some rows cut h) tells ends counts same =
       stops told (flat_map given rows) ok
       (subst MayTell (sym (tells ∙ ap (ending_told judged.bad) cut.told_is ∙ plain_budget cut.told cut.kind)) (can cut.told cut.reached))
       record {

@@ -16,6 +16,7 @@ pub mod Judging
 pub mod Worded
 pub mod Parted
 pub mod Listed
+pub mod AsideRead
 pub mod Summarized
 pub mod Fronts
 pub mod Losing

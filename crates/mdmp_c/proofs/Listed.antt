@@ -1,5 +1,5 @@
 -- Lines of items given one by one.
-use Rattle.std.proofs.Common.{◌≡◌, ◌∙◌, ◌++◌, ◌∷◌, ◌-◌, ℕ, List, [], Bool, false, Option, Some, None, refl, ap, subst, sym, length, inl, inr, append_assoc, append-nil}
+use Rattle.std.proofs.Common.{◌≡◌, ◌∙◌, ◌++◌, ◌-◌, ℕ, List, [], Bool, false, Option, Some, None, refl, ap, sym, length, inl, inr, append_assoc, append-nil}
 use Rattle.std.specs.Prelude.{Ok, Err, Result, drop, take}
 use Rattle.std.specs.List.{flat_map}
 use Rattle.std.proofs.lemmas.List.{take-append-drop}
@@ -20,9 +20,7 @@ use Rattle.mdmp_lister.specs.Format.Refusal.{opening_fault}
 use Rattle.mdmp_print.specs.Forms.{dump_line_in}
 use Rattle.mdmp_wire.specs.Header.{header_at}
 use Rattle.mdmp_lister.specs.declared.fault.ListFault.{ListFault}
-use Rattle.mdmp_lister.specs.declared.item.Item.{Item}
 use Rattle.mdmp_lister.specs.Lister.{tail}
-use Rattle.mdmp_engines.specs.Symbols.{IsRecordAmong}
 use Rattle.mdmp_lister.specs.Format.Listing.{Run, listing}
 use Rattle.mdmp_source.specs.Output.{OutState, PutsAll}
 use Rattle.mdmp_engines.specs.Causes.{IsNoSourceFault}
@@ -45,13 +43,11 @@ module _ (form : LineForm) (pdb : Bool) (F : List ℕ) (limit : ℕ) where
     pub text : List ℕ
     pub whole : before ++ run_text form pdb F limit run ≡ text ++ run_text form pdb F limit left
     pub fault : run.fault ≡ left.fault
-    pub first : List Item
-    pub items : run.items ≡ first ++ left.items
     pub part : IsPartOf skip room text passing space size kept
 
   pub HasGiven-none : (run : Run) (before : List ℕ) (skip room passing space size : ℕ) (kept : List ℕ) → IsPartOf skip room before passing space size kept
       → HasGiven run before skip room run passing space size kept
-  HasGiven-none run before skip room passing space size kept part = record { text = before; whole = refl; fault = refl; first = []; items = refl; part = part }
+  HasGiven-none run before skip room passing space size kept part = record { text = before; whole = refl; fault = refl; part = part }
 
   -- the lines of the next one were given too
   pub HasGiven-next : (run left : Run) (before line : List ℕ) (skip room p s n p' s' n' : ℕ) (kept kept' : List ℕ) → HasGiven run before skip room left p s n kept
@@ -65,11 +61,6 @@ module _ (form : LineForm) (pdb : Bool) (F : List ℕ) (limit : ℕ) where
         ∙ ap (λ xs. given.text ++ xs) (next_then left ∙ ap (λ xs. xs ++ run_text form pdb F limit (tail left)) (sym is))
         ∙ sym (append_assoc given.text line (run_text form pdb F limit (tail left)));
     fault = given.fault;
-    first = given.first ++ take 1 left.items;
-    items =
-        given.items
-        ∙ ap (λ (xs : List Item). given.first ++ xs) (sym (take-append-drop 1 left.items))
-        ∙ sym (append_assoc given.first (take 1 left.items) (drop 1 left.items));
     part = more given.text given.part;
   }
 
@@ -90,25 +81,7 @@ module _ (form : LineForm) (pdb : Bool) (F : List ℕ) (limit : ℕ) where
       → (p' s' n' : ℕ) (kept' : List ℕ) → IsPartOf skip room (given.text ++ line) p' s' n' kept' → HasGiven run before skip room left p' s' n' kept'
   given_nothing run left before line skip room p s n kept none given p' s' n' kept' part =
       let same : given.text ++ line ≡ given.text = ap (λ xs. given.text ++ xs) none ∙ append-nil given.text in
-      record { text = given.text; whole = given.whole; fault = given.fault; first = given.first; items = given.items; part = rw same at part }
-
-  -- a record that was not read is that of an item of the run
-  pub among_given : (run left : Run) (before : List ℕ) (skip room p s n : ℕ) (kept : List ℕ) (now after : OutState) (f : ToolFault) → HasGiven run before skip room left p s n kept
-      → ListsNext form pdb F limit left now (Err f) after → (offset size : ℕ) → f ≡ AsideLimit offset size → IsRecordAmong pdb limit run.items offset size
-  among_given run left before skip room p s n kept now after f given next offset size is =
-      let told : ListsNext form pdb F limit left now (Err (AsideLimit offset size)) after = subst (λ (g : ToolFault). ListsNext form pdb F limit left now (Err g) after) is next in
-      let among = told.0 in
-      record {
-        before = given.first ++ among.before;
-        item = among.item;
-        after = among.after ++ drop 1 left.items;
-        is =
-            given.items
-            ∙ ap (λ (xs : List Item). given.first ++ xs)
-            (sym (take-append-drop 1 left.items) ∙ ap (λ (xs : List Item). xs ++ drop 1 left.items) among.is ∙ append_assoc among.before (among.item ∷ among.after) (drop 1 left.items))
-            ∙ sym (append_assoc given.first among.before (among.item ∷ (among.after ++ drop 1 left.items)));
-        at = among.at;
-      }
+      record { text = given.text; whole = given.whole; fault = given.fault; part = rw same at part }
 
   -- the first of the next lines were given
   begins_so : (run left : Run) (before text line rest : List ℕ) → before ++ run_text form pdb F limit run ≡ text ++ run_text form pdb F limit left

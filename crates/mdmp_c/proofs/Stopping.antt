@@ -20,7 +20,7 @@ use Rattle.mdmp_lister.specs.Counts.{AreHeld, AreOfFile, AreSpent, numbers_of}
 use Rattle.mdmp_lister.specs.Fault.{IsOfStore, IsUnobtained}
 use Rattle.mdmp_lister.specs.Format.Bounds.{fetch_bound}
 use Rattle.mdmp_lister.specs.Format.Listing.{Run, entry_count, listing}
-use Rattle.mdmp_engines.specs.Symbols.{IsRecordAmong}
+use Rattle.mdmp_engines.specs.Symbols.{IsRecordAmong, IsRecordAt, symbols_bytes, symbols_of}
 use Rattle.mdmp_lister.specs.Lister.{IsRefusedIn, ListerState, Rooms, standpoint_in}
 use Rattle.mdmp_lister.specs.Memory.{IsRefusalWithin, TellsMemory, is_within}
 use Rattle.mdmp_lister.specs.Meter.{IsUnmade, KeepsTo, is_passed}
@@ -218,22 +218,24 @@ is_budget kind never unobtained = absurd unobtained
 
 -- the lines of a listing ended by a limit
 pub text_over : (old v : ListerState) (F : List ℕ) (run : Run) (aside : Option ℕ) (pdb : Bool) (c : Counts) (f : ToolFault)
-    → ((offset size : ℕ) → f ≡ AsideLimit offset size → IsRecordAmong pdb old.limit run.items offset size) → GoesOnAs old v → c ≡ numbers_of v
+    → ((offset size : ℕ) → f ≡ AsideLimit offset size → (among : IsRecordAmong pdb old.limit run.items offset size) × (v.counts.aside.bytes ≤ old.counts.aside.bytes + symbols_bytes pdb old.limit among.before)) → GoesOnAs old v → c ≡ numbers_of v
     → AreOfFile F v.choice c → v.counts.names ≤ old.counts.names + names_of_all run.items + 1 → AreHeld v c → AreSpent v c → EndsByBudget {T = Bool} old (Err f) v → KeepsAside {T = Bool} aside (Err f) v → IsTextLimit f
     → EndsTextAt old (most_read F old.choice old.limit (old.counts.names + names_of_all run.items)) aside pdb run f
 text_over old v F run aside pdb c (Budget offset size) place same is of most held spent over kept told =
     let ended = ended_by old v c offset size same is held spent over.0 over.1 in
     ended_as old _ (Some (most_read F old.choice old.limit (old.counts.names + names_of_all run.items))) offset size ended (omega (arith, ended.bound, most_by old v F (names_of_all run.items) c same.choice same.limit is of most))
-text_over old v F run aside pdb c (AsideLimit offset size) place same is of most held spent over kept told = (
-  record {
-    read = v.counts.aside.bytes;
-    kept = kept.kept;
-    passes = kept.over.0;
-    inside = rw same.size at kept.over.1.0;
-    few = rw same.limit at kept.over.1.1;
-  },
-  place offset size refl,
-)
+text_over old v F run aside pdb c (AsideLimit offset size) place same is of most held spent over kept told =
+    let at = place offset size refl in (
+      at.0,
+      record {
+        read = v.counts.aside.bytes;
+        kept = kept.kept;
+        passes = kept.over.0;
+        most = at.1;
+        inside = rw same.size at kept.over.1.0;
+        few = rw same.limit at kept.over.1.1;
+      },
+    )
 text_over old v F run aside pdb c f place same is of most held spent over kept told = absurd told
 
 -- bytes that pass the limit of what is read of CodeView records, and others that do not
@@ -251,20 +253,31 @@ aside_passed n read total aside is keeps passes = by (n == 2 ^ 64 - 1) refl wher
       (is_limit n aside is none_passed, (grind (arith, nat_tests, keep), grind (arith, nat_tests, pass)))
 
 -- and it is told so
-pub text_ended : (plain : PlainLimits) (limits : Limits) (F : List ℕ) (v : ListerState) (most : ℕ) (pdb : Bool) → AreGiven plain limits → IsOpenedIn limits F All v
+pub text_ended : (plain : PlainLimits) (limits : Limits) (F : List ℕ) (v : ListerState) (most : ℕ) (pdb : Bool) → AreGiven plain limits → IsOpenedIn limits F All v → v.counts.aside.bytes ≡ 0
     → most ≡ most_read F All plain.name (names_listed F All plain.name) → (f : ToolFault)
     → EndsTextAt v most limits.aside pdb (listing F All plain.name) f → EndsText plain F pdb (list_answer (Err f))
-text_ended plain limits F v most pdb given opened is (Budget offset len) ended =
+text_ended plain limits F v most pdb given opened none is (Budget offset len) ended =
     ends_text (ended_over plain limits F All (Some All) _ v offset len given opened (subst (λ n. IsEndedAt v (Some n) offset len) is ended))
-text_ended plain limits F v most pdb given opened is (AsideLimit offset len) ended =
-    let over = aside_passed plain.aside ended.0.read (ended.0.read + len) limits.aside given.aside ended.0.kept ended.0.passes in
+text_ended plain limits F v most pdb given opened none is (AsideLimit offset len) ended =
+    let among = ended.0 in
+    let at = ended.1 in
+    let name : v.limit ≡ plain.name = opened.name ∙ given.name in
+    let records : symbols_bytes pdb v.limit among.before ≡ symbols_bytes pdb plain.name among.before = ap (λ n. symbols_bytes pdb n among.before) name in
+    let over = aside_passed plain.aside at.read (at.read + len) limits.aside given.aside at.kept at.passes in
     ends_aside over.0 offset len refl
     record {
-      read = ended.0.read;
+      before = among.before;
+      item = among.item;
+      after = among.after;
+      is = among.is;
+      at = subst (λ n. IsRecordAt n (symbols_of pdb among.item) offset len) name among.at;
+    }
+    record {
+      read = at.read;
       kept = over.1.0;
       passes = over.1.1;
-      inside = rw opened.size at ended.0.inside;
-      few = rw (opened.name, given.name) at ended.0.few;
+      most = omega (arith, at.most, none, records);
+      inside = rw opened.size at at.inside;
+      few = rw (opened.name, given.name) at at.few;
     }
-    (subst (λ n. IsRecordAmong pdb n (listing F All plain.name).items offset len) (opened.name ∙ given.name) ended.1)
-text_ended plain limits F v most pdb given opened is f ended = absurd ended
+text_ended plain limits F v most pdb given opened none is f ended = absurd ended

@@ -1,9 +1,14 @@
 -- What a check gives as plain structures.
 use Rattle.std.specs.Prelude.{◌≡◌, ◌+◌, ◌-◌, ◌^◌, ◌++◌, ℕ, List, flat_map, length, min, sum_by, Option, Some, None, Result, Ok}
+use Rattle.mdmp_source.specs.Count.{raised}
 use Rattle.mdmp_lister.specs.declared.choice.Choice.TheVariants.{All}
 use Rattle.mdmp_lister.specs.declared.fault.ListFault.{ListFault}
 use Rattle.mdmp_lister.specs.declared.sink.Stopped.{Stopped}
 use Rattle.mdmp_lister.specs.Format.Refusal.{opening_fault}
+use Rattle.mdmp_lister.specs.Lister.{ListerState}
+use Rattle.mdmp_lister.specs.Meter.{KeepsTo}
+use Rattle.mdmp_lister.specs.NamesFetched.{names_bytes}
+use Rattle.mdmp_summary.specs.BadEntries.{all_items}
 use Rattle.mdmp_c.specs.declared.given_rows.Judged.{Judged}
 use Rattle.mdmp_c.specs.declared.fault.PlainFault.{PlainFault}
 use Rattle.mdmp_c.specs.Fault.{plain_list_fault, told_unless}
@@ -35,8 +40,12 @@ pub record PutsChecked {R : Type 0} (given : R → List PlainFault) (is_bad : R 
   pub bad_is : judged.bad ≡ told_count (sum_by is_bad rows)
   pub out : after ≡ put_front (flat_map given rows) before
 
--- that of all rows was put there, or that of the first of them, up to where the budget was reached
-pub data GivesChecked {R : Type 0} (given : R → List PlainFault) (is_bad : R → ℕ) (all : List R) (MayEnd : ListFault → Type 0) (judged : Judged) (before after : List PlainFault) : Type 0 where
-  gives_all : judged.fault ≡ None → PutsChecked given is_bad all judged before after → GivesChecked given is_bad all MayEnd judged before after
+-- with the names of all items of F a lister keeps to its budget
+abbrev pub AreNamesWithin : ListerState → List ℕ → Type 0
+AreNamesWithin v F = KeepsTo v.counts.budget (raised v.counts.fetched (names_bytes (all_items F v.limit)))
+
+-- that of all rows was put there, and all was read so, or that of the first of them, up to where the budget was reached
+pub data GivesChecked {R : Type 0} (given : R → List PlainFault) (is_bad : R → ℕ) (all : List R) (IsReadSo : Type 0) (MayEnd : ListFault → Type 0) (judged : Judged) (before after : List PlainFault) : Type 0 where
+  gives_all : judged.fault ≡ None → IsReadSo → PutsChecked given is_bad all judged before after → GivesChecked given is_bad all IsReadSo MayEnd judged before after
   gives_some : (rows : List R) → IsCutShort MayEnd all rows judged.fault → PutsChecked given is_bad rows judged before after
-      → GivesChecked given is_bad all MayEnd judged before after
+      → GivesChecked given is_bad all IsReadSo MayEnd judged before after

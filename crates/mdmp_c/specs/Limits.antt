@@ -1,6 +1,8 @@
 -- Which limits are good, and when a call says that one was reached.
-use Rattle.std.specs.Prelude.{◌≡◌, ◌≤◌, ◌<◌, ◌+◌, ◌==◌, ◌-◌, ◌^◌, ℕ, Bool, IfSome, List, length, max, Option, Some, None, if◌then◌else◌}
+use Rattle.std.specs.Prelude.{◌≡◌, ◌≤◌, ◌<◌, ◌+◌, ◌==◌, ◌-◌, ◌^◌, ℕ, Bool, IfSome, List, length, max, Option, Some, None, true, if◌then◌else◌}
+use Rattle.mdmp_source.specs.Count.{raised}
 use Rattle.mdmp_source.specs.Range.{IsInside}
+use Rattle.mdmp_wire.specs.declared.entry.Entry.{Entry}
 use Rattle.mdmp_c.specs.declared.fault.PlainFault.{PlainFault}
 use Rattle.mdmp_c.specs.Fault.{aside_fault, budget_fault, wide_fault}
 use Rattle.mdmp_c.specs.declared.limits.PlainLimits.{PlainLimits}
@@ -8,19 +10,25 @@ use Rattle.mdmp_c.specs.NextRead.{IsNextRead}
 use Rattle.mdmp_lister.specs.declared.choice.Choice.{Choice}
 use Rattle.mdmp_lister.specs.declared.choice.Choice.TheVariants.{All}
 use Rattle.mdmp_lister.specs.declared.fault.OpenFault.TheVariants.{MemoryLimit}
+use Rattle.mdmp_lister.specs.declared.item.Item.{Item}
 use Rattle.mdmp_lister.specs.declared.limits.Limits.{Limits}
 use Rattle.mdmp_lister.specs.Check.{items_of, names_judged}
 use Rattle.mdmp_lister.specs.Format.Bounds.{fetch_bound}
+use Rattle.mdmp_lister.specs.Format.Directory.{IsDirectory}
 use Rattle.mdmp_lister.specs.Format.Kind.{greatest_record}
 use Rattle.mdmp_lister.specs.Format.Listing.{chosen, entry_count, listing, verdicts}
 use Rattle.mdmp_lister.specs.Format.Numbers.{listed_bytes}
 use Rattle.mdmp_lister.specs.Format.Refusal.{opening_fault}
 use Rattle.mdmp_lister.specs.Limits.{most_bytes}
-use Rattle.mdmp_lister.specs.Memory.{opening_fault_within}
+use Rattle.mdmp_lister.specs.Memory.{is_within, opening_fault_within}
+use Rattle.mdmp_lister.specs.Meter.{KeepsTo}
+use Rattle.mdmp_lister.specs.NamesFetched.{names_bytes}
 use Rattle.mdmp_lister.specs.Opening.{KeepsOpening}
 use Rattle.mdmp_lister.specs.Requested.{IsListedWithin}
 use Rattle.mdmp_lister.specs.Sink.{names_of_all}
-use Rattle.mdmp_engines.specs.Symbols.{IsRecordAmong}
+use Rattle.mdmp_lister.specs.StreamHead.{opening_bytes}
+use Rattle.mdmp_summary.specs.BadEntries.{all_items}
+use Rattle.mdmp_engines.specs.Symbols.{IsRecordAmong, symbols_bytes, taken_bytes}
 
 -- a window of at least the greatest record, neither it nor a name of more than 2^30 bytes
 abbrev pub AreLimits : PlainLimits → Type 0
@@ -55,11 +63,27 @@ pub record KeepsMemory (plain : PlainLimits) (F : List ℕ) (choice : Choice) : 
   pub within : opening_fault_within limits F choice ≡ opening_fault F choice
   pub opening : opening_fault F choice ≡ None → KeepsOpening limits.budget F choice
 
+-- what an opening of F fetches and the names of all its items are within the budget
+pub record AreFetchedWithin (budget : Option ℕ) (F : List ℕ) (limit : ℕ) : Type 0 where
+  pub entries : List Entry
+  pub directory : IsDirectory F entries
+  pub kept : KeepsTo budget (raised (opening_bytes All (length F) entries) (names_bytes (all_items F limit)))
+
+-- the limit of memory is kept; and if F can be opened, its opening and the names of the items that a check reads are within the budget
+pub record KeepsChecking (plain : PlainLimits) (F : List ℕ) : Type 0 where
+  pub memory : KeepsMemory plain F All
+  pub checked : opening_fault F All ≡ None → AreFetchedWithin (limit_of plain.budget) F plain.name
+
 -- and the listing of a file that can be opened is kept within the budget: a lister that was opened for these limits gives all of it by
 -- requests, each of them within the budget
 pub record KeepsListing (plain : PlainLimits) (F : List ℕ) (choice : Choice) : Type 0 where
   pub memory : KeepsMemory plain F choice
   pub listed : opening_fault F choice ≡ None → (limits : Limits) × (AreGiven plain limits × IsListedWithin limits F choice)
+
+-- the text of a list keeps to the budget, and reads no more bytes of the CodeView records that it tells than the limit for these
+pub record KeepsText (plain : PlainLimits) (F : List ℕ) (pdb : Bool) : Type 0 where
+  pub listed : KeepsListing plain F All
+  pub beside : opening_fault F All ≡ None → is_within (limit_of plain.aside) (raised 0 (taken_bytes F pdb plain.name (listing F All plain.name).items)) ≡ true
 
 -- ---- what a call reads at most
 
@@ -90,11 +114,12 @@ pub record PassesBudget (limits : PlainLimits) (F : List ℕ) (choice : Choice) 
   pub next : IsNextRead limits F choice counted read offset size
 
 -- a call did not read the CodeView record at this place of F: with it, it might have read more bytes of such records than the limit,
--- without it, it has not
-pub record PassesAside (limits : PlainLimits) (F : List ℕ) (offset size : ℕ) : Type 0 where
+-- without it, it has not. What it read of them are those of the items before
+pub record PassesAside (limits : PlainLimits) (F : List ℕ) (pdb : Bool) (before : List Item) (offset size : ℕ) : Type 0 where
   pub read : ℕ
   pub kept : read ≤ limits.aside
   pub passes : limits.aside < read + size
+  pub most : read ≤ symbols_bytes pdb limits.name before
   pub inside : IsInside offset size (length F)
   pub few : size ≤ 24 + limits.name
 
@@ -117,5 +142,5 @@ EndsChecking limits F = ReachesLimit limits F All (Some All) (Some (most_read F 
 -- a call that gives the text of a list, which also reads CodeView records: of these the budget counts nothing
 pub data EndsText (limits : PlainLimits) (F : List ℕ) (pdb : Bool) (told : PlainFault) : Type 0 where
   ends_text : EndsListing limits F All told → EndsText limits F pdb told
-  ends_aside : IsLimit limits.aside → (offset size : ℕ) → told ≡ aside_fault offset size → PassesAside limits F offset size
-      → IsRecordAmong pdb limits.name (listing F All limits.name).items offset size → EndsText limits F pdb told
+  ends_aside : IsLimit limits.aside → (offset size : ℕ) → told ≡ aside_fault offset size
+      → (among : IsRecordAmong pdb limits.name (listing F All limits.name).items offset size) → PassesAside limits F pdb among.before offset size → EndsText limits F pdb told

@@ -5,7 +5,7 @@ use Rattle.mdmp_lister.specs.declared.fault.OpenFault.{OpenFault}
 use Rattle.mdmp_lister.specs.declared.limits.Limits.{Limits}
 use Rattle.mdmp_lister.specs.Format.Refusal.{directory_refusal}
 use Rattle.mdmp_lister.specs.Memory.{walk_fault}
-use Rattle.mdmp_lister.specs.Opening.{KeepsDirectory}
+use Rattle.mdmp_summary.specs.SpendingLaws.{KeepsSummary}
 use Rattle.mdmp_summary.specs.Summary.{file_summary}
 use Rattle.mdmp_summary.specs.declared.summary.SummaryFault.{SummaryFault}
 use Rattle.mdmp_summary.specs.declared.summary.SummaryFault.TheVariants as faults
@@ -23,13 +23,13 @@ summary_fault (faults.Opening fault) = open_fault fault
 summary_fault (faults.List fault) = plain_list_fault fault
 summary_fault (faults.Source fault) = of_kind 69
 
--- F can be walked over within the limits: the window, the directory and a name take no more memory than there may be, and the header
--- and the directory have no more bytes than may be read
+-- F can be walked over within the limits: the window, the directory and a name take no more memory than there may be; and the header,
+-- the directory and, in each pass of its summary, the names of all items have no more bytes than may be read
 pub record KeepsWalk (plain : PlainLimits) (F : List ℕ) : Type 0 where
   pub limits : Limits
   pub given : AreGiven plain limits
   pub within : walk_fault limits F ≡ None
-  pub opening : KeepsDirectory limits.budget F
+  pub reads : KeepsSummary limits.budget F limits.name
 
 -- there is no summary of F within good limits: its header or directory is bad, or memory ran out, or a limit was reached
 pub data IsUnsummarized (F : List ℕ) (plain : PlainLimits) (told : PlainFault) : Type 0 where

@@ -6,13 +6,14 @@ use Rattle.mdmp_c.specs.Fault.{list_told, told_unless}
 use Rattle.mdmp_c.specs.Giving.{told_count}
 use Rattle.mdmp_c.specs.Table.{IsEndedAt}
 use Rattle.mdmp_lister.specs.declared.choice.Choice.TheVariants.{All}
+use Rattle.mdmp_lister.specs.declared.item.Item.{Item}
 use Rattle.mdmp_lister.specs.Format.Listing.{Run, listing}
 use Rattle.mdmp_lister.specs.Format.Refusal.{opening_fault}
 use Rattle.mdmp_lister.specs.Lister.{ListerState}
 use Rattle.mdmp_lister.specs.Memory.{is_within}
 use Rattle.mdmp_engines.specs.declared.fault.ToolFault.{ToolFault}
 use Rattle.mdmp_engines.specs.declared.fault.ToolFault.TheVariants.{List as BadList, Budget, AsideLimit, Memory, Out}
-use Rattle.mdmp_engines.specs.Symbols.{IsRecordAmong}
+use Rattle.mdmp_engines.specs.Symbols.{IsRecordAmong, symbols_bytes}
 use Rattle.mdmp_engines.specs.Text.{list_text}
 use Rattle.mdmp_print.specs.declared.form.LineForm.{LineForm}
 
@@ -30,11 +31,12 @@ pub record IsPartOf (skip room : ℕ) (text : List ℕ) (left space size : ℕ) 
   pub kept_is : kept ≡ take room (drop skip text)
 
 -- a lister v did not read the CodeView record at this place, since with it it might have read more bytes of such records than the limit;
--- without it, it has not
-pub record IsAsideEnd (v : ListerState) (aside : Option ℕ) (offset size : ℕ) : Type 0 where
+-- without it, it has not. What it read of them are those of these items
+pub record IsAsideEnd (v : ListerState) (aside : Option ℕ) (pdb : Bool) (before : List Item) (offset size : ℕ) : Type 0 where
   pub read : ℕ
   pub kept : is_within aside read ≡ true
   pub passes : is_within aside (read + size) ≡ false
+  pub most : read ≤ v.counts.aside.bytes + symbols_bytes pdb v.limit before
   pub inside : IsInside offset size v.source.size
   pub few : size ≤ 24 + v.limit
 
@@ -42,7 +44,7 @@ pub record IsAsideEnd (v : ListerState) (aside : Option ℕ) (offset size : ℕ)
 -- is told of a record of one of these items
 abbrev pub EndsTextAt : ListerState → (most : ℕ) → Option ℕ → Bool → Run → ToolFault → Type 0
 EndsTextAt v most aside pdb run (Budget offset size) = IsEndedAt v (Some most) offset size
-EndsTextAt v most aside pdb run (AsideLimit offset size) = IsAsideEnd v aside offset size × IsRecordAmong pdb v.limit run.items offset size
+EndsTextAt v most aside pdb run (AsideLimit offset size) = (among : IsRecordAmong pdb v.limit run.items offset size) × IsAsideEnd v aside pdb among.before offset size
 EndsTextAt v most aside pdb run fault = ⊥
 
 -- the first bytes of a text were put somewhere, and then a limit was reached so

@@ -1,8 +1,8 @@
 //! What a check gives as plain structures, put into an array.
 ghost use Rattle.std.specs.Prelude.{◌≡◌, ◌+◌, ◌≤◌, ℕ, List, sum_by};
-ghost use Rattle.mdmp_c.specs.GivenRows.{AreChecked, GivesChecked, ending_told};
+ghost use Rattle.mdmp_c.specs.GivenRows.{AreChecked, AreNamesWithin, GivesChecked, ending_told};
 ghost use Rattle.mdmp_c.specs.Giving.{Ends, bad_limits};
-ghost use Rattle.mdmp_c.specs.Limits.{AreLimits, EndsChecking, KeepsMemory, most_read, names_checked};
+ghost use Rattle.mdmp_c.specs.Limits.{AreLimits, EndsChecking, KeepsChecking, most_read, names_checked};
 ghost use Rattle.mdmp_c.specs.Table.{EndsListAt};
 ghost use Rattle.mdmp_engines.specs.Engines.{IsOpened};
 ghost use Rattle.mdmp_lister.specs.Format.Listing.{entry_count};
@@ -100,7 +100,7 @@ pub(crate) fn give_checked<R: GivenRows>(
     count: &mut u64,
     fault: &mut PlainFault,
 ) -> u32
-    ensures { Ends (AreChecked R.rows_of R.given R.is_bad file.now limits.now.name) (AreLimits limits.now) (KeepsMemory limits.now file.now All) (EndsChecking limits.now file.now) bad_limits result count.new fault.new out.old out.new }
+    ensures { Ends (AreChecked R.rows_of R.given R.is_bad file.now limits.now.name) (AreLimits limits.now) (KeepsChecking limits.now file.now) (EndsChecking limits.now file.now) bad_limits result count.new fault.new out.old out.new }
 {
     let Some(limits) = limits_of(limits) else {
         return refuse(of_kind(kinds::BAD_LIMITS), count, fault);
@@ -130,7 +130,7 @@ fn judge<R: GivenRows, S: Store + Drop, A: Allocator + Copy>(
 ) -> Judged
     requires { IsOpened All lister.old }
     ensures gives { (file : List ℕ) → IsGood lister.old.source.store file
-        → GivesChecked R.given R.is_bad (R.rows_of file lister.old.limit)
+        → GivesChecked R.given R.is_bad (R.rows_of file lister.old.limit) (AreNamesWithin lister.old file)
         (EndsListAt lister.old (most_read file lister.old.choice lister.old.limit (lister.old.counts.names + names_checked file lister.old.choice lister.old.limit)))
         result out.old out.new }
     ensures few { (file : List ℕ) → sum_by R.is_bad (R.rows_of file lister.old.limit) ≤ entry_count file }
@@ -153,13 +153,17 @@ fn judge_into<R: GivenRows, S: Store + Drop, A: Allocator + Copy>(
     requires none { (sink.old.count ≡ 0) × (sink.old.bad ≡ 0) }
     ensures same_output { sink.new.out.ghost_name ≡ sink.old.out.ghost_name }
     ensures gives { (file : List ℕ) → IsGood lister.old.source.store file
-        → GivesChecked R.given R.is_bad (R.rows_of file lister.old.limit)
+        → GivesChecked R.given R.is_bad (R.rows_of file lister.old.limit) (AreNamesWithin lister.old file)
         (EndsListAt lister.old (most_read file lister.old.choice lister.old.limit (lister.old.counts.names + names_checked file lister.old.choice lister.old.limit)))
         result sink.old.out.now sink.new.out.now }
     ensures few { (file : List ℕ) → sum_by R.is_bad (R.rows_of file lister.old.limit) ≤ entry_count file }
 {
     match rows.check_into(lister, sink) {
-        Ok(()) => sink.ended(None),
+        Ok(()) => {
+            // The proof learns here that the lister kept to its budget.
+            let _counts = lister.counts();
+            sink.ended(None)
+        }
         Err(RunFault::At(fault)) => {
             // The proof learns here within which bounds the lister stayed.
             let _counts = lister.counts();

@@ -1,9 +1,8 @@
 //! The call that gives parts of records that lie outside the file.
 ghost use Rattle.std.specs.Prelude.{◌≡◌};
 ghost use Rattle.mdmp_c.specs.Giving.{Ends, bad_limits};
-ghost use Rattle.mdmp_c.specs.Limits.{AreLimits, EndsChecking, KeepsMemory};
+ghost use Rattle.mdmp_c.specs.Limits.{AreLimits, EndsChecking, KeepsChecking};
 ghost use Rattle.mdmp_c.specs.PartsOutside.{ArePartsOutside};
-ghost use Rattle.mdmp_lister.specs.declared.choice.Choice.TheVariants.{All};
 
 use crate::collecting::set_row;
 use crate::fault::PlainFault;
@@ -29,7 +28,7 @@ pub extern "C" fn mdmp_parts_outside_(
     count: &mut u64,
     fault: &mut PlainFault,
 ) -> u32
-    ensures { Ends (ArePartsOutside file.now limits.now.name) (AreLimits limits.now) (KeepsMemory limits.now file.now All) (EndsChecking limits.now file.now) bad_limits result count.new fault.new out.old out.new }
+    ensures { Ends (ArePartsOutside file.now limits.now.name) (AreLimits limits.now) (KeepsChecking limits.now file.now) (EndsChecking limits.now file.now) bad_limits result count.new fault.new out.old out.new }
 {
     give_checked(alloc, file, limits, GivenParts, out, count, fault)
 }

@@ -4,7 +4,7 @@ ghost use Rattle.mdmp_c.specs.Fault.{status_of};
 ghost use Rattle.mdmp_c.specs.Limits.{AreGiven};
 ghost use Rattle.mdmp_c.specs.Summary.{EndsSummary, IsUnsummarized, summary_fault};
 ghost use Rattle.mdmp_lister.specs.Memory.{walk_fault};
-ghost use Rattle.mdmp_lister.specs.Opening.{KeepsDirectory};
+ghost use Rattle.mdmp_summary.specs.SpendingLaws.{KeepsSummary};
 ghost use Rattle.mdmp_summary.specs.Summary.{file_summary};
 
 use crate::fault::{NO_FAULT, PlainFault, of_kind, open_fault, plain_list_fault, status_of};
@@ -54,7 +54,7 @@ fn sum_up(
 ) -> Result<FileSummary, PlainFault>
     requires { AreGiven plain.now limits }
     ensures { MatchResult result
-        (λ summary. ((walk_fault limits file.now ≡ None) × KeepsDirectory limits.budget file.now) × (summary ≡ file_summary file.now limits.name))
+        (λ summary. ((walk_fault limits file.now ≡ None) × KeepsSummary limits.budget file.now limits.name) × (summary ≡ file_summary file.now limits.name))
         (IsUnsummarized file.now plain.now) }
 {
     let source = Source::new(MemoryStore::new(file));
@@ -64,11 +64,7 @@ fn sum_up(
     };
     match summarize_listing(&mut walker) {
         Ok(summary) => Ok(summary),
-        Err(fault) => {
-            // The proof learns here that the walker kept to its read limit.
-            let _counts = walker.counts();
-            Err(summary_fault(fault))
-        },
+        Err(fault) => Err(summary_fault(fault)),
     }
 }
 

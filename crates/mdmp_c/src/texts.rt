@@ -1,8 +1,7 @@
 //! Calls that give a text: the lines of `check` and of `list`, in either form.
 ghost use Rattle.mdmp_c.specs.Giving.{Ends, bad_limits};
-ghost use Rattle.mdmp_c.specs.Limits.{AreLimits, EndsChecking, EndsText, KeepsListing, KeepsMemory};
+ghost use Rattle.mdmp_c.specs.Limits.{AreLimits, EndsChecking, EndsText, KeepsChecking, KeepsText};
 ghost use Rattle.mdmp_c.specs.Texts.{IsCheck, IsList};
-ghost use Rattle.mdmp_lister.specs.declared.choice.Choice.TheVariants.{All};
 ghost use Rattle.mdmp_print.specs.declared.form.LineForm.TheVariants.{Json, Text};
 
 use crate::fault::{PlainFault, of_kind};
@@ -26,7 +25,7 @@ pub extern "C" fn mdmp_check_(
     size: &mut u64,
     fault: &mut PlainFault,
 ) -> u32
-    ensures { Ends (IsCheck Text file.now limits.now.name) (AreLimits limits.now) (KeepsMemory limits.now file.now All) (EndsChecking limits.now file.now) bad_limits result size.new fault.new out.old out.new }
+    ensures { Ends (IsCheck Text file.now limits.now.name) (AreLimits limits.now) (KeepsChecking limits.now file.now) (EndsChecking limits.now file.now) bad_limits result size.new fault.new out.old out.new }
 {
     check_in(alloc, file, limits, LineForm::Text, out, size, fault)
 }
@@ -41,7 +40,7 @@ pub extern "C" fn mdmp_check_json_(
     size: &mut u64,
     fault: &mut PlainFault,
 ) -> u32
-    ensures { Ends (IsCheck Json file.now limits.now.name) (AreLimits limits.now) (KeepsMemory limits.now file.now All) (EndsChecking limits.now file.now) bad_limits result size.new fault.new out.old out.new }
+    ensures { Ends (IsCheck Json file.now limits.now.name) (AreLimits limits.now) (KeepsChecking limits.now file.now) (EndsChecking limits.now file.now) bad_limits result size.new fault.new out.old out.new }
 {
     check_in(alloc, file, limits, LineForm::Json, out, size, fault)
 }
@@ -58,7 +57,7 @@ pub extern "C" fn mdmp_list_(
     size: &mut u64,
     fault: &mut PlainFault,
 ) -> u32
-    ensures { Ends (IsList Text pdb file.now limits.now.name) (AreLimits limits.now) (KeepsListing limits.now file.now All) (EndsText limits.now file.now pdb) bad_limits result size.new fault.new out.old out.new }
+    ensures { Ends (IsList Text pdb file.now limits.now.name) (AreLimits limits.now) (KeepsText limits.now file.now pdb) (EndsText limits.now file.now pdb) bad_limits result size.new fault.new out.old out.new }
 {
     list_in(alloc, file, limits, LineForm::Text, pdb, out, size, fault)
 }
@@ -74,7 +73,7 @@ pub extern "C" fn mdmp_list_json_(
     size: &mut u64,
     fault: &mut PlainFault,
 ) -> u32
-    ensures { Ends (IsList Json pdb file.now limits.now.name) (AreLimits limits.now) (KeepsListing limits.now file.now All) (EndsText limits.now file.now pdb) bad_limits result size.new fault.new out.old out.new }
+    ensures { Ends (IsList Json pdb file.now limits.now.name) (AreLimits limits.now) (KeepsText limits.now file.now pdb) (EndsText limits.now file.now pdb) bad_limits result size.new fault.new out.old out.new }
 {
     list_in(alloc, file, limits, LineForm::Json, pdb, out, size, fault)
 }
@@ -89,7 +88,7 @@ fn check_in(
     size: &mut u64,
     fault: &mut PlainFault,
 ) -> u32
-    ensures { Ends (IsCheck form file.now limits.now.name) (AreLimits limits.now) (KeepsMemory limits.now file.now All) (EndsChecking limits.now file.now) bad_limits result size.new fault.new out.old out.new }
+    ensures { Ends (IsCheck form file.now limits.now.name) (AreLimits limits.now) (KeepsChecking limits.now file.now) (EndsChecking limits.now file.now) bad_limits result size.new fault.new out.old out.new }
 {
     let Some(limits) = limits_of(limits) else {
         return refuse(of_kind(kinds::BAD_LIMITS), size, fault);
@@ -112,7 +111,7 @@ fn list_in(
     size: &mut u64,
     fault: &mut PlainFault,
 ) -> u32
-    ensures { Ends (IsList form pdb file.now limits.now.name) (AreLimits limits.now) (KeepsListing limits.now file.now All) (EndsText limits.now file.now pdb) bad_limits result size.new fault.new out.old out.new }
+    ensures { Ends (IsList form pdb file.now limits.now.name) (AreLimits limits.now) (KeepsText limits.now file.now pdb) (EndsText limits.now file.now pdb) bad_limits result size.new fault.new out.old out.new }
 {
     give_list(alloc, file, limits, form, pdb, 0, out, size, fault)
 }

@@ -1,9 +1,8 @@
 //! The call that gives verdicts.
 ghost use Rattle.std.specs.Prelude.{◌≡◌};
 ghost use Rattle.mdmp_c.specs.Giving.{Ends, bad_limits};
-ghost use Rattle.mdmp_c.specs.Limits.{AreLimits, EndsChecking, KeepsMemory};
+ghost use Rattle.mdmp_c.specs.Limits.{AreLimits, EndsChecking, KeepsChecking};
 ghost use Rattle.mdmp_c.specs.Verdicts.{AreVerdicts, verdict_row};
-ghost use Rattle.mdmp_lister.specs.declared.choice.Choice.TheVariants.{All};
 
 use crate::collecting::set_row;
 use crate::fault::{NO_FAULT, PlainFault, plain_list_fault};
@@ -26,7 +25,7 @@ pub extern "C" fn mdmp_verdicts_(
     count: &mut u64,
     fault: &mut PlainFault,
 ) -> u32
-    ensures { Ends (AreVerdicts file.now limits.now.name) (AreLimits limits.now) (KeepsMemory limits.now file.now All) (EndsChecking limits.now file.now) bad_limits result count.new fault.new out.old out.new }
+    ensures { Ends (AreVerdicts file.now limits.now.name) (AreLimits limits.now) (KeepsChecking limits.now file.now) (EndsChecking limits.now file.now) bad_limits result count.new fault.new out.old out.new }
 {
     give_checked(alloc, file, limits, GivenVerdicts, out, count, fault)
 }

@@ -1,4 +1,5 @@
-use Rattle.std.proofs.Common.{rules, ◌≡◌, ◌∙◌, ◌+◌, [], Bool, Ok, Err, Some, true, false, ap, sym}
+use Rattle.std.proofs.Common.{rules, ◌≡◌, ◌∙◌, ◌+◌, [], Bool, Ok, Err, None, Some, true, false, ap, sym}
+use Rattle.std.specs.Prelude.{take}
 use Rattle.mdmp_source.specs.SourceLaws.{fetches_then}
 use Rattle.mdmp_source.specs.Output.{OutState}
 use Rattle.mdmp_source.specs.Store.{IsGood}
@@ -9,10 +10,12 @@ use Rattle.mdmp_engines.specs.declared.fault.ToolFault.TheVariants.{Memory}
 use Rattle.mdmp_engines.specs.Engines.{HasRequested}
 use Rattle.mdmp_engines.proofs.Asking.{end_requested, fault_or_memory, next_requested, requested_behind, requested_same, requested_so_far}
 use Rattle.mdmp_engines.proofs.Printing.{next_told, next_within}
+use Rattle.mdmp_engines.specs.Symbols.{taken_bytes}
 use Rattle.mdmp_engines.specs.Text.{next_lines}
 use Rattle.mdmp_engines.proofs.SameRuns.{budget_later, run_none, run_then}
 use Rattle.mdmp_c.proofs.Coming.{runs_on}
-use Rattle.mdmp_c.proofs.Listed.{HasGiven-next, HasGiven-none, among_given, PutsRun-end, PutsRun-ended, lines_taken}
+use Rattle.mdmp_c.proofs.AsideRead.{fault_met, met_all, met_next, met_none, met_record}
+use Rattle.mdmp_c.proofs.Listed.{HasGiven-next, HasGiven-none, PutsRun-end, PutsRun-ended, lines_taken}
 use Rattle.mdmp_c.specs.Limits.{most_read}
 use Rattle.mdmp_c.specs.TextPart.{EndsTextAt}
 use Rattle.mdmp_lister.specs.Sink.{names_of_all}
@@ -34,9 +37,11 @@ returns-in-Err-clause-puts g c = λ file good run known skip room before part.
     let given = so_far.part file good run known skip room before part in
     let now : IsGood c.loop-lines.lister.source.store file = IsGood-later file _ _ _ so_far.source.fetches good in
     let next = next_within c.args.form c.args.pdb file _ _ given.0 _ (Err c.in-Err.fault) _ so_far.run.limit (c.in-Err.ensures.lists file now.known given.0 given.1.0) in
+    let met = so_far.met file good.known run known in
+    let there = next_within c.args.form c.args.pdb file _ _ met.left _ (Err c.in-Err.fault) _ so_far.run.limit (c.in-Err.ensures.lists file now.known met.left met.left_is) in
     PutsRun-ended c.args.form c.args.pdb file c.args.lister.now.limit (EndsTextAt c.args.lister.now (most_read file c.args.lister.now.choice c.args.lister.now.limit (c.args.lister.now.counts.names + names_of_all run.items)) c.args.aside c.args.pdb run) run given.0 before _ skip room _ _ _ _ _ _ _ _ _ _ c.in-Err.fault _ given.1.1 next
     (ap (λ (o : OutState). o.taken) c.new-lines.ensures ∙ ap Some c.clear.ensures.items) (sym c.into_inner.ensures) (c.end_items.ensures.puts skip room) (c.in-Err.ensures.leaves.good file now)
-    (text_over c.args.lister.now c.list_next.new.lister file run c.args.aside c.args.pdb c.counts-counts.result c.in-Err.fault (among_given c.args.form c.args.pdb file c.args.lister.now.limit run given.0 before skip room _ _ _ _ _ _ c.in-Err.fault given.1.1 next)
+    (text_over c.args.lister.now c.list_next.new.lister file run c.args.aside c.args.pdb c.counts-counts.result c.in-Err.fault (met_record c.args.pdb file c.args.lister.now run c.args.form c.loop-lines.lister c.list_next.new.lister met _ _ c.in-Err.fault there c.in-Err.ensures.read.rests)
     (runs_on _ _ (run_then _ _ _ so_far.run c.in-Err.ensures.same) (c.in-Err.ensures.leaves.reads.fetches.fetches.same_content ∙ so_far.source.fetches.same_content)
     (c.in-Err.ensures.leaves.reads.fetches.fetches.same_size ∙ so_far.source.fetches.same_size)) c.counts-counts.ensures.value
     (c.counts-counts.ensures.of_file file (c.in-Err.ensures.leaves.reads.fetches.fetches.same_content ∙ now.known)) (HasNamed-fault _ _ _ so_far.named c.in-Err.ensures.names run known)
@@ -52,6 +57,7 @@ loop-lines-init g c = record {
   aside = c.requires.kept;
   named = HasNamed-none _;
   requested = ([], aside_none _);
+  met = λ file content run known. met_none c.args.pdb file c.args.lister.now run known;
   part = λ file good run known skip room before part. (run, (known, HasGiven-none c.args.form c.args.pdb file c.args.lister.now.limit run before skip room _ _ _ _ part));
 }
 
@@ -68,6 +74,9 @@ loop-lines-preserved g c =
       aside = (of.aside so_far.aside).kept;
       named = HasNamed-next _ _ _ so_far.named of.names rest.left;
       requested = next_requested _ _ _ so_far.requested.0 _ c.in-Ok-true.field-0-test so_far.requested.1 of.read.requests;
+      met = λ file content run known.
+          met_next c.args.pdb file c.args.lister.now run c.loop-lines.lister c.list_next.new.lister (so_far.met file content run known) so_far.run.limit (rw c.in-Ok-true.field-0-test at of.read)
+          (so_far.source.fetches.same_content ∙ content) rest.left;
       part = λ file good run known skip room before part.
           let given = so_far.part file good run known skip room before part in
           let content = so_far.source.fetches.same_content ∙ good.known in
@@ -100,3 +109,31 @@ returns-in-Err-take-clause-requests g c =
     let of = c.in-Ok-true.ensures in
     let more = next_requested _ _ _ so_far.requested.0 _ c.in-Ok-true.field-0-test so_far.requested.1 of.read.requests in
     requested_so_far more.0 _ _ Memory more.1 tt
+
+-- ---- what was read beside the listing
+
+pub returns-in-Ok-false-clause-aside : goal.returns-in-Ok-false-clause-aside
+returns-in-Ok-false-clause-aside g c = (c.in-Ok-false.ensures.aside c.loop-lines.invariant.aside).kept
+
+pub returns-in-Ok-false-clause-taken : goal.returns-in-Ok-false-clause-taken
+returns-in-Ok-false-clause-taken g c = λ file content run known.
+    let so_far = c.loop-lines.invariant in
+    let met = so_far.met file content run known in
+    let of = c.in-Ok-false.ensures in
+    let next = next_told c.args.form c.args.pdb file _ _ met.left _ c.in-Ok-false.field-0 false _ so_far.run.limit c.in-Ok-false.field-0-test (of.lists file (so_far.source.fetches.same_content ∙ content) met.left met.left_is) in
+    met_all c.args.pdb file c.args.lister.now run c.loop-lines.lister c.list_next.new.lister met None (taken_bytes file c.args.pdb c.loop-lines.lister.limit (take 1 met.left.items)) next.0
+    (of.read.taken file (so_far.source.fetches.same_content ∙ content) met.left met.left_is)
+
+pub returns-in-Err-clause-aside : goal.returns-in-Err-clause-aside
+returns-in-Err-clause-aside g c = (c.in-Err.ensures.aside c.loop-lines.invariant.aside).kept
+
+pub returns-in-Err-clause-taken : goal.returns-in-Err-clause-taken
+returns-in-Err-clause-taken g c = λ file content run known.
+    let so_far = c.loop-lines.invariant in
+    let met = so_far.met file content run known in
+    let of = c.in-Err.ensures in
+    let there = next_within c.args.form c.args.pdb file _ _ met.left _ (Err c.in-Err.fault) _ so_far.run.limit (of.lists file (so_far.source.fetches.same_content ∙ content) met.left met.left_is) in
+    fault_met c.args.pdb file c.args.lister.now run c.args.form c.loop-lines.lister c.list_next.new.lister met _ _ c.in-Err.fault there of.read.rests c.end_items.result c.end_items.ensures.fault
+
+pub returns-in-Err-take-clause-aside : goal.returns-in-Err-take-clause-aside
+returns-in-Err-take-clause-aside g c = (c.in-Ok-true.ensures.aside c.loop-lines.invariant.aside).kept

@@ -9,6 +9,7 @@ use Rattle.mdmp_engines.proofs.Reached.{HasNamed}
 use Rattle.mdmp_summary.specs.InEntry.{StandsInChosen}
 use Rattle.mdmp_engines.specs.Engines.{IsSameRun}
 use Rattle.mdmp_c.specs.TextPart.{IsPartOf}
+use Rattle.mdmp_c.proofs.AsideRead.{HasMet}
 use Rattle.mdmp_c.proofs.Listed.{HasGiven}
 use Rattle.mdmp_c.proofs.list_part.gather_items.Given as goal
 
@@ -22,6 +23,7 @@ invariant-loop-lines g l = record {
   aside : is_within l.aside l.lister.counts.aside.bytes ≡ true;
   named : HasNamed l.initial.lister l.lister;
   requested : (items : List Item) × AreRequested l.initial.lister items l.lister;
+  met : (file : List ℕ) → l.initial.lister.source.store.content ≡ Some file → (run : Run) → l.initial.lister.left ≡ Some run → HasMet l.pdb file l.initial.lister run l.lister;
   part : (file : List ℕ) → IsGood l.initial.lister.source.store file → (run : Run) → l.initial.lister.left ≡ Some run → (skip room : ℕ) (before : List ℕ)
       → IsPartOf skip room before l.initial.part.skip l.initial.part.room l.initial.part.size l.initial.part.kept.items
       → (left : Run) × ((l.lister.left ≡ Some left)

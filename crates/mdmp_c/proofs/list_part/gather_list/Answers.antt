@@ -32,3 +32,9 @@ returns-in-Err-clause-requests g c = requested_none c.args.lister.now Out tt
 
 pub returns-in-Err-take-clause-requests : goal.returns-in-Err-take-clause-requests
 returns-in-Err-take-clause-requests g c = requested_none c.args.lister.now Memory tt
+
+pub returns-clause-aside : goal.returns-clause-aside
+returns-clause-aside g c = c.gather_items.ensures.aside
+
+pub returns-clause-taken : goal.returns-clause-taken
+returns-clause-taken g c = c.gather_items.ensures.taken

@@ -8,7 +8,7 @@ pub returns-in-Ok : goal.returns-in-Ok
 returns-in-Ok c =
     let given = c.in-Some.ensures in
     let summed = c.in-Ok.ensures in
-    sums (record { limits = c.in-Some.given; given = given; within = summed.0.0; opening = summed.0.1 }) refl refl
+    sums (record { limits = c.in-Some.given; given = given; within = summed.0.0; reads = summed.0.1 }) refl refl
     (c.summary_row.ensures ∙ ap (summary_row c.args.file.now c.args.limits.now.name) (summed.1 ∙ ap (file_summary c.args.file.now) given.name))
 
 pub returns-in-Err : goal.returns-in-Err

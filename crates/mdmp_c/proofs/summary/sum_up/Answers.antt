@@ -1,7 +1,12 @@
 use Rattle.std.proofs.Common.{rules, ◌≡◌, ◌∙◌, ap, length, subst, sym}
 use Rattle.mdmp_source.specs.Store.{IsGood}
 use Rattle.mdmp_lister.proofs.Fetches.{IsGood-later}
+use Rattle.mdmp_summary.specs.BadEntries.{all_items}
+use Rattle.mdmp_summary.specs.SpendingLaws.{keeps_summary}
 use Rattle.mdmp_summary.specs.Summary.{file_summary}
+use Rattle.mdmp_summary.specs.Summing.{passes_for}
+use Rattle.mdmp_lister.specs.NamesFetched.{FetchesNames}
+use Rattle.mdmp_summary.specs.declared.summary.FileSummary.{FileSummary}
 use Rattle.mdmp_c.specs.Summary.{IsUnsummarized}
 use Rattle.mdmp_lister.specs.declared.choice.Choice.TheVariants.{All}
 use Rattle.mdmp_c.proofs.Coming.{opened_in}
@@ -22,8 +27,15 @@ pub returns-in-Ok-summarize_listing : goal.returns-in-Ok-summarize_listing
 returns-in-Ok-summarize_listing c =
     let file = c.args.file.now in
     let good : IsGood c.new-source.result.store file = search rules in
-    let new = c.in-Ok.ensures.new.list in
-    ((c.in-Ok.ensures.within file good.known, c.in-Ok.ensures.new.opening file good.known), c.in-Ok-summarize_listing.ensures.sums file (new.same_content ∙ good.known) ∙ ap (file_summary file) new.asked.limit_is)
+    let new = c.in-Ok.ensures.new in
+    let opened = c.in-Ok.walker in
+    let ended = c.summarize_listing.new.walker in
+    let sums = c.in-Ok-summarize_listing.ensures in
+    let known = new.list.same_content ∙ good.known in
+    let is : c.in-Ok-summarize_listing.summary ≡ file_summary file c.args.limits.name = sums.sums file known ∙ ap (file_summary file) new.list.asked.limit_is in
+    let limited = subst (λ n. FetchesNames (passes_for c.in-Ok-summarize_listing.summary.crash) (all_items file n) opened.list.counts.fetched ended.list.counts.fetched) new.list.asked.limit_is (sums.named file known) in
+    let named = subst (λ (s : FileSummary). FetchesNames (passes_for s.crash) (all_items file c.args.limits.name) opened.list.counts.fetched ended.list.counts.fetched) is limited in
+    ((c.in-Ok.ensures.within file good.known, keeps_summary c.new-source.result c.args.limits file opened ended good.known new sums.keeps named), is)
 
 pub returns : goal.returns
 returns c =
@@ -35,4 +47,4 @@ returns c =
     let sums = c.in-Err-summarize_listing.ensures in
     subst (IsUnsummarized file c.args.plain.now) (sym c.summary_fault.ensures)
     (call_told c.args.plain.now c.args.limits file c.requires c.in-Ok.walker.list c.summarize_listing.new.walker.list c.in-Err-summarize_listing.fault (opened_in _ All c.args.limits file c.in-Ok.walker.list good.known size new.list)
-    sums.same (rw c.counts-counts.ensures.value at c.counts-counts.ensures.held.kept.kept) sums.fault (sums.good file now))
+    sums.keeps.same sums.keeps.held.kept.kept sums.fault (sums.good file now))

@@ -2,8 +2,7 @@ use Rattle.std.proofs.Common.{rules, ◌∙◌, ℕ, Some, ap, sym, subst}
 use Rattle.mdmp_source.specs.Output.{OutState}
 use Rattle.mdmp_c.specs.declared.fault.PlainFault.{PlainFault}
 use Rattle.mdmp_c.specs.Giving.{bad_limits}
-use Rattle.mdmp_c.specs.Limits.{AreLimits, EndsChecking, KeepsMemory}
-use Rattle.mdmp_lister.specs.declared.choice.Choice.TheVariants.{All}
+use Rattle.mdmp_c.specs.Limits.{AreLimits, EndsChecking, KeepsChecking}
 use Rattle.mdmp_c.specs.Texts.{IsCheck}
 use Rattle.mdmp_c.specs.ToolFault.{check_answer}
 use Rattle.mdmp_source.specs.Store.{IsGood}
@@ -26,8 +25,8 @@ returns c =
     let MayTell = EndsChecking c.args.limits.now file in
     let can = check_over c.args.limits.now c.in-Some.limits file c.new-source.result _ answer c.in-Some.ensures good.known (sized file c.new-source.result good.known c.new-source.ensures.content) (search rules) c.new-source.ensures.counts.0
     (run.reads.fetches.fetches.same_content ∙ good.known) run.reads.fetches.fetches.same_size run.through in
-    let kept = KeepsMemory c.args.limits.now file All in
-    let keep = check_keeps c.args.limits.now c.in-Some.limits file c.new-source.result _ answer c.args.form _ _ c.in-Some.ensures good.known run.through runs in
+    let kept = KeepsChecking c.args.limits.now file in
+    let keep = check_keeps c.args.limits.now c.in-Some.limits file c.new-source.result _ answer c.args.form _ _ c.in-Some.ensures good.known (sized file c.new-source.result good.known c.new-source.ensures.content) run.through runs in
     let told = IsCheck-told c.args.form file c.in-Some.limits.name kept MayTell _ _ text answer none is read can keep runs in
     let named = subst (λ (n : ℕ). IsTellable (IsCheck c.args.form file n) kept MayTell (check_answer answer) text) c.in-Some.ensures.name told in
     let valid : AreLimits c.args.limits.now = c.in-Some.ensures.valid in

@@ -1,4 +1,4 @@
-use Rattle.std.proofs.Common.{◌≤◌, ◌+◌, arith}
+use Rattle.std.proofs.Common.{◌≤◌, arith}
 use Rattle.mdmp_lister.specs.Check.{names_judged}
 use Rattle.mdmp_engines.proofs.Checking.{ends_in_entry, hands_verdicts, tells_run}
 use Rattle.mdmp_engines.proofs.Reached.{end_one, names_judged_most}
