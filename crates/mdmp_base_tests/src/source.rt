@@ -37,17 +37,6 @@ fn remove(rt: &(impl Files + Abort), path: &str) {
     fs::remove_file(rt, path).expect(rt, "the removal of a file");
 }
 
-/// An output in memory that takes `cap` bytes a call and `room` in all, and may fail once.
-pub fn patchy_out(
-    rt: &impl Abort,
-    alloc: Global,
-    room: usize,
-    cap: usize,
-    fail_at: Option<u64>,
-) -> PatchyOut<Global> {
-    PatchyOut::with_room(alloc, room, cap, fail_at).expect(rt, "an output")
-}
-
 /// Writes all of some bytes, and tells how the output answered.
 fn write_whole<O: Out>(out: &mut O, bytes: &[u8]) -> Result<(), OutFailed> {
     write_all(out, bytes)

@@ -45,6 +45,13 @@ pub struct FailingSystem<'r, 'a, R> {
     pub fail_at: u64,
 }
 
+impl<'r, 'a, R> FailingSystem<'r, 'a, R> {
+    /// The files of a runtime, of whose calls the one with this number alone fails.
+    pub fn new(rt: &'r R, calls: &'a FileCalls, fail_at: u64) -> Self {
+        FailingSystem { rt, calls, fail_at }
+    }
+}
+
 /// A file that was opened.
 #[derive(Drop)]
 pub struct FailingFile<'a, F> {

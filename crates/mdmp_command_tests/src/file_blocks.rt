@@ -40,11 +40,7 @@ fn assert_reads<S: Store>(
 /// Asserts that reads of a file of zeros, one behind the other, take so many calls, of which one alone fails.
 fn assert_calls(rt: &(impl Files + AllocGlobal + Abort), fail_at: u64, reads: &[CountedRead]) {
     let calls = FileCalls::none();
-    let system = FailingSystem {
-        rt,
-        calls: &calls,
-        fail_at,
-    };
+    let system = FailingSystem::new(rt, &calls, fail_at);
     let mut store = FileStore::open(&system, "zeros").expect(rt, "a store");
     assert_reads(rt, &mut store, &calls, reads);
 }
@@ -112,11 +108,7 @@ fn assert_asked_of<S: Store>(
 /// Asserts that reads of a file of zeros that was just opened, one behind the other, ask for so many bytes.
 fn assert_asked(rt: &(impl Files + AllocGlobal + Abort), reads: &[AskedRead]) {
     let calls = FileCalls::none();
-    let system = FailingSystem {
-        rt,
-        calls: &calls,
-        fail_at: NONE_FAILS,
-    };
+    let system = FailingSystem::new(rt, &calls, NONE_FAILS);
     let mut store = FileStore::open(&system, "zeros").expect(rt, "a store");
     assert_asked_of(rt, &mut store, &calls, reads);
 }
@@ -228,11 +220,7 @@ fn read_names<S: Store + Drop>(rt: &impl Abort, store: S) {
 /// How many calls of the system it takes to open a file of names and to read them all.
 fn calls_of_names(rt: &(impl Files + AllocGlobal + Abort)) -> u64 {
     let calls = FileCalls::none();
-    let system = FailingSystem {
-        rt,
-        calls: &calls,
-        fail_at: NONE_FAILS,
-    };
+    let system = FailingSystem::new(rt, &calls, NONE_FAILS);
     let store = FileStore::open(&system, "names").expect(rt, "a store");
     read_names(rt, store);
     calls.made.get()

@@ -20,11 +20,7 @@ fn run_failing<R: Files + Input + AllocGlobal + Abort>(
     fail_at: u64,
 ) -> CommandEnd {
     let calls = FileCalls::none();
-    let system = FailingSystem {
-        rt,
-        calls: &calls,
-        fail_at,
-    };
+    let system = FailingSystem::new(rt, &calls, fail_at);
     let mut out = out_of(rt, alloc, GOOD.out);
     let mut err = out_of(rt, alloc, GOOD.err);
     let status = run_words(&system, alloc, words, &mut out, &mut err);
@@ -213,11 +209,7 @@ fn each_call_behind_a_copy_may_fail(rt: HostRuntime) {
 /// How many bytes the file of this name has, where the call of this number fails.
 fn size_without<R: Files + AllocGlobal>(rt: &R, name: &str, fail_at: u64) -> Option<u64> {
     let calls = FileCalls::none();
-    let system = FailingSystem {
-        rt,
-        calls: &calls,
-        fail_at,
-    };
+    let system = FailingSystem::new(rt, &calls, fail_at);
     match FileStore::open(&system, name) {
         Ok(store) => Some(store.size()),
         Err(_) => None,

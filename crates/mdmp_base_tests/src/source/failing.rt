@@ -1,5 +1,5 @@
 //! Stores and outputs each of whose calls fails in turn.
-use super::{Fetched, assert_taken, four_at_one, part, patchy_out, sent, write_whole};
+use super::{Fetched, assert_taken, four_at_one, part, sent, write_whole};
 use crate::same::{assert_same, assert_same_at};
 use mdmp_source::{PatchyOut, PatchyStore, Source, SourceFault};
 use std::alloc::Global;
@@ -41,7 +41,7 @@ fn each_call_of_a_fetch_may_fail(rt: HostRuntime) {
 
 /// An output that takes one byte a call, and fails at this one.
 fn failing_out(rt: &impl Abort, alloc: Global, fail_at: usize) -> PatchyOut<Global> {
-    patchy_out(rt, alloc, 100, 1, Some(fail_at as u64))
+    PatchyOut::with_room(alloc, 100, 1, Some(fail_at as u64)).expect(rt, "an output")
 }
 
 /// Asserts that sending bytes and writing all of them end well where no call fails, and else stop at that call: the bytes

@@ -1,7 +1,7 @@
 //! Outputs that take what they are given, and such as refuse.
-use super::{OutStep, assert_out, assert_taken, patchy_out};
+use super::{OutStep, assert_out, assert_taken};
 use crate::same::assert_same;
-use mdmp_source::{OutFailed, WriteOut};
+use mdmp_source::{OutFailed, PatchyOut, WriteOut};
 use std::io::Write;
 use std::{fs, io};
 
@@ -45,7 +45,10 @@ const TAKEN: &[TakenRow] = &[
 #[test]
 fn output_that_fails_once_takes_what_it_can(rt: HostRuntime) {
     for (room, cap, fail_at, steps, taken) in TAKEN {
-        let mut out = patchy_out(&rt, rt.alloc(), *room, *cap, *fail_at);
+        let mut out = PatchyOut::with_room(rt.alloc(), *room, *cap, *fail_at).expect(
+            &rt,
+            "an output",
+        );
         assert_out(&rt, &mut out, *steps);
         assert_taken(&rt, &out, *taken);
     }

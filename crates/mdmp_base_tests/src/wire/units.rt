@@ -1,8 +1,8 @@
 //! Names, and the digits of printed numbers.
 use crate::same::{assert_different, assert_same, assert_same_at, assert_that};
-use crate::source::{part, patchy_out};
+use crate::source::part;
 use linked_list_allocator::LocalHeap;
-use mdmp_source::OutFailed;
+use mdmp_source::{OutFailed, PatchyOut};
 use mdmp_wire::{Units, UnitsRef, hex_digits, text_survives_utf16};
 use std::alloc::{AllocError, Allocator, Global};
 use std::process::Abort;
@@ -100,7 +100,7 @@ fn assert_escaped(
     text: &[u8],
 ) {
     let (room, cap, fail_at) = taking;
-    let mut out = patchy_out(rt, alloc, room, cap, fail_at);
+    let mut out = PatchyOut::with_room(alloc, room, cap, fail_at).expect(rt, "an output");
     let found = (over(rt, bytes).escape_into(&mut out), out.bytes());
     assert_same_at(rt, &(bytes, fail_at), found, (answer, text));
 }
