@@ -88,11 +88,10 @@ def put_tests(files: Stretches, words: list[tuple[str, int]], names: list[tuple[
     """Command lines with all words, and with all names."""
     text = ""
     for rows in (words, names):
-        given = "".join(f'            "{word}",\n' for word in ["copy", "a", "b", *[name for name, _ in rows]])
-        numbers = " ".join(str(number) for _, number in rows)
-        text += f'    (\n        &[\n{given}        ],\n        "copy [a] [b] {numbers}",\n        USUAL,\n    ),\n'
-    before = '        "copy [a] [b] 3 6 7",\n        USUAL,\n    ),\n'
-    files.put("crates/mdmp_command_tests/src/requests.rt", before, '    (&["copy", "a", "b", "thread"], "bad", NONE),', text)
+        given, numbers = "|".join(name for name, _ in rows), " ".join(str(number) for _, number in rows)
+        text += f"copy|a|b|{given} => copy [a] [b] {numbers} usual\n"
+    before = "copy|a|b|threads|exception|7 => copy [a] [b] 3 6 7 usual\n"
+    files.put("crates/mdmp_command_tests/src/requests.rt", before, "copy|a|b|thread => bad", text)
 
 
 def put_copied(files: Stretches, names: Names) -> None:

@@ -4,6 +4,7 @@ use crate::commands::{
     CommandCall, DiskRequests, Ending, GOOD, Outlet, Shown, Trial, assert_end, run, written,
 };
 use crate::files::SmallFile;
+use crate::requests::words_of;
 use crate::same::assert_same_at;
 use crate::texts::WIDE_PARTS;
 use mdmp_test_support::{
@@ -26,7 +27,7 @@ const UNKNOWN: Ending<'static> = (0, "0x0000000000000010: ?? ??\n", "");
 /// The words of a copy.
 const COPY: CommandCall<'static> = CommandCall::Line(&["copy", "system.dmp", "copy.dmp", "7"]);
 
-const ROWS: [EndingRow<'static>; 23] = [
+const ROWS: [EndingRow<'static>; 9] = [
     (
         CommandCall::Print(Shown::Verdicts, SmallFile::System),
         (0, "entry 0: ok\n", ""),
@@ -70,89 +71,6 @@ const ROWS: [EndingRow<'static>; 23] = [
         NO_REQUEST,
     ),
     (
-        CommandCall::Line(&["list", "system.dmp"]),
-        (0, SYSTEM_TEXT, ""),
-        None,
-        (1, 0, 0),
-    ),
-    (
-        CommandCall::Line(&["check", "system.dmp"]),
-        (0, "entry 0: ok\n", ""),
-        None,
-        (1, 0, 0),
-    ),
-    (
-        CommandCall::Line(&["check", "wide.dmp"]),
-        (0, "entry 0: ok\n", ""),
-        None,
-        (1, 0, 0),
-    ),
-    (
-        CommandCall::Line(&["check", "--parts", "wide.dmp"]),
-        (1, WIDE_PARTS, "mdmp: 1 bad entries\n"),
-        None,
-        (1, 0, 0),
-    ),
-    (
-        CommandCall::Line(&["hex", "system.dmp", "0x10", "1"]),
-        (0, "0x0000000000000010: ??\n", ""),
-        None,
-        (1, 0, 0),
-    ),
-    (
-        CommandCall::Line(&["hex", "wide.dmp", "0x1000", "4"]),
-        (0, WIDE_TEXT, ""),
-        None,
-        (1, 0, 0),
-    ),
-    (
-        CommandCall::Line(&["list", "empty.dmp"]),
-        (1, "", "mdmp: file of 0 bytes is too short\n"),
-        None,
-        (1, 0, 0),
-    ),
-    (
-        CommandCall::Line(&["list", "other.dmp"]),
-        (3, "", "mdmp: cannot open other.dmp\n"),
-        None,
-        (0, 0, 1),
-    ),
-    // What is copied is not there, and the copy would be.
-    (
-        CommandCall::Line(&["copy", "other.dmp", "system.dmp", "7"]),
-        (3, "", "mdmp: cannot open other.dmp\n"),
-        None,
-        (0, 0, 1),
-    ),
-    // A file is there already.
-    (
-        CommandCall::Line(&["copy", "system.dmp", "empty.dmp", "7"]),
-        (3, "", "mdmp: cannot create empty.dmp\n"),
-        None,
-        (1, 0, 1),
-    ),
-    // It is the same.
-    (
-        CommandCall::Line(&["copy", "system.dmp", "system.dmp", "7"]),
-        (3, "", "mdmp: cannot create system.dmp\n"),
-        None,
-        (1, 0, 1),
-    ),
-    // A type is refused.
-    (
-        CommandCall::Line(&["copy", "system.dmp", "copy.dmp", "12"]),
-        (2, "", "mdmp: type 12 is not copied\n"),
-        None,
-        NO_REQUEST,
-    ),
-    (COPY, (0, "", ""), Some(&SYSTEM), (1, 1, 0)),
-    (
-        CommandCall::Line(&["copy", "empty.dmp", "copy.dmp", "7"]),
-        (1, "", "mdmp: file of 0 bytes is too short\n"),
-        Some(b""),
-        (1, 1, 0),
-    ),
-    (
         CommandCall::Program(&["list", "system.dmp", "--window", "168"]),
         (0, SYSTEM_TEXT, ""),
         None,
@@ -167,6 +85,91 @@ const ROWS: [EndingRow<'static>; 23] = [
         ),
         None,
         NO_REQUEST,
+    ),
+];
+
+/// A command line, as words with bars between them, how it ends, which bytes its file has, if it makes one, and what it asks of
+/// the disk.
+type LineRow = (
+    &'static str,
+    Ending<'static>,
+    Option<&'static [u8]>,
+    DiskRequests,
+);
+
+const LINES: [LineRow; 14] = [
+    ("list|system.dmp", (0, SYSTEM_TEXT, ""), None, (1, 0, 0)),
+    (
+        "check|system.dmp",
+        (0, "entry 0: ok\n", ""),
+        None,
+        (1, 0, 0),
+    ),
+    ("check|wide.dmp", (0, "entry 0: ok\n", ""), None, (1, 0, 0)),
+    (
+        "check|--parts|wide.dmp",
+        (1, WIDE_PARTS, "mdmp: 1 bad entries\n"),
+        None,
+        (1, 0, 0),
+    ),
+    (
+        "hex|system.dmp|0x10|1",
+        (0, "0x0000000000000010: ??\n", ""),
+        None,
+        (1, 0, 0),
+    ),
+    ("hex|wide.dmp|0x1000|4", (0, WIDE_TEXT, ""), None, (1, 0, 0)),
+    (
+        "list|empty.dmp",
+        (1, "", "mdmp: file of 0 bytes is too short\n"),
+        None,
+        (1, 0, 0),
+    ),
+    (
+        "list|other.dmp",
+        (3, "", "mdmp: cannot open other.dmp\n"),
+        None,
+        (0, 0, 1),
+    ),
+    // What is copied is not there, and the copy would be.
+    (
+        "copy|other.dmp|system.dmp|7",
+        (3, "", "mdmp: cannot open other.dmp\n"),
+        None,
+        (0, 0, 1),
+    ),
+    // A file is there already.
+    (
+        "copy|system.dmp|empty.dmp|7",
+        (3, "", "mdmp: cannot create empty.dmp\n"),
+        None,
+        (1, 0, 1),
+    ),
+    // It is the same.
+    (
+        "copy|system.dmp|system.dmp|7",
+        (3, "", "mdmp: cannot create system.dmp\n"),
+        None,
+        (1, 0, 1),
+    ),
+    // A type is refused.
+    (
+        "copy|system.dmp|copy.dmp|12",
+        (2, "", "mdmp: type 12 is not copied\n"),
+        None,
+        NO_REQUEST,
+    ),
+    (
+        "copy|system.dmp|copy.dmp|7",
+        (0, "", ""),
+        Some(&SYSTEM),
+        (1, 1, 0),
+    ),
+    (
+        "copy|empty.dmp|copy.dmp|7",
+        (1, "", "mdmp: file of 0 bytes is too short\n"),
+        Some(b""),
+        (1, 1, 0),
     ),
 ];
 
@@ -228,6 +231,21 @@ pub fn assert_each_ends<R: Files + Input + AllocGlobal + Abort>(
 #[test]
 fn commands_succeed_or_tell_why(rt: HostRuntime) {
     assert_each_ends(&rt, rt.alloc(), &ROWS);
+}
+
+/// Asserts how a command line ends.
+fn assert_line_ends<R: Files + Input + AllocGlobal + Abort>(rt: &R, alloc: Global, row: &LineRow) {
+    let (line, wanted, made, requests) = *row;
+    let words = words_of(rt, alloc, line);
+    let row = (CommandCall::Line(&words), wanted, made, requests);
+    assert_each_ends(rt, alloc, &[row]);
+}
+
+#[test]
+fn command_lines_succeed_or_tell_why(rt: HostRuntime) {
+    for row in &LINES {
+        assert_line_ends(&rt, rt.alloc(), row);
+    }
 }
 
 #[test]

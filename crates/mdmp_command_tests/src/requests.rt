@@ -101,203 +101,122 @@ fn asked_by<'a>(rt: &impl Abort, alloc: Global, words: &'a [&'a str]) -> String 
     String::from_str(alloc, text).expect(rt, "memory for a text")
 }
 
-/// Words, what they ask for, and within which limits.
-pub type AskedRow<'a> = (&'a [&'a str], &'a str, &'a str);
+/// The limits where no words set them.
+const USUAL: &str = " within 65536 4096 Some(18446744073709551615) None None";
+
+/// The limits for the dumps of strangers, where no words set them.
+const STRANGERS: &str = " within 65536 4096 Some(67108864) Some(67108864) Some(67108864)";
+
+/// The words of a line, with bars between them.
+pub fn words_of<'a>(rt: &impl Abort, alloc: Global, line: &'a str) -> Vec<&'a str> {
+    let mut words = Vec::new(alloc);
+    for word in line.split('|') {
+        words.push(word).expect(rt, "memory for words");
+    }
+    words
+}
+
+/// What is asked for, with its limits: those are named by a word, or written out. Where nothing is asked for there are none.
+fn wanted_of(rt: &impl Abort, alloc: Global, asked: &str) -> String {
+    if let Some((command, _)) = asked.split_once(" usual") {
+        return format!(in alloc; "{command}{USUAL}").expect(rt, "memory for a text");
+    }
+    if let Some((command, _)) = asked.split_once(" strangers") {
+        return format!(in alloc; "{command}{STRANGERS}").expect(rt, "memory for a text");
+    }
+    String::from_str(alloc, asked).expect(rt, "memory for a text")
+}
 
 /// Asserts what words come to.
-pub fn assert_asked(rt: &impl Abort, alloc: Global, rows: &[AskedRow<'_>]) {
-    for &(words, asked, limits) in rows {
-        let wanted = format!(in alloc; "{asked}{limits}").expect(rt, "memory for a text");
-        let found = asked_by(rt, alloc, words);
-        assert_same_at(rt, &words, found.as_str(), wanted.as_str());
+pub fn assert_words(rt: &impl Abort, alloc: Global, words: &[&str], asked: &str) {
+    let wanted = wanted_of(rt, alloc, asked);
+    let found = asked_by(rt, alloc, words);
+    assert_same_at(rt, &words, found.as_str(), wanted.as_str());
+}
+
+/// Asserts what the words of each line come to. A line has words with bars between them, an arrow, and what they ask for. It is
+/// a text, since a list of many texts is dear for the prover.
+pub fn assert_asked(rt: &impl Abort, alloc: Global, lines: &str) {
+    for line in lines.lines() {
+        let (words, asked) = line.split_once(" => ").expect(rt, "an arrow");
+        let words = words_of(rt, alloc, words);
+        assert_words(rt, alloc, &words, asked);
     }
 }
 
-/// Nothing is asked for.
-pub const NONE: &str = "";
-
-/// The limits where no words set them.
-pub const USUAL: &str = " within 65536 4096 Some(18446744073709551615) None None";
-
 /// Commands, and what is done with names, which are kept as they are.
-const COMMANDS: [AskedRow<'static>; 19] = [
-    (&["check", "a.dmp"], "check [a.dmp]", USUAL),
-    (&["list", "a.dmp"], "list [a.dmp]", USUAL),
-    (&["list", "a.dmp", "--pdb"], "list [a.dmp] pdb", USUAL),
-    (&["list", "--pdb", "a.dmp"], "list [a.dmp] pdb", USUAL),
-    (&["list", "--json", "a.dmp"], "list [a.dmp] json", USUAL),
-    (
-        &["list", "a.dmp", "--pdb", "--json"],
-        "list [a.dmp] json pdb",
-        USUAL,
-    ),
-    (&["check", "a.dmp", "--json"], "check [a.dmp] json", USUAL),
-    (&["check", "--", "--json"], "check [--json]", USUAL),
-    (&["check", "a.dmp", "--parts"], "check [a.dmp] parts", USUAL),
-    (
-        &["check", "--parts", "--json", "a.dmp"],
-        "check [a.dmp] json parts",
-        USUAL,
-    ),
-    (&["check", "--", "--parts"], "check [--parts]", USUAL),
-    (&["hex", "a.dmp", "0x10", "5"], "hex [a.dmp] 16 5", USUAL),
-    (&["copy", "a", "b", "3"], "copy [a] [b] 3", USUAL),
-    (
-        &["copy", "a", "b", "17", "0", "17"],
-        "copy [a] [b] 17 0 17",
-        USUAL,
-    ),
-    (&["list", " a b "], "list [ a b ]", USUAL),
-    (&["list", "-"], "list [-]", USUAL),
-    (&["list", "list"], "list [list]", USUAL),
-    (&["list", "help"], "list [help]", USUAL),
-    (&["list", "--", "--pdb"], "list [--pdb]", USUAL),
-];
+const COMMANDS: &str = "check|a.dmp => check [a.dmp] usual
+list|a.dmp => list [a.dmp] usual
+list|a.dmp|--pdb => list [a.dmp] pdb usual
+list|--pdb|a.dmp => list [a.dmp] pdb usual
+list|--json|a.dmp => list [a.dmp] json usual
+list|a.dmp|--pdb|--json => list [a.dmp] json pdb usual
+check|a.dmp|--json => check [a.dmp] json usual
+check|--|--json => check [--json] usual
+check|a.dmp|--parts => check [a.dmp] parts usual
+check|--parts|--json|a.dmp => check [a.dmp] json parts usual
+check|--|--parts => check [--parts] usual
+hex|a.dmp|0x10|5 => hex [a.dmp] 16 5 usual
+copy|a|b|3 => copy [a] [b] 3 usual
+copy|a|b|17|0|17 => copy [a] [b] 17 0 17 usual
+list| a b  => list [ a b ] usual
+list|- => list [-] usual
+list|list => list [list] usual
+list|help => list [help] usual
+list|--|--pdb => list [--pdb] usual";
 
 /// Addresses and lengths, at their ends and past them.
-const SPANS: [AskedRow<'static>; 28] = [
-    (
-        &["hex", "a", "00000000`7ffe0300", "1"],
-        "hex [a] 2147353344 1",
-        USUAL,
-    ),
-    (
-        &["hex", "a", "0x7ff6`12345678", "1"],
-        "hex [a] 140694844102264 1",
-        USUAL,
-    ),
-    (&["hex", "a", "0`00000000", "1"], "hex [a] 0 1", USUAL),
-    (&["hex", "a", "`7ffe0300", "1"], "bad", NONE),
-    (&["hex", "a", "0000000`7ffe030", "1"], "bad", NONE),
-    (&["hex", "a", "000000000`7ffe0300", "1"], "bad", NONE),
-    (&["hex", "a", "0`0`7ffe0300", "1"], "bad", NONE),
-    (
-        &["hex", "a", "00000000000000000000001", "1"],
-        "hex [a] 1 1",
-        USUAL,
-    ),
-    (
-        &["hex", "a", "0xfFfFfFfFfFfFfFfF", "1"],
-        "hex [a] 18446744073709551615 1",
-        USUAL,
-    ),
-    (&["hex", "a", "0xffffffffffffffff", "2"], "together", NONE),
-    (
-        &["hex", "a", "18446744073709551615", "0"],
-        "hex [a] 18446744073709551615 0",
-        USUAL,
-    ),
-    (&["hex", "a", "18446744073709551616", "0"], "bad", NONE),
-    (
-        &["hex", "a", "18446744073708503040", "1048576"],
-        "hex [a] 18446744073708503040 1048576",
-        USUAL,
-    ),
-    (
-        &["hex", "a", "18446744073708503041", "1048576"],
-        "together",
-        NONE,
-    ),
-    (&["hex", "a", "0", "1048576"], "hex [a] 0 1048576", USUAL),
-    (&["hex", "a", "0", "1048577"], "bad", NONE),
-    (&["hex", "a", "0", "0x10"], "bad", NONE),
-    (&["hex", "a", "0", ""], "bad", NONE),
-    (&["hex", "a", "+5", "1"], "bad", NONE),
-    (&["hex", "a", "0x+1", "1"], "bad", NONE),
-    (&["hex", "a", "0x", "1"], "bad", NONE),
-    (&["hex", "a", "0x00000000000000001", "1"], "bad", NONE),
-    (&["hex", "a", "0XFF", "1"], "bad", NONE),
-    (&["hex", "a", "5 ", "1"], "bad", NONE),
-    (&["hex", "a", " 5", "1"], "bad", NONE),
-    (&["hex", "a", "", "1"], "bad", NONE),
-    (&["hex", "a", "1_0", "1"], "bad", NONE),
-    (&["hex", "a", "-5", "1"], "refused", NONE),
-];
+const SPANS: &str = "hex|a|00000000`7ffe0300|1 => hex [a] 2147353344 1 usual
+hex|a|0x7ff6`12345678|1 => hex [a] 140694844102264 1 usual
+hex|a|0`00000000|1 => hex [a] 0 1 usual
+hex|a|`7ffe0300|1 => bad
+hex|a|0000000`7ffe030|1 => bad
+hex|a|000000000`7ffe0300|1 => bad
+hex|a|0`0`7ffe0300|1 => bad
+hex|a|00000000000000000000001|1 => hex [a] 1 1 usual
+hex|a|0xfFfFfFfFfFfFfFfF|1 => hex [a] 18446744073709551615 1 usual
+hex|a|0xffffffffffffffff|2 => together
+hex|a|18446744073709551615|0 => hex [a] 18446744073709551615 0 usual
+hex|a|18446744073709551616|0 => bad
+hex|a|18446744073708503040|1048576 => hex [a] 18446744073708503040 1048576 usual
+hex|a|18446744073708503041|1048576 => together
+hex|a|0|1048576 => hex [a] 0 1048576 usual
+hex|a|0|1048577 => bad
+hex|a|0|0x10 => bad
+hex|a|0| => bad
+hex|a|+5|1 => bad
+hex|a|0x+1|1 => bad
+hex|a|0x|1 => bad
+hex|a|0x00000000000000001|1 => bad
+hex|a|0XFF|1 => bad
+hex|a|5 |1 => bad
+hex|a| 5|1 => bad
+hex|a||1 => bad
+hex|a|1_0|1 => bad
+hex|a|-5|1 => refused";
 
 /// Types of a copy, by their numbers and names.
-const TYPES: [AskedRow<'static>; 17] = [
-    (
-        &["copy", "a", "b", "threads", "exception", "7"],
-        "copy [a] [b] 3 6 7",
-        USUAL,
-    ),
-    (
-        &[
-            "copy",
-            "a",
-            "b",
-            "threads",
-            "modules",
-            "memory",
-            "exception",
-            "system",
-            "memory64",
-            "unloaded",
-            "regions",
-            "threadnames",
-        ],
-        "copy [a] [b] 3 4 5 6 7 9 14 16 24",
-        USUAL,
-    ),
-    (
-        &[
-            "copy",
-            "a",
-            "b",
-            "UnusedStream",
-            "ThreadListStream",
-            "ModuleListStream",
-            "MemoryListStream",
-            "ExceptionStream",
-            "SystemInfoStream",
-            "Memory64ListStream",
-            "CommentStreamA",
-            "CommentStreamW",
-            "UnloadedModuleListStream",
-            "MiscInfoStream",
-            "MemoryInfoListStream",
-            "ThreadNamesStream",
-        ],
-        "copy [a] [b] 0 3 4 5 6 7 9 10 11 14 15 16 24",
-        USUAL,
-    ),
-    (&["copy", "a", "b", "thread"], "bad", NONE),
-    (&["copy", "a", "b", "Threads"], "bad", NONE),
-    (&["copy", "a", "b", "threads "], "bad", NONE),
-    (&["copy", "a", "b", "3", "threads3"], "bad", NONE),
-    (
-        &["copy", "a", "b", "4294967295"],
-        "copy [a] [b] 4294967295",
-        USUAL,
-    ),
-    (&["copy", "a", "b", "4294967296"], "bad", NONE),
-    (&["copy", "a", "b", "0x3"], "bad", NONE),
-    (&["copy", "a", "b", "3", "+4"], "bad", NONE),
-    (&["copy", "a", "b", "3", ""], "bad", NONE),
-    (&["copy", "a", "b", "3", "3 "], "bad", NONE),
-    (&["copy", "a", "b", "-3"], "refused", NONE),
-    (&["copy", "a", "b"], "refused", NONE),
-    (
-        &[
-            "copy", "a", "b", "1", "2", "3", "4", "5", "6", "7", "8", "9", "10", "11", "12", "13",
-            "14", "15", "016",
-        ],
-        "copy [a] [b] 1 2 3 4 5 6 7 8 9 10 11 12 13 14 15 16",
-        USUAL,
-    ),
-    (
-        &[
-            "copy", "a", "b", "1", "2", "3", "4", "5", "6", "7", "8", "9", "10", "11", "12", "13",
-            "14", "15", "16", "17",
-        ],
-        "together",
-        NONE,
-    ),
-];
+const TYPES: &str = "copy|a|b|threads|exception|7 => copy [a] [b] 3 6 7 usual
+copy|a|b|threads|modules|memory|exception|system|memory64|unloaded|regions|threadnames => copy [a] [b] 3 4 5 6 7 9 14 16 24 usual
+copy|a|b|UnusedStream|ThreadListStream|ModuleListStream|MemoryListStream|ExceptionStream|SystemInfoStream|Memory64ListStream|CommentStreamA|CommentStreamW|UnloadedModuleListStream|MiscInfoStream|MemoryInfoListStream|ThreadNamesStream => copy [a] [b] 0 3 4 5 6 7 9 10 11 14 15 16 24 usual
+copy|a|b|thread => bad
+copy|a|b|Threads => bad
+copy|a|b|threads  => bad
+copy|a|b|3|threads3 => bad
+copy|a|b|4294967295 => copy [a] [b] 4294967295 usual
+copy|a|b|4294967296 => bad
+copy|a|b|0x3 => bad
+copy|a|b|3|+4 => bad
+copy|a|b|3| => bad
+copy|a|b|3|3  => bad
+copy|a|b|-3 => refused
+copy|a|b => refused
+copy|a|b|1|2|3|4|5|6|7|8|9|10|11|12|13|14|15|016 => copy [a] [b] 1 2 3 4 5 6 7 8 9 10 11 12 13 14 15 16 usual
+copy|a|b|1|2|3|4|5|6|7|8|9|10|11|12|13|14|15|16|17 => together";
 
 #[test]
 fn invocation_of_succeeds(rt: HostRuntime) {
-    assert_asked(&rt, rt.alloc(), &COMMANDS);
-    assert_asked(&rt, rt.alloc(), &SPANS);
-    assert_asked(&rt, rt.alloc(), &TYPES);
+    assert_asked(&rt, rt.alloc(), COMMANDS);
+    assert_asked(&rt, rt.alloc(), SPANS);
+    assert_asked(&rt, rt.alloc(), TYPES);
 }

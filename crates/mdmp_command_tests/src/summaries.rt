@@ -1,54 +1,27 @@
 //! `summary` of one file and of several: what its words ask for, and how it ends.
 use crate::commands::{CommandCall, GOOD, Outlet, TAKES_ALL, Trial, run, written};
 use crate::endings::{EndingRow, assert_each_ends};
-use crate::limit_requests::STRANGERS;
-use crate::requests::{AskedRow, NONE, USUAL, assert_asked};
+use crate::requests::assert_asked;
 use crate::same::assert_same_at;
 use std::alloc::{AllocGlobal, Global};
 use std::process::Abort;
 use std::rt::Files;
 
 /// Words of `summary`. The files keep their order, and may be named twice.
-const REQUESTS: [AskedRow<'static>; 10] = [
-    (&["summary", "a.dmp"], "summary [a.dmp]", USUAL),
-    (
-        &["summary", "b", "a", "b", " c "],
-        "summary [b] [a] [b] [ c ]",
-        USUAL,
-    ),
-    (
-        &["summary", "--json", "a", "b"],
-        "summary [a] [b] json",
-        USUAL,
-    ),
-    (
-        &["summary", "a", "--json", "b"],
-        "summary [a] [b] json",
-        USUAL,
-    ),
-    (
-        &["summary", "a", "--untrusted", "b"],
-        "summary [a] [b]",
-        STRANGERS,
-    ),
-    (
-        &["summary", "a", "--", "--json", "b"],
-        "summary [a] [--json] [b]",
-        USUAL,
-    ),
-    (
-        &["summary", "--window", "168", "a", "--memory=5", "b"],
-        "summary [a] [b]",
-        " within 168 4096 Some(18446744073709551615) Some(5) None",
-    ),
-    (&["summary"], "refused", NONE),
-    (&["summary", "--json"], "refused", NONE),
-    (&["summary", "a", "--json", "--json"], "refused", NONE),
-];
+const REQUESTS: &str = "summary|a.dmp => summary [a.dmp] usual
+summary|b|a|b| c  => summary [b] [a] [b] [ c ] usual
+summary|--json|a|b => summary [a] [b] json usual
+summary|a|--json|b => summary [a] [b] json usual
+summary|a|--untrusted|b => summary [a] [b] strangers
+summary|a|--|--json|b => summary [a] [--json] [b] usual
+summary|--window|168|a|--memory=5|b => summary [a] [b] within 168 4096 Some(18446744073709551615) Some(5) None
+summary => refused
+summary|--json => refused
+summary|a|--json|--json => refused";
 
 #[test]
 fn words_of_summary_succeed(rt: HostRuntime) {
-    assert_asked(&rt, rt.alloc(), &REQUESTS);
+    assert_asked(&rt, rt.alloc(), REQUESTS);
 }
 
 /// The summary of the file with a system.
