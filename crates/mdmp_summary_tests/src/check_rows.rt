@@ -7,16 +7,8 @@ use mdmp_summary::{CheckRow, CheckRowSink, PartKind, check_parts_into};
 use std::alloc::Global;
 use std::process::Abort;
 
-/// A row as plain values: an entry, its result or a part, and whether it loses parts.
-type RowSeen = (u32, RowTold, bool);
-
-/// What a row tells.
-#[derive(Clone, Copy, Debug, PartialEq, Eq)]
-enum RowTold {
-    Part(PartKind, u128, u64),
-    Good,
-    Bad,
-}
+/// A row as plain values: an entry, a part with its place and size or whether the entry is good, and whether it loses parts.
+type RowSeen = (u32, Result<bool, (PartKind, u128, u64)>, bool);
 
 /// Keeps rows, as many as it may.
 #[derive(Drop)]
@@ -27,15 +19,11 @@ struct Rows {
 
 fn plain(row: &CheckRow) -> RowSeen {
     match row {
-        CheckRow::Part(part) => (
-            part.entry,
-            RowTold::Part(part.part, part.offset, part.size),
-            true,
-        ),
-        CheckRow::Entry(of) => match of.verdict.fault {
-            Some(_) => (of.verdict.entry, RowTold::Bad, of.loses_parts),
-            None => (of.verdict.entry, RowTold::Good, of.loses_parts),
-        },
+        CheckRow::Part(part) => (part.entry, Err((part.part, part.offset, part.size)), true),
+        CheckRow::Entry(of) => {
+            let is_good = of.verdict.fault.is_none();
+            (of.verdict.entry, Ok(is_good), of.loses_parts)
+        }
     }
 }
 
@@ -92,24 +80,22 @@ fn assert_rows(
     assert_eq!(rt; &rows[..], expected, "{size}");
 }
 
-const CONTEXT: RowSeen = (2, RowTold::Part(PartKind::Context, 596, 272), true);
-
 const WHOLE: [RowSeen; 5] = [
-    (0, RowTold::Bad, false),
-    (1, RowTold::Good, false),
-    (2, RowTold::Good, false),
-    (3, RowTold::Good, false),
-    (4, RowTold::Good, false),
+    (0, Ok(false), false),
+    (1, Ok(true), false),
+    (2, Ok(true), false),
+    (3, Ok(true), false),
+    (4, Ok(true), false),
 ];
 
 /// The rows if the last byte is cut off, which is the last one of a context.
 const CUT: [RowSeen; 6] = [
-    (0, RowTold::Bad, false),
-    (1, RowTold::Good, false),
-    (2, RowTold::Part(PartKind::Context, 596, 272), true),
-    (2, RowTold::Good, true),
-    (3, RowTold::Good, false),
-    (4, RowTold::Good, false),
+    (0, Ok(false), false),
+    (1, Ok(true), false),
+    (2, Err((PartKind::Context, 596, 272)), true),
+    (2, Ok(true), true),
+    (3, Ok(true), false),
+    (4, Ok(true), false),
 ];
 
 #[test]

@@ -4,7 +4,7 @@ use std::alloc::Global;
 use std::process::Abort;
 
 /// What differs in the files of these tests.
-#[derive(Clone, Copy, Debug)]
+#[derive(Clone, Copy)]
 pub struct Made {
     pub platform: u32,
     pub architecture: u16,

@@ -33,7 +33,9 @@ fn told(crash: Option<Crash>) -> Option<ToldCrash> {
 fn assert_told(rt: &impl Abort, alloc: Global, made: Made, expected: Option<ToldCrash>) {
     let file = crash_file(rt, alloc, made);
     let summary = summary_in(rt, alloc, &file);
-    assert_same_at(rt, &made, told(summary.crash), expected);
+    let at = (made.platform, made.architecture, made.first_code, made.code);
+    let place = (made.module_base, made.module_size);
+    assert_same_at(rt, &(at, place), told(summary.crash), expected);
 }
 
 /// A crash like `LINUX` of this platform and architecture, and with these codes.
