@@ -7,23 +7,31 @@ use Rattle.mdmp_source.specs.declared.location.Extent.{Extent}
 use Rattle.mdmp_source.specs.declared.location.Extent.TheVariants.{Empty, Absent, Inside, Outside}
 use Rattle.mdmp_source.specs.declared.location.Location.{Location}
 use Rattle.mdmp_wire.specs.declared.system.SystemRecord.{SystemRecord}
+use Rattle.mdmp_source.specs.Store.{IsGood}
 use Rattle.mdmp_lister.proofs.Fetches.{FetchesAtMost-within}
+use Rattle.mdmp_lister.specs.declared.fault.ListFault.{ListFault}
 use Rattle.mdmp_lister.specs.declared.item.Item.{Item}
 use Rattle.mdmp_lister.specs.declared.meter.Amount.{Amount}
 use Rattle.mdmp_lister.specs.declared.meter.MeterCounts.{MeterCounts}
 use Rattle.mdmp_lister.specs.declared.position.Position.{Position}
 use Rattle.mdmp_lister.specs.declared.position.Position.TheVariants.{Begun, Sought, Within}
+use Rattle.mdmp_lister.specs.declared.sink.Stopped.{Stopped}
 use Rattle.mdmp_lister.specs.Listed.{cost_of, entry_cost}
 use Rattle.mdmp_lister.specs.Lister.{IsSameLister, ListerState}
-use Rattle.mdmp_lister.specs.Walker.{WalkerState, is_sought, seeks}
+use Rattle.mdmp_lister.specs.NamesFetched.{FetchesNames}
+use Rattle.mdmp_lister.specs.Walker.{WalkerState, is_failed, is_sought, seeks}
+use Rattle.mdmp_summary.specs.Passes.{MakesPass}
 use Rattle.mdmp_summary.specs.Spending.{CountsNames, IsBegunAfter, KeepsSettled, LookPaid, PassPaid, PaysLook, PaysPasses, ReadsContext, ReadsNoneSince, ReadsOutside, RisesByNames, SpendsPasses, ahead, ahead_after, all_listed, context_amount, context_cost, room_for_name, next_number, settled}
 use Rattle.mdmp_summary.specs.Summing.{SpendsCrash, SpendsSummary, SpendsToFault, contexts_for, passes_for}
-use Rattle.mdmp_summary.specs.Visiting.{IsAtMost, RisesOutside, nothing_read}
-use Rattle.mdmp_summary.specs.Walking.{IsSameListing}
+use Rattle.mdmp_summary.specs.Visiting.{IsAtMost, IsUnreadVisit, IsVisitFault, RisesOutside, Visits, nothing_read}
+use Rattle.mdmp_summary.specs.Walking.{IsSameListing, KeepsItsBudget}
 use Rattle.mdmp_summary.specs.declared.summary.Crash.{Crash}
 use Rattle.mdmp_summary.specs.declared.summary.FileSummary.{FileSummary}
 use Rattle.mdmp_summary.specs.declared.summary.SummaryFault.{SummaryFault}
 use Rattle.mdmp_summary.specs.declared.summary.SummaryFault.TheVariants as faults
+use Rattle.mdmp_summary.specs.declared.visiting.VisitEnd.{VisitEnd}
+use Rattle.mdmp_summary.specs.declared.visiting.VisitFault.{VisitFault}
+use Rattle.mdmp_summary.specs.declared.visiting.VisitFault.TheVariants as visit_faults
 use Rattle.mdmp_summary.proofs.Paying.{at_most_same, at_most_then, few_names, rises_then}
 
 -- ---- a pass so far
@@ -171,6 +179,32 @@ none_since items old new outside begun = record {
   bytes = let more = outside.bytes in let least = begun.bytes in omega (arith, more, least, none_of_all items);
   calls = let more = outside.calls in let least = begun.calls in omega (arith, more, least, none_of_all items);
 }
+
+module _ {K T B : Type 0} {taken : K → Item → Result (Unit {0}) Stopped → K → Type 0} {looked : Option (List ℕ) → ℕ → K → Result (Unit {0}) VisitEnd → K → Type 0} {k l : K} {old new : WalkerState} where
+  -- a visitor that reads nothing has made a pass, up to the end
+  pub pass_made : {told : T} {bad : B} → PaysPasses 1 old new → KeepsItsBudget old.list new.list → Visits taken looked (λ item. nothing_read) old.list k (Ok bad) new.list l → is_failed new.list.stop ≡ false → MakesPass old (Ok told) new
+  pass_made pays keeps visits going = record {
+    spends = spends_pass visits.items old new pays visits.outside;
+    keeps = keeps;
+    named = λ file known. subst (λ (xs : List Item). FetchesNames 1 xs old.list.counts.fetched new.list.counts.fetched) (sym (visits.all file known)) visits.named;
+    going = going;
+    fault = tt;
+    good = λ file good. tt;
+    none = tt;
+  }
+
+  -- or to an error
+  pub pass_failed : {fault : VisitFault} {f : ListFault} → PaysPasses 1 old new → KeepsItsBudget old.list new.list → Visits {K = K} {T = B} taken looked (λ item. nothing_read) old.list k (Err fault) new.list l → IsAtMost old.list.counts.aside new.mark.aside
+      → fault ≡ visit_faults.List f → IsVisitFault old.list new.list fault → ((file : List ℕ) → IsGood old.list.source.store file → IsUnreadVisit fault → ⊥) → MakesPass {T = T} old (Err f) new
+  pass_failed pays keeps visits begun is fault good = record {
+    spends = spends_pass visits.items old new pays visits.outside;
+    keeps = keeps;
+    named = λ file known. tt;
+    going = tt;
+    fault = subst (IsVisitFault old.list new.list) is fault;
+    good = λ file of. subst (λ (f : VisitFault). IsUnreadVisit f → ⊥) is (good file of);
+    none = none_since visits.items old new visits.outside begun;
+  }
 
 -- what keeps to fewer bytes outside the listing keeps to more
 outside_within : (less more : Amount) (old new : WalkerState) → IsAtMost less more → ReadsOutside less old new → ReadsOutside more old new

@@ -1,14 +1,9 @@
 //! The two passes of a summary.
-ghost use Rattle.std.specs.Prelude.{◌≡◌, ℕ, List, Some, false, IfErr, IfOk};
-ghost use Rattle.mdmp_source.specs.Store.{IsGood};
-ghost use Rattle.mdmp_lister.specs.Fault.{IsOfStore};
+ghost use Rattle.std.specs.Prelude.{◌≡◌, ℕ, List, Some, false, IfOk};
 ghost use Rattle.mdmp_lister.specs.Walker.{is_failed};
 ghost use Rattle.mdmp_lister.specs.declared.choice.Choice.TheVariants.{All};
 ghost use Rattle.mdmp_summary.specs.BadEntries.{all_items};
-ghost use Rattle.mdmp_summary.specs.Passes.{all_gathered, searched};
-ghost use Rattle.mdmp_summary.specs.Spending.{ReadsNoneSince, SpendsPasses};
-ghost use Rattle.mdmp_lister.specs.NamesFetched.{FetchesNames};
-ghost use Rattle.mdmp_summary.specs.Walking.{IsPassFault, KeepsItsBudget};
+ghost use Rattle.mdmp_summary.specs.Passes.{MakesPass, all_gathered, searched};
 
 use crate::bad_entries::BadEntries;
 use crate::gathering::Gathering;
@@ -55,14 +50,7 @@ pub(crate) fn gather_all<S: Store + Drop, A: Allocator + Copy>(
     requires going { is_failed walker.old.list.stop ≡ false }
     ensures gathers { (file : List ℕ) → walker.old.list.source.store.content ≡ Some file
         → IfOk result (λ told. told ≡ all_gathered file walker.old.list.limit) }
-    ensures going { IfOk result (λ told. is_failed walker.new.list.stop ≡ false) }
-    ensures fault { IfErr result (IsPassFault walker.old.list walker.new.list) }
-    ensures good { (file : List ℕ) → IsGood walker.old.list.source.store file → IfErr result (λ fault. IsOfStore fault.kind → ⊥) }
-    ensures spends { SpendsPasses 1 0 walker.old walker.new }
-    ensures none { IfErr result (λ fault. ReadsNoneSince walker.new) }
-    ensures keeps { KeepsItsBudget walker.old.list walker.new.list }
-    ensures named { (file : List ℕ) → walker.old.list.source.store.content ≡ Some file
-        → IfOk result (λ _. FetchesNames 1 (all_items file walker.old.list.limit) walker.old.list.counts.fetched walker.new.list.counts.fetched) }
+    ensures passes { MakesPass walker.old result walker.new }
 {
     let mut gathering = Gathering::new();
     let visited = visit_all(walker, &mut gathering);
@@ -86,14 +74,7 @@ pub(crate) fn search_all<S: Store + Drop, A: Allocator + Copy>(
     requires going { is_failed walker.old.list.stop ≡ false }
     ensures finds { (file : List ℕ) → walker.old.list.source.store.content ≡ Some file
         → IfOk result (λ search. search ≡ searched address thread (all_items file walker.old.list.limit)) }
-    ensures fault { IfErr result (IsPassFault walker.old.list walker.new.list) }
-    ensures good { (file : List ℕ) → IsGood walker.old.list.source.store file → IfErr result (λ fault. IsOfStore fault.kind → ⊥) }
-    ensures spends { SpendsPasses 1 0 walker.old walker.new }
-    ensures none { IfErr result (λ fault. ReadsNoneSince walker.new) }
-    ensures keeps { KeepsItsBudget walker.old.list walker.new.list }
-    ensures named { (file : List ℕ) → walker.old.list.source.store.content ≡ Some file
-        → IfOk result (λ _. FetchesNames 1 (all_items file walker.old.list.limit) walker.old.list.counts.fetched walker.new.list.counts.fetched) }
-    ensures going { IfOk result (λ search. is_failed walker.new.list.stop ≡ false) }
+    ensures passes { MakesPass walker.old result walker.new }
 {
     let mut search = CrashSearch::new(address, thread);
     let visited = visit_all(walker, &mut search);
