@@ -13,7 +13,8 @@ use Rattle.mdmp_engines.specs.declared.fault.ToolFault.TheVariants.{List as BadL
 use Rattle.mdmp_wire.specs.declared.header.Header.{Header}
 use Rattle.mdmp_lister.specs.declared.item.Item.{Item}
 use Rattle.mdmp_lister.specs.Requested.{IsRequested, OnlyReadsAside}
-use Rattle.mdmp_engines.specs.Engines.{HasRequested, Runs, RunsThrough, StopsShort, WritesText, up_to_a_fault}
+use Rattle.mdmp_engines.specs.Causes.{EndsByBudget, KeepsAside}
+use Rattle.mdmp_engines.specs.Engines.{HasRequested, IsSameRun, Runs, RunsThrough, StopsShort, WritesText, up_to_a_fault}
 use Rattle.mdmp_print.specs.Forms.{dump_line_in}
 use Rattle.mdmp_print.specs.declared.form.LineForm.{LineForm}
 use Rattle.mdmp_engines.specs.Symbols.{IsRecordAmong, IsRecordAt, symbols_bytes, symbols_read, symbols_taken, taken_bytes}
@@ -111,6 +112,16 @@ NamesNext left (Err fault) old new = new ≤ old + names_of_all (take 1 left.ite
 pub record ReadsLeft (pdb : Bool) (old new : ListerState) : Type 0 where
   pub none : pdb ≡ false → new.counts.aside.bytes ≤ old.counts.aside.bytes
   pub known : (left : Run) → old.left ≡ Some left → new.counts.aside.bytes ≤ old.counts.aside.bytes + symbols_bytes pdb old.limit left.items
+
+-- how the lines of all items that are left leave their lister: the same run, which kept to its limits, and no more names than its
+-- items have and one more
+pub record LeavesLines {T : Type 0} (pdb : Bool) (most : Option ℕ) (old : ListerState) (result : Result T ToolFault) (new : ListerState) : Type 0 where
+  pub same : IsSameRun old new
+  pub over : EndsByBudget old result new
+  pub aside : KeepsAside most result new
+  pub read : ReadsLeft pdb old new
+  pub requests : HasRequested old result new
+  pub names : (left : Run) → old.left ≡ Some left → new.counts.names ≤ old.counts.names + names_of_all left.items + 1
 
 -- a run of `list` over F, of which the text is printed while it is read: with `pdb` the CodeView records of modules are told
 abbrev pub Lists : LineForm → Bool → List ℕ → ℕ → OutState → Result (Unit {0}) ToolFault → OutState → Type 0

@@ -1,14 +1,13 @@
 //! The command `list`.
-ghost use Rattle.std.specs.Prelude.{◌≡◌, ◌≤◌, ◌+◌, ℕ, List, MatchOption, None, Some, Ok, false, true, IfErr, IfSome};
+ghost use Rattle.std.specs.Prelude.{◌≡◌, ◌+◌, ℕ, List, MatchOption, None, Some, Ok, false, true, IfErr, IfSome};
 ghost use Rattle.mdmp_source.specs.Range.{IsInside};
 ghost use Rattle.mdmp_lister.specs.Format.Listing.{Run};
 ghost use Rattle.mdmp_lister.specs.Memory.{is_within};
 ghost use Rattle.mdmp_lister.specs.Requested.{OnlyReadsAside};
-ghost use Rattle.mdmp_lister.specs.Sink.{names_of_all};
 ghost use Rattle.mdmp_engines.specs.Causes.{EndsByBudget, IsWithinBudget, KeepsAside, MayReachAside, MayReachBudget, MayReachMemory, symbols_cost};
 ghost use Rattle.mdmp_engines.specs.Dropping.{DropsStore};
-ghost use Rattle.mdmp_engines.specs.Engines.{HasRequested, IsSameRun, IsReadThrough, Leaves, ReadsSource, Tells, WhereToldToFault, directly, up_to_a_fault, list_access};
-ghost use Rattle.mdmp_engines.specs.Runs.{IsBehindNext, Lists, ListsFile, ListsNext, ListsRun, NamesNext, PutsSymbols, ReadsLeft, ReadsRequested, ReadsSymbols};
+ghost use Rattle.mdmp_engines.specs.Engines.{IsSameRun, IsReadThrough, Leaves, ReadsSource, Tells, WhereToldToFault, directly, up_to_a_fault, list_access};
+ghost use Rattle.mdmp_engines.specs.Runs.{IsBehindNext, LeavesLines, Lists, ListsFile, ListsNext, ListsRun, NamesNext, PutsSymbols, ReadsRequested, ReadsSymbols};
 ghost use Rattle.mdmp_engines.specs.Symbols.{symbols_of};
 ghost use Rattle.mdmp_engines.specs.Text.{symbols_text};
 
@@ -146,12 +145,7 @@ fn print_listing<S: Store + Drop, A: Allocator + Copy, O: Printer>(
     ensures lists { (file : List ℕ) → lister.old.source.store.content ≡ Some file → (left : Run) → lister.old.left ≡ Some left
         → ListsFile form pdb file lister.old.limit lister.old.header left (O.state out.old) result (O.state out.new) }
     ensures leaves { Leaves up_to_a_fault (O.state out.new ≡ O.state out.old) lister.old.source (O.state out.old) result lister.new.source (O.state out.new) }
-    ensures same { IsSameRun lister.old lister.new }
-    ensures over { EndsByBudget lister.old result lister.new }
-    ensures aside { KeepsAside aside result lister.new }
-    ensures read { ReadsLeft pdb lister.old lister.new }
-    ensures requests { HasRequested lister.old result lister.new }
-    ensures names { (left : Run) → lister.old.left ≡ Some left → lister.new.counts.names ≤ lister.old.counts.names + names_of_all left.items + 1 }
+    ensures lines { LeavesLines pdb aside lister.old result lister.new }
 {
     if let Err(OutFailed) = print_dump(form, &lister.header(), out) {
         return Err(ToolFault::Out);
@@ -172,12 +166,7 @@ fn list_items<S: Store + Drop, A: Allocator + Copy, O: Printer>(
     ensures lists { (file : List ℕ) → lister.old.source.store.content ≡ Some file → (left : Run) → lister.old.left ≡ Some left
         → ListsRun form pdb file lister.old.limit left (O.state out.old) result (O.state out.new) }
     ensures leaves { Leaves up_to_a_fault ⊥ lister.old.source (O.state out.old) result lister.new.source (O.state out.new) }
-    ensures same { IsSameRun lister.old lister.new }
-    ensures over { EndsByBudget lister.old result lister.new }
-    ensures aside { KeepsAside aside result lister.new }
-    ensures read { ReadsLeft pdb lister.old lister.new }
-    ensures requests { HasRequested lister.old result lister.new }
-    ensures names { (left : Run) → lister.old.left ≡ Some left → lister.new.counts.names ≤ lister.old.counts.names + names_of_all left.items + 1 }
+    ensures lines { LeavesLines pdb aside lister.old result lister.new }
 {
     while list_next(lister, form, pdb, aside, out)? {}
     Ok(())

@@ -81,41 +81,30 @@ returns-clause-leaves g c =
       out_cause = left.out_cause ∙ so_far.steady;
     }
 
-pub returns-in_err-list_next-clause-over : goal.returns-in_err-list_next-clause-over
-returns-in_err-list_next-clause-over g c =
+pub returns-in_err-list_next-clause-lines : goal.returns-in_err-list_next-clause-lines
+returns-in_err-list_next-clause-lines g c =
+    let so_far = c.loop.invariant in
+    let of = c.in_err-list_next.ensures in
     let f = c.in_err-list_next.field-0.0 in
     let is = refused_by c.from_residual.result f c.from_residual.ensures.1 in
-    rw is (budget_later Bool (Unit {0}) f c.args.lister.now c.loop.lister c.list_next.new.lister c.loop.invariant.stands c.in_err-list_next.ensures.over)
+    record {
+      same = run_then _ _ _ so_far.run of.same;
+      over = rw is (budget_later Bool (Unit {0}) f c.args.lister.now c.loop.lister c.list_next.new.lister so_far.stands of.over);
+      aside = rw is (aside_fault Bool (Unit {0}) c.args.aside f _ (of.aside so_far.aside));
+      read = HasRead-end c.args.pdb _ _ _ so_far.run.limit so_far.read of.read.beside;
+      requests = rw is (requested_behind so_far.requested.0 c.args.lister.now c.loop.lister c.list_next.new.lister (Err f) so_far.requested.1 (requested_same {T = Bool} _ _ f of.read.requests));
+      names = HasNamed-fault _ _ _ so_far.named of.names;
+    }
 
-pub returns-in_err-list_next-clause-aside : goal.returns-in_err-list_next-clause-aside
-returns-in_err-list_next-clause-aside g c =
-    let f = c.in_err-list_next.field-0.0 in
-    let is = refused_by c.from_residual.result f c.from_residual.ensures.1 in
-    rw is (aside_fault Bool (Unit {0}) c.args.aside f _ (c.in_err-list_next.ensures.aside c.loop.invariant.aside))
-
-pub returns-clause-aside : goal.returns-clause-aside
-returns-clause-aside g c = record { kept = (c.in_ok-list_next.ensures.aside c.loop.invariant.aside).kept; over = tt }
-
-pub returns-in_err-list_next-clause-read : goal.returns-in_err-list_next-clause-read
-returns-in_err-list_next-clause-read g c = HasRead-end c.args.pdb _ _ _ c.loop.invariant.run.limit c.loop.invariant.read c.in_err-list_next.ensures.read.beside
-
-pub returns-clause-read : goal.returns-clause-read
-returns-clause-read g c = HasRead-end c.args.pdb _ _ _ c.loop.invariant.run.limit c.loop.invariant.read c.in_ok-list_next.ensures.read.beside
-
-pub returns-in_err-list_next-clause-names : goal.returns-in_err-list_next-clause-names
-returns-in_err-list_next-clause-names g c = HasNamed-fault _ _ _ c.loop.invariant.named c.in_err-list_next.ensures.names
-
-pub returns-clause-names : goal.returns-clause-names
-returns-clause-names g c = HasNamed-end _ _ _ c.loop.invariant.named c.in_ok-list_next.ensures.names
-
-pub returns-clause-requests : goal.returns-clause-requests
-returns-clause-requests g c =
-    let so_far = c.loop.invariant.requested in
-    end_requested tt _ _ _ so_far.0 _ c.if-branch.false so_far.1 c.in_ok-list_next.ensures.read.requests
-
-pub returns-in_err-list_next-clause-requests : goal.returns-in_err-list_next-clause-requests
-returns-in_err-list_next-clause-requests g c =
-    let so_far = c.loop.invariant.requested in
-    let f = c.in_err-list_next.field-0.0 in
-    let is = refused_by c.from_residual.result f c.from_residual.ensures.1 in
-    rw is (requested_behind so_far.0 c.args.lister.now c.loop.lister c.list_next.new.lister (Err f) so_far.1 (requested_same {T = Bool} _ _ f c.in_err-list_next.ensures.read.requests))
+pub returns-clause-lines : goal.returns-clause-lines
+returns-clause-lines g c =
+    let so_far = c.loop.invariant in
+    let of = c.in_ok-list_next.ensures in
+    record {
+      same = run_then _ _ _ so_far.run of.same;
+      over = tt;
+      aside = record { kept = (of.aside so_far.aside).kept; over = tt };
+      read = HasRead-end c.args.pdb _ _ _ so_far.run.limit so_far.read of.read.beside;
+      requests = end_requested tt _ _ _ so_far.requested.0 _ c.if-branch.false so_far.requested.1 of.read.requests;
+      names = HasNamed-end _ _ _ so_far.named of.names;
+    }

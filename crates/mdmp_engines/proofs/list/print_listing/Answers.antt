@@ -8,6 +8,7 @@ use Rattle.mdmp_engines.specs.declared.fault.ToolFault.TheVariants.{Out}
 use Rattle.mdmp_engines.proofs.Asking.{requested_none}
 use Rattle.mdmp_engines.proofs.Besides.{ReadsLeft-none}
 use Rattle.mdmp_engines.proofs.Listings.{Leaves-behind, ListsFile-behind}
+use Rattle.mdmp_engines.proofs.SameRuns.{run_none}
 use Rattle.mdmp_engines.proofs.list.print_listing.Goals as goal
 
 pub returns-in-Err-clause-lists : goal.returns-in-Err-clause-lists
@@ -30,23 +31,15 @@ pub returns-clause-leaves : goal.returns-clause-leaves
 returns-clause-leaves g c =
     Leaves-behind _ _ (g.O.Printer.state c.args.out.now) (g.O.Printer.state c.print_dump.new.out) (g.O.Printer.state c.list_items.new.out) c.list_items.result _ c.in_default.ensures.steady c.list_items.ensures.leaves
 
-pub returns-clause-aside : goal.returns-clause-aside
-returns-clause-aside g c = c.list_items.ensures.aside
+pub returns-clause-lines : goal.returns-clause-lines
+returns-clause-lines g c = c.list_items.ensures.lines
 
-pub returns-clause-read : goal.returns-clause-read
-returns-clause-read g c = c.list_items.ensures.read
-
-pub returns-clause-names : goal.returns-clause-names
-returns-clause-names g c = c.list_items.ensures.names
-
-pub returns-in-Err-clause-names : goal.returns-in-Err-clause-names
-returns-in-Err-clause-names g c = λ left known. omega arith
-
-pub returns-in-Err-clause-read : goal.returns-in-Err-clause-read
-returns-in-Err-clause-read g c = ReadsLeft-none c.args.pdb _
-
-pub returns-in-Err-clause-requests : goal.returns-in-Err-clause-requests
-returns-in-Err-clause-requests g c = requested_none c.args.lister.now Out tt
-
-pub returns-clause-requests : goal.returns-clause-requests
-returns-clause-requests g c = c.list_items.ensures.requests
+pub returns-in-Err-clause-lines : goal.returns-in-Err-clause-lines
+returns-in-Err-clause-lines g c = record {
+  same = run_none _;
+  over = tt;
+  aside = record { kept = c.requires.kept; over = tt };
+  read = ReadsLeft-none c.args.pdb _;
+  requests = requested_none c.args.lister.now Out tt;
+  names = λ left known. omega arith;
+}

@@ -23,13 +23,23 @@ returns-clause-writes g c = λ file known.
     let lists = c.print_listing.ensures.lists file known run (opened.left file known) in
     (subst (λ (h : Header). ListsFile form pdb file limit h run before c.print_listing.result after) (opened.header_is file known) lists).writes
 
+pub returns-clause-same : goal.returns-clause-same
+returns-clause-same g c = c.print_listing.ensures.lines.same
+
+pub returns-clause-over : goal.returns-clause-over
+returns-clause-over g c = c.print_listing.ensures.lines.over
+
+pub returns-clause-aside : goal.returns-clause-aside
+returns-clause-aside g c = c.print_listing.ensures.lines.aside
+
 pub returns-clause-read : goal.returns-clause-read
 returns-clause-read g c =
-    let of = c.print_listing.ensures in
+    let of = c.print_listing.ensures.lines in
+    let content = c.print_listing.ensures.leaves.reads.fetches.fetches.same_content in
     record {
       keeps = record {
-        beside = KeepsBeside-list c.args.self.now.pdb _ _ c.requires.opened of.same of.leaves.reads.fetches.fetches.same_content of.read;
-        names = KeepsNames-list _ _ c.requires.opened of.same of.leaves.reads.fetches.fetches.same_content of.names;
+        beside = KeepsBeside-list c.args.self.now.pdb _ _ c.requires.opened of.same content of.read;
+        names = KeepsNames-list _ _ c.requires.opened of.same content of.names;
       };
       requests = of.requests;
     }
