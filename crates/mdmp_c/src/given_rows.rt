@@ -25,7 +25,8 @@ pub(crate) trait GivenRows: Copy {
     ghost use Rattle.mdmp_c.specs.GivenRows.{TakesRow};
     ghost use Rattle.mdmp_c.specs.Limits.{names_checked};
     ghost use Rattle.mdmp_c.specs.declared.fault.PlainFault.{PlainFault};
-    ghost use Rattle.mdmp_engines.specs.CheckRuns.{HandsChecked, TellsRun};
+    ghost use Rattle.mdmp_summary.specs.Checking.{TellsRun};
+    ghost use Rattle.mdmp_engines.specs.CheckRuns.{HandsChecked};
     ghost use Rattle.mdmp_engines.specs.Engines.{IsOpened};
     ghost use Rattle.mdmp_lister.specs.Lister.{IsSameLister};
     ghost use Rattle.mdmp_lister.specs.declared.choice.Choice.TheVariants.{All};

@@ -32,7 +32,8 @@ use Rattle.mdmp_summary.proofs.InEntries.{check_ends}
 use Rattle.mdmp_dump.specs.Reading.{IsLastTold}
 use Rattle.mdmp_engines.specs.declared.fault.ToolFault.{ToolFault}
 use Rattle.mdmp_engines.specs.declared.fault.ToolFault.TheVariants.{Source, Budget}
-use Rattle.mdmp_engines.specs.CheckRuns.{AreFirstChecked, HandsChecked, TakesLine, TellsRun}
+use Rattle.mdmp_summary.specs.Checking.{TellsRun}
+use Rattle.mdmp_engines.specs.CheckRuns.{AreFirstChecked, HandsChecked, TakesLine}
 use Rattle.mdmp_engines.specs.CheckText.{bad_count, fault_count, verdict_count}
 use Rattle.mdmp_engines.specs.Engines.{FetchesAllNames, StopsShort}
 use Rattle.mdmp_engines.specs.Telling.{told_by}

@@ -2,15 +2,11 @@
 use Rattle.std.specs.Prelude.{◌≡◌, ◌+◌, ◌++◌, ◌<◌, ◌≤◌, ◌^◌, ℕ, List, Result, Ok, Err, Some, sum_by}
 use Rattle.mdmp_source.specs.Output.{OutState, PutsAll, PutsPrefix}
 use Rattle.mdmp_source.specs.Source.{FetchesSome}
-use Rattle.mdmp_source.specs.Store.{IsGood}
 use Rattle.mdmp_lister.specs.declared.choice.Choice.TheVariants.{All}
-use Rattle.mdmp_lister.specs.declared.fault.ListFault.{ListFault}
 use Rattle.mdmp_lister.specs.declared.sink.RunFault.{RunFault}
-use Rattle.mdmp_lister.specs.declared.sink.RunFault.TheVariants as run
 use Rattle.mdmp_lister.specs.declared.sink.Stopped.{Stopped}
 use Rattle.mdmp_lister.specs.Format.Listing.{entry_count, verdicts}
-use Rattle.mdmp_lister.specs.Fault.{IsOfStore, IsToldIn, IsUnobtained}
-use Rattle.mdmp_lister.specs.Lister.{IsRefusedIn, ListerState}
+use Rattle.mdmp_lister.specs.Lister.{ListerState}
 use Rattle.mdmp_lister.specs.Sink.{Handed}
 use Rattle.mdmp_engines.specs.declared.fault.ToolFault.{ToolFault}
 use Rattle.mdmp_engines.specs.declared.fault.ToolFault.TheVariants.{Source, Budget, Out}
@@ -46,18 +42,6 @@ pub record HandsChecked {K R : Type 0} (k : K) (step : K → R → Result (Unit 
   pub few : (file : List ℕ) → sum_by count (all file old.limit) ≤ entry_count file
   pub fetches : FetchesSome old.source new.source
   pub named : FetchesAllNames old result new
-
--- the fault by which a run of rows ended: bytes were not obtained. It has its cause in this run
-pub record IsRunFault (old : ListerState) (fault : ListFault) (new : ListerState) : Type 0 where
-  pub unobtained : IsUnobtained fault.kind
-  pub told : IsToldIn new.current fault old.source new.source
-  pub good : (file : List ℕ) → IsGood old.source.store file → IsOfStore fault.kind → ⊥
-  pub refused : IsRefusedIn fault new
-
--- so it was, unless the sink stopped it
-abbrev pub TellsRun : ListerState → Result (Unit {0}) RunFault → ListerState → Type 0
-TellsRun old (Err (run.At fault)) new = IsRunFault old fault new
-TellsRun old result new = Unit {0}
 
 -- ---- a run
 

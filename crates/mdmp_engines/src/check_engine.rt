@@ -20,7 +20,8 @@ pub trait CheckedRows: Copy {
     ghost use Rattle.mdmp_lister.specs.declared.choice.Choice.TheVariants.{All};
     ghost use Rattle.mdmp_print.specs.declared.form.LineForm.{LineForm};
     ghost use Rattle.mdmp_summary.specs.InEntry.{EndsInEntry};
-    ghost use Rattle.mdmp_engines.specs.CheckRuns.{HandsChecked, TakesLine, TellsRun};
+    ghost use Rattle.mdmp_summary.specs.Checking.{TellsRun};
+    ghost use Rattle.mdmp_engines.specs.CheckRuns.{HandsChecked, TakesLine};
     ghost use Rattle.mdmp_engines.specs.Engines.{IsOpened, KeepsReads, at_most, past_faults};
 
     /// What is printed as a line.

@@ -1,5 +1,5 @@
 -- A check so far over a file that is known: its rows, and how many names were reached.
-use Rattle.std.proofs.Common.{◌≡◌, ◌≤◌, ◌+◌, ◌-◌, ◌∙◌, ℕ, List, [], ◌∷◌, ◌++◌, Option, Some, None, ap, sym, refl, append_assoc, append-nil, arith, length, length-append}
+use Rattle.std.proofs.Common.{◌≡◌, ◌≤◌, ◌+◌, ◌-◌, ◌∙◌, ℕ, Bool, List, [], ◌∷◌, ◌++◌, Err, Option, Some, None, ap, sym, refl, append_assoc, append-nil, arith, length, length-append}
 use Rattle.std.specs.Prelude.{Result, flat_map, sum_by}
 use Rattle.std.proofs.lemmas.List.Sums.{sum_by-append, sum_by-cons}
 use Rattle.mdmp_source.specs.Source.{FetchesAtMost}
@@ -12,7 +12,6 @@ use Rattle.mdmp_lister.specs.declared.sink.RunFault.TheVariants as run
 use Rattle.mdmp_lister.specs.declared.verdict.Verdict.{Verdict}
 use Rattle.mdmp_lister.specs.Check.{items_of, names_at, names_judged}
 use Rattle.mdmp_lister.specs.Costs.{end_cost}
-use Rattle.mdmp_lister.specs.Fault.{IsToldIn, IsUnobtained}
 use Rattle.mdmp_lister.specs.Format.Listing.{Run, chosen, entry_count, listing, listing_from, verdicts}
 use Rattle.mdmp_lister.specs.Format.Numbers.{faulty_name, names_of}
 use Rattle.mdmp_lister.specs.Lister.{ListerState}
@@ -21,11 +20,12 @@ use Rattle.mdmp_lister.proofs.Fetches.{FetchesAtMost-within, told_in_later}
 use Rattle.mdmp_lister.proofs.Spending.{items_cost-append}
 use Rattle.mdmp_summary.specs.BadEntries.{all_items, entry_fault, entry_faults}
 use Rattle.mdmp_summary.specs.CheckRows.{check_rows, run_rows}
-use Rattle.mdmp_summary.specs.Checking.{EndsEarly, EndsRun, MeetsBad, row_cost, rows_cost}
+use Rattle.mdmp_summary.specs.Checking.{EndsEarly, EndsRun, MeetsBad, TellsRun, row_cost, rows_cost}
 use Rattle.mdmp_summary.specs.declared.check_row.CheckRow.{CheckRow}
 use Rattle.mdmp_summary.proofs.Counting.{CountsOn, counts_begin, counts_more, faults_end, items_end}
 use Rattle.mdmp_summary.proofs.Entries.{all_left, faults_behind, goes_on_behind, items_behind}
 use Rattle.mdmp_summary.proofs.RowsBehind.{rows_behind, rows_from_first, rows_to_bad, rows_to_end}
+use Rattle.mdmp_summary.proofs.Told.{good_still}
 
 -- ---- names
 
@@ -196,9 +196,11 @@ fetches_on old now new result xs ys rs ss so_far within limit then =
     (fetches_then (old.unread + rows_cost old.source.size old.limit xs rs - now.unread) (now.unread + rows_cost now.source.size now.limit ys ss + end_cost now.limit result) old.source now.source new.source so_far then)
 
 -- the error that ends a run is one of all runs before it too
-pub told_later : (n : ℕ) (a b c : ListerState) (r : RunFault) → FetchesAtMost n a.source b.source
-    → ((f : ListFault) → r ≡ run.At f → IsUnobtained f.kind × IsToldIn c.current f b.source c.source)
-    → (f : ListFault) → r ≡ run.At f → IsUnobtained f.kind × IsToldIn c.current f a.source c.source
-told_later n a b c r before told = λ f is.
-    let of = told f is in
-    (of.0, told_in_later c.current f n a.source b.source c.source before of.1)
+pub told_later : (n : ℕ) (a b c : ListerState) (r : RunFault) → FetchesAtMost n a.source b.source → TellsRun {T = Bool} b (Err r) c → TellsRun {T = Unit {0}} a (Err r) c
+told_later n a b c run.Stopped before told = tt
+told_later n a b c (run.At f) before told = record {
+  unobtained = told.unobtained;
+  told = told_in_later c.current f n a.source b.source c.source before told.told;
+  good = λ file good. told.good file (good_still file n a.source b.source before good);
+  refused = told.refused;
+}

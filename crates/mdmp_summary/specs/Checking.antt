@@ -1,17 +1,20 @@
 -- A check of all entries and of the parts of their records.
 use Rattle.std.specs.Prelude.{◌≡◌, ◌≤◌, ◌+◌, ◌++◌, ℕ, List, Bool, true, false, Some, None, Result, Ok, Err, sum_by}
 use Rattle.mdmp_source.specs.Source.{FetchesAtMost}
+use Rattle.mdmp_source.specs.Store.{IsGood}
 use Rattle.mdmp_wire.specs.Header.{header_at}
 use Rattle.mdmp_lister.specs.declared.choice.Choice.TheVariants.{All}
 use Rattle.mdmp_lister.specs.declared.fault.ListFault.{ListFault}
 use Rattle.mdmp_lister.specs.declared.item.Item.{Item}
 use Rattle.mdmp_lister.specs.declared.sink.RunFault.{RunFault}
+use Rattle.mdmp_lister.specs.declared.sink.RunFault.TheVariants as run
 use Rattle.mdmp_lister.specs.declared.sink.Stopped.{Stopped}
-use Rattle.mdmp_lister.specs.Check.{fault_cost}
+use Rattle.mdmp_lister.specs.Check.{fault_cost, items_of, names_judged}
 use Rattle.mdmp_lister.specs.Costs.{end_cost, items_cost}
-use Rattle.mdmp_lister.specs.Format.Listing.{Run, listing}
+use Rattle.mdmp_lister.specs.Fault.{IsOfStore, IsToldIn, IsUnobtained}
+use Rattle.mdmp_lister.specs.Format.Listing.{Run, chosen, listing, verdicts}
 use Rattle.mdmp_lister.specs.Format.Numbers.{faulty_name}
-use Rattle.mdmp_lister.specs.Lister.{IsSameLister, ListerState, listing_behind}
+use Rattle.mdmp_lister.specs.Lister.{IsRefusedIn, IsSameLister, ListerState, listing_behind}
 use Rattle.mdmp_lister.specs.NamesFetched.{FetchesNames}
 use Rattle.mdmp_lister.specs.Sink.{Handed, names_of_all}
 use Rattle.mdmp_summary.specs.BadEntries.{all_items}
@@ -52,6 +55,25 @@ pub record RowsHanded {K : Type 0} (step : K → CheckRow → Result (Unit {0}) 
   pub named : FetchesNames 1 items old.counts.fetched new.counts.fetched
   -- of every source
   pub fetches : FetchesAtMost (old.unread + rows_cost old.source.size old.limit items rows + end_cost old.limit result) old.source new.source
+
+-- the fault by which a run of rows ended: bytes were not obtained. It has its cause in this run
+pub record IsRunFault (old : ListerState) (fault : ListFault) (new : ListerState) : Type 0 where
+  pub unobtained : IsUnobtained fault.kind
+  pub told : IsToldIn new.current fault old.source new.source
+  pub good : (file : List ℕ) → IsGood old.source.store file → IsOfStore fault.kind → ⊥
+  pub refused : IsRefusedIn fault new
+
+-- so it was, unless the sink stopped it
+abbrev pub TellsRun : {T : Type 0} → ListerState → Result T RunFault → ListerState → Type 0
+TellsRun old (Err (run.At fault)) new = IsRunFault old fault new
+TellsRun old result new = Unit {0}
+
+-- how a check leaves the lister: in the entry that was read last, with no more names than the check reached
+pub record LeavesChecked (old : ListerState) (result : Result (Unit {0}) RunFault) (new : ListerState) : Type 0 where
+  pub ends : EndsInEntry old result new
+  pub names : (file : List ℕ) → old.source.store.content ≡ Some file
+      → new.counts.names ≤ old.counts.names + names_judged (items_of file old.limit (chosen file All)) (verdicts file All old.limit) + 1
+  pub same : IsSameLister old new
 
 -- ---- a run, up to the end or the first error
 

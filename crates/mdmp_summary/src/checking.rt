@@ -1,14 +1,7 @@
 //! A check of all entries and of the parts of their records.
-ghost use Rattle.std.specs.Prelude.{◌≡◌, ◌≤◌, ◌+◌, ℕ, List, None, Some, false, IfErr, IfOk};
-ghost use Rattle.mdmp_source.specs.Store.{IsGood};
-ghost use Rattle.mdmp_lister.specs.Check.{items_of, names_judged};
+ghost use Rattle.std.specs.Prelude.{◌≡◌, None, false, IfOk};
 ghost use Rattle.mdmp_lister.specs.Counts.{AreSpent, numbers_of};
-ghost use Rattle.mdmp_lister.specs.Fault.{IsOfStore, IsToldIn, IsUnobtained};
-ghost use Rattle.mdmp_lister.specs.Format.Listing.{chosen, verdicts};
-ghost use Rattle.mdmp_lister.specs.Lister.{IsRefusedIn, IsSameLister};
-ghost use Rattle.mdmp_lister.specs.declared.choice.Choice.TheVariants.{All};
-ghost use Rattle.mdmp_summary.specs.Checking.{IsAllLeft, LeavesRun, RowsHanded, TellsRows};
-ghost use Rattle.mdmp_summary.specs.InEntry.{EndsInEntry};
+ghost use Rattle.mdmp_summary.specs.Checking.{IsAllLeft, LeavesChecked, LeavesRun, RowsHanded, TellsRows, TellsRun};
 
 use crate::check_row::CheckRowSink;
 use crate::row_maker::RowMaker;
@@ -30,15 +23,8 @@ pub fn check_parts_into<S: Store + Drop, A: Allocator + Copy, K: CheckRowSink>(
 ) -> Result<(), RunFault>
     requires { IsAllLeft lister.old }
     ensures rows { RowsHanded K.step lister.old sink.old result lister.new sink.new }
-    ensures told { IfErr result (λ r. (fault : _) → r ≡ RunFault.At fault
-        → IsUnobtained fault.kind × IsToldIn lister.new.current fault lister.old.source lister.new.source) }
-    ensures good { (file : List ℕ) → IsGood lister.old.source.store file
-        → IfErr result (λ r. (fault : _) → r ≡ RunFault.At fault → IsOfStore fault.kind → ⊥) }
-    ensures refused { IfErr result (λ r. (fault : _) → r ≡ RunFault.At fault → IsRefusedIn fault lister.new) }
-    ensures ends { EndsInEntry lister.old result lister.new }
-    ensures names { (file : List ℕ) → lister.old.source.store.content ≡ Some file
-        → lister.new.counts.names ≤ lister.old.counts.names + names_judged (items_of file lister.old.limit (chosen file All)) (verdicts file All lister.old.limit) + 1 }
-    ensures same { IsSameLister lister.old lister.new }
+    ensures told { TellsRun lister.old result lister.new }
+    ensures leaves { LeavesChecked lister.old result lister.new }
     ensures spent { AreSpent lister.new (numbers_of lister.new) }
 {
     let mut maker = RowMaker {
@@ -61,15 +47,8 @@ fn check_runs<S: Store + Drop, A: Allocator + Copy, K: CheckRowSink>(
     requires fresh { (maker.old.entry ≡ None) × (maker.old.loses_parts ≡ false) }
     ensures same_sink { maker.new.sink.ghost_name ≡ maker.old.sink.ghost_name }
     ensures rows { RowsHanded K.step lister.old maker.old.sink.now result lister.new maker.new.sink.now }
-    ensures told { IfErr result (λ r. (fault : _) → r ≡ RunFault.At fault
-        → IsUnobtained fault.kind × IsToldIn lister.new.current fault lister.old.source lister.new.source) }
-    ensures good { (file : List ℕ) → IsGood lister.old.source.store file
-        → IfErr result (λ r. (fault : _) → r ≡ RunFault.At fault → IsOfStore fault.kind → ⊥) }
-    ensures refused { IfErr result (λ r. (fault : _) → r ≡ RunFault.At fault → IsRefusedIn fault lister.new) }
-    ensures ends { EndsInEntry lister.old result lister.new }
-    ensures names { (file : List ℕ) → lister.old.source.store.content ≡ Some file
-        → lister.new.counts.names ≤ lister.old.counts.names + names_judged (items_of file lister.old.limit (chosen file All)) (verdicts file All lister.old.limit) + 1 }
-    ensures same { IsSameLister lister.old lister.new }
+    ensures told { TellsRun lister.old result lister.new }
+    ensures leaves { LeavesChecked lister.old result lister.new }
 {
     // Each run but the last ends at the error of an entry.
     let runs = u64::from(lister.header().number_of_streams) + 1;
@@ -94,11 +73,7 @@ fn check_run<S: Store + Drop, A: Allocator + Copy, K: CheckRowSink>(
     ensures same_sink { maker.new.sink.ghost_name ≡ maker.old.sink.ghost_name }
     ensures fresh { IfOk result (λ more. (maker.new.entry ≡ None) × (maker.new.loses_parts ≡ false)) }
     ensures rows { TellsRows K.step lister.old maker.old.sink.now result lister.new maker.new.sink.now }
-    ensures told { IfErr result (λ r. (fault : _) → r ≡ RunFault.At fault
-        → IsUnobtained fault.kind × IsToldIn lister.new.current fault lister.old.source lister.new.source) }
-    ensures good { (file : List ℕ) → IsGood lister.old.source.store file
-        → IfErr result (λ r. (fault : _) → r ≡ RunFault.At fault → IsOfStore fault.kind → ⊥) }
-    ensures refused { IfErr result (λ r. (fault : _) → r ≡ RunFault.At fault → IsRefusedIn fault lister.new) }
+    ensures told { TellsRun lister.old result lister.new }
     ensures leaves { LeavesRun lister.old result lister.new }
 {
     match lister.list_into(maker) {

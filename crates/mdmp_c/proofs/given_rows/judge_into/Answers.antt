@@ -6,7 +6,7 @@ use Rattle.mdmp_c.specs.Giving.{put_front, told_count}
 use Rattle.mdmp_c.specs.declared.given_rows.Judged.{Judged}
 use Rattle.mdmp_c.specs.GivenRows.{gives_all, gives_some}
 use Rattle.mdmp_c.specs.Limits.{names_checked}
-use Rattle.mdmp_engines.specs.CheckRuns.{IsRunFault}
+use Rattle.mdmp_summary.specs.Checking.{IsRunFault}
 use Rattle.mdmp_c.proofs.Ending.{names_within}
 use Rattle.mdmp_c.proofs.Gathered.{put_front-nothing}
 use Rattle.mdmp_c.proofs.Judging.{bad-all, name-taken, never_stopped, rows-taken}

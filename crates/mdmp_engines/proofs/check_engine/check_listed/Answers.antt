@@ -4,7 +4,8 @@ use Rattle.mdmp_wire.specs.declared.header.Header.{Header}
 use Rattle.mdmp_lister.specs.Format.Listing.{entry_count}
 use Rattle.mdmp_source.specs.Output.{PutsAll}
 use Rattle.mdmp_engines.specs.declared.fault.ToolFault.{ToolFault}
-use Rattle.mdmp_engines.specs.CheckRuns.{EndsCounted, IsRunFault}
+use Rattle.mdmp_summary.specs.Checking.{IsRunFault}
+use Rattle.mdmp_engines.specs.CheckRuns.{EndsCounted}
 use Rattle.mdmp_engines.specs.Engines.{Leaves, WritesText, past_faults}
 use Rattle.mdmp_engines.proofs.Checking.{PutsPrefix-first, StopsShort-first, count-taken, lines-stopped, lines-taken, name-stopped, name-taken, told-cause, told-source}
 use Rattle.mdmp_engines.proofs.SameRuns.{budget_listing, run_list, run_none, aside_listing}

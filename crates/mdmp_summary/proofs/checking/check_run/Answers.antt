@@ -1,8 +1,9 @@
-use Rattle.std.proofs.Common.{◌∙◌, Err, sym}
+use Rattle.std.proofs.Common.{◌∙◌, Err, refl, sym}
 use Rattle.mdmp_lister.specs.declared.sink.RunFault.TheVariants as run
 use Rattle.mdmp_summary.proofs.InEntries.{run_ends}
 use Rattle.mdmp_summary.proofs.RowsTaken.{rows_made, rows_stopped}
 use Rattle.mdmp_summary.proofs.RunTold.{run_bad, run_bad_cut, run_end_cut, run_ended, run_stopped, run_unread}
+use Rattle.mdmp_summary.proofs.Told.{unobtained}
 use Rattle.mdmp_summary.proofs.checking.check_run.Goals as goal
 
 -- ---- the same sink
@@ -85,7 +86,15 @@ returns-then-is_unobtained-clause-leaves g c =
       left = λ is. absurd (cc);
     }
 
--- ---- a store that never fails
+-- ---- the error that ends it
 
-pub returns-then-is_unobtained-clause-good : goal.returns-then-is_unobtained-clause-good
-returns-then-is_unobtained-clause-good g c = λ file good. rw c.in-Err-At.field-0-is at (c.in-Err-At.ensures.good file good)
+pub returns-then-is_unobtained-clause-told : goal.returns-then-is_unobtained-clause-told
+returns-then-is_unobtained-clause-told g c =
+    let f = c.in-Err-At.fault in
+    let of = c.in-Err-At.ensures in
+    record {
+      unobtained = unobtained f.kind (sym c.is_unobtained.ensures ∙ c.if-is_unobtained.true);
+      told = (of.told c.requires.going f c.in-Err-At.field-0-is).0;
+      good = λ file good. rw c.in-Err-At.field-0-is at (of.good file good) f refl;
+      refused = of.refused f c.in-Err-At.field-0-is;
+    }

@@ -8,7 +8,6 @@ use Rattle.mdmp_summary.specs.Checking.{rows_cost}
 use Rattle.mdmp_summary.proofs.CheckingOn.{checks_begin, checks_more, fetches_on, names_early, names_end, read_early, read_end, rows_early, rows_end, told_later}
 use Rattle.mdmp_summary.proofs.Counting.{skipped_left}
 use Rattle.mdmp_summary.proofs.RowsTaken.{handed_then, taken_then}
-use Rattle.mdmp_summary.proofs.Told.{good_still}
 use Rattle.mdmp_summary.proofs.checking.check_runs.Goals as goal
 
 pub entries-init : goal.entries-init
@@ -78,15 +77,16 @@ returns-in-Ok-false-clause-rows g c =
       fetches = fetches_on c.args.lister.now c.entries.lister c.check_run.new.lister (Ok tt) so_far.items told.items so_far.rows told.rows so_far.fetches so_far.unread so_far.same.limit told.fetches;
     }
 
-pub returns-in-Ok-false-clause-names : goal.returns-in-Ok-false-clause-names
-returns-in-Ok-false-clause-names g c = λ file known.
-    let so_far = c.entries.invariant in
-    let told = (rw c.in-Ok-false.field-0-test at c.in-Ok-false.ensures).rows in
-    let on = so_far.checks file known in
-    names_end file c.args.lister.now.limit c.args.lister.now c.entries.lister c.check_run.new.lister so_far.rows so_far.items c.entries.counter on told.items told.rows (told.gives _ on.counts.left)
-
-pub returns-in-Ok-false-clause-same : goal.returns-in-Ok-false-clause-same
-returns-in-Ok-false-clause-same g c = same_lister-then c.args.lister.now c.entries.lister c.check_run.new.lister c.entries.invariant.same c.in-Ok-false.ensures.leaves.same
+pub returns-in-Ok-false-clause-leaves : goal.returns-in-Ok-false-clause-leaves
+returns-in-Ok-false-clause-leaves g c = record {
+  ends = record { next = tt; chosen = λ _. tt; names = tt };
+  names = λ file known.
+      let so_far = c.entries.invariant in
+      let told = (rw c.in-Ok-false.field-0-test at c.in-Ok-false.ensures).rows in
+      let on = so_far.checks file known in
+      names_end file c.args.lister.now.limit c.args.lister.now c.entries.lister c.check_run.new.lister so_far.rows so_far.items c.entries.counter on told.items told.rows (told.gives _ on.counts.left);
+  same = same_lister-then c.args.lister.now c.entries.lister c.check_run.new.lister c.entries.invariant.same c.in-Ok-false.ensures.leaves.same;
+}
 
 -- ---- an early end
 
@@ -109,28 +109,22 @@ returns-in-Err-clause-rows g c =
           fetches_on c.args.lister.now c.entries.lister c.check_run.new.lister (Err c.in-Err.fault) so_far.items told.items so_far.rows told.rows so_far.fetches so_far.unread so_far.same.limit told.fetches;
     }
 
-pub returns-in-Err-clause-names : goal.returns-in-Err-clause-names
-returns-in-Err-clause-names g c = λ file known.
+pub returns-in-Err-clause-leaves : goal.returns-in-Err-clause-leaves
+returns-in-Err-clause-leaves g c =
     let so_far = c.entries.invariant in
+    let of = c.in-Err.ensures.leaves in
     let told = c.in-Err.ensures.rows in
-    let on = so_far.checks file known in
-    names_early file c.args.lister.now.limit c.args.lister.now c.entries.lister c.check_run.new.lister so_far.rows so_far.items c.entries.counter on told.items told.rows (told.gives _ on.counts.left)
-
-pub returns-in-Err-clause-same : goal.returns-in-Err-clause-same
-returns-in-Err-clause-same g c = same_lister-then c.args.lister.now c.entries.lister c.check_run.new.lister c.entries.invariant.same c.in-Err.ensures.leaves.same
-
-pub returns-in-Err-clause-ends : goal.returns-in-Err-clause-ends
-returns-in-Err-clause-ends g c =
-    let of = c.in-Err.ensures.leaves.ends in
-    record { next = of.next; chosen = λ in_chosen. of.chosen (c.entries.invariant.stands in_chosen); names = of.names }
+    record {
+      ends = record { next = of.ends.next; chosen = λ in_chosen. of.ends.chosen (so_far.stands in_chosen); names = of.ends.names };
+      names = λ file known.
+          let on = so_far.checks file known in
+          names_early file c.args.lister.now.limit c.args.lister.now c.entries.lister c.check_run.new.lister so_far.rows so_far.items c.entries.counter on told.items told.rows (told.gives _ on.counts.left);
+      same = same_lister-then c.args.lister.now c.entries.lister c.check_run.new.lister so_far.same of.same;
+    }
 
 pub returns-in-Err-clause-told : goal.returns-in-Err-clause-told
 returns-in-Err-clause-told g c =
     told_later _ c.args.lister.now c.entries.lister c.check_run.new.lister c.in-Err.fault c.entries.invariant.fetches c.in-Err.ensures.told
-
-pub returns-in-Err-clause-good : goal.returns-in-Err-clause-good
-returns-in-Err-clause-good g c = λ file good.
-    c.in-Err.ensures.good file (good_still file _ _ _ c.entries.invariant.fetches good)
 
 -- ---- after as many runs as there may be
 
@@ -153,8 +147,12 @@ returns-clause-rows g c =
           absurd (omega (arith, count, on.counts.few, on.counts.within, on.runs_are, c.from-runs.ensures, c.entries-test.false));
     }
 
-pub returns-clause-names : goal.returns-clause-names
-returns-clause-names g c = λ file known.
-    let on = c.entries.invariant.checks file known in
-    let count : c.header.result.number_of_streams ≡ entry_count file = ap (λ (h : Header). h.number_of_streams) (c.header.ensures ∙ c.requires.left.header_is file known) in
-    absurd (omega (arith, count, on.counts.few, on.counts.within, on.runs_are, c.from-runs.ensures, c.entries-test.false))
+pub returns-clause-leaves : goal.returns-clause-leaves
+returns-clause-leaves g c = record {
+  ends = record { next = tt; chosen = λ _. tt; names = tt };
+  names = λ file known.
+      let on = c.entries.invariant.checks file known in
+      let count : c.header.result.number_of_streams ≡ entry_count file = ap (λ (h : Header). h.number_of_streams) (c.header.ensures ∙ c.requires.left.header_is file known) in
+      absurd (omega (arith, count, on.counts.few, on.counts.within, on.runs_are, c.from-runs.ensures, c.entries-test.false));
+  same = c.entries.invariant.same;
+}
