@@ -11,7 +11,7 @@ from .interface import Interface
 NAMES = "crates/mdmp_wire/src/slot.rt"
 C, PRINT, ENGINES = "crates/mdmp_c", "crates/mdmp_print", "crates/mdmp_engines"
 LONGEST = 8  # letters of a word: `most` of PartWords
-Parts = list[tuple[str, str, int]]  # a variant of PartName and PartKind, its word, and its number
+Parts = list[tuple[str, str, int]]  # a variant of PartName, its word, and its number
 
 
 def parts_of(interface: Interface) -> Parts:
@@ -30,11 +30,8 @@ def put_numbers(files: Stretches, parts: Parts) -> None:
     files.put(f"{C}/src/tool_fault.rt", f"result ≡ part_number part }}{match}", "    }", arms)
     arms = "".join(f"        kinds::PART_{word.upper()} => Some(PartName::{name}),\n" for name, word, _ in parts)
     files.put(f"{C}/src/told_fault.rt", f"result ≡ part_by_number part }}{match}", "        _ =>", arms)
-    arms = "".join(f"        PartKind::{name} => {number},\n" for name, _, number in parts)
-    files.put(f"{C}/src/summary_rows.rt", f"result ≡ part_kind_number part }}{match}", "    }", arms)
-    for file, function, kind in (("ToolFault", "part_number", "PartName"), ("SummaryRows", "part_kind_number", "PartKind")):
-        lines = [f"{function} parts.{name} = {number}" for name, _, number in parts]
-        files.put(f"{C}/specs/{file}.antt", f"abbrev pub {function} : {kind} → ℕ\n", "\n\n", "\n".join(lines))
+    lines = [f"part_number parts.{name} = {number}" for name, _, number in parts]
+    files.put(f"{C}/specs/ToolFault.antt", "abbrev pub part_number : PartName → ℕ\n", "\n\n", "\n".join(lines))
     tests = "    else ".join(f"if part == {number} then Some parts.{name}\n" for name, _, number in parts)
     files.put(f"{C}/specs/FaultText.antt", "\npart_by_number part =\n    ", "    else None", tests)
     outside = "reading.PartOutside e k"
@@ -49,16 +46,12 @@ def put_numbers(files: Stretches, parts: Parts) -> None:
 
 def put_words(files: Stretches, parts: Parts) -> None:
     """The words of parts, in lines and errors."""
-    arms = "".join(f'            PartKind::{name} => b"{word}".write_at(buffer, at),\n' for name, word, _ in parts)
+    arms = "".join(f'            PartName::{name} => b"{word}".write_at(buffer, at),\n' for name, word, _ in parts)
     files.put(f"{PRINT}/src/part_outside.rt", "buffer: &mut [u8], at: usize) -> usize {\n        match self.0 {\n", "        }", arms)
     lines = [f'part_words parts.{name} = codes "{word}"' for name, word, _ in parts]
-    files.put(f"{PRINT}/specs/PartLines.antt", "abbrev pub part_words : PartKind → List ℕ\n", "\n\n", "\n".join(lines))
+    files.put(f"{PRINT}/specs/PartLines.antt", "abbrev pub part_words : PartName → List ℕ\n", "\n\n", "\n".join(lines))
     lines = [f"escape-part parts.{name} = refl" for name, _, _ in parts]
     files.put(f"{PRINT}/specs/PartLaws.antt", "≡ part_words part\nunfolding escape_byte\n", "", "\n".join([*lines, ""]))
-    arms = "".join(f"        PartName::{name} => PartKind::{name},\n" for name, _, _ in parts)
-    files.put(f"{ENGINES}/src/fault_words.rt", "result ≡ part_kind part }\n{\n    match part {\n", "    }", arms)
-    lines = [f"part_kind parts.{name} = kinds.{name}" for name, _, _ in parts]
-    files.put(f"{ENGINES}/specs/Faults.antt", "abbrev pub part_kind : PartName → PartKind\n", "\n\n", "\n".join(lines))
     lines = [f"part-plain kinds.{name} = refl" for name, _, _ in parts]
     files.put(f"{ENGINES}/proofs/JsonParts.antt", "are_plain (part_words part) ≡ true\n", "\n\n", "\n".join(lines))
 

@@ -3,8 +3,6 @@ use Rattle.std.specs.Prelude.{ℕ, ◌/◌, ◌%◌, ◌^◌, Bool, List, Option
 use Rattle.mdmp_wire.specs.declared.thread_name.ThreadNameRecord.{ThreadNameRecord}
 use Rattle.mdmp_summary.specs.declared.context.Registers.{Registers}
 use Rattle.mdmp_summary.specs.declared.gathering.ItemCounts.{ItemCounts}
-use Rattle.mdmp_summary.specs.declared.part.PartKind.{PartKind}
-use Rattle.mdmp_summary.specs.declared.part.PartKind.TheVariants as parts
 use Rattle.mdmp_summary.specs.declared.part.PartOutside.{PartOutside}
 use Rattle.mdmp_summary.specs.declared.reach.AccessKind.{AccessKind}
 use Rattle.mdmp_summary.specs.declared.reach.AccessKind.TheVariants as accesses
@@ -23,6 +21,7 @@ use Rattle.mdmp_c.specs.Fault.{list_told, no_fault, of_kind}
 use Rattle.mdmp_c.specs.Giving.{told_count}
 use Rattle.mdmp_c.specs.Rows.{exception_fields}
 use Rattle.mdmp_c.specs.SummaryModules.{place_in_module_row, name_place_at, no_name, no_place, program_row, summary_system_row}
+use Rattle.mdmp_c.specs.ToolFault.{part_number}
 
 abbrev pub flag_of : Bool → ℕ
 flag_of holds = if holds then 1 else 0
@@ -40,13 +39,6 @@ counts_row counts = record {
   memory_high = counts.memory / 2 ^ 64;
 }
 
-abbrev pub part_kind_number : PartKind → ℕ
-part_kind_number parts.Stack = 1
-part_kind_number parts.Context = 2
-part_kind_number parts.CodeView = 3
-part_kind_number parts.Misc = 4
-part_kind_number parts.Memory = 5
-
 -- a part outside the file as a fault
 abbrev pub outside_fault : PartOutside → PlainFault
 outside_fault part = record (of_kind 32) {
@@ -55,7 +47,7 @@ outside_fault part = record (of_kind 32) {
   offset = part.offset % 2 ^ 64;
   size = part.size;
   high = part.offset / 2 ^ 64;
-  part = part_kind_number part.part;
+  part = part_number part.part;
   has_index = 1;
 }
 

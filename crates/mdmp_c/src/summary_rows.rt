@@ -1,7 +1,7 @@
 //! A summary as a plain structure.
 ghost use Rattle.std.specs.Prelude.{◌≡◌};
 ghost use Rattle.mdmp_c.specs.Giving.{told_count};
-ghost use Rattle.mdmp_c.specs.SummaryRows.{access_told, address_reached, counts_row, crash_found, crash_row, flag_of, outside_fault, part_kind_number, first_outside_fault, registers_row, summary_row, thread_name_place};
+ghost use Rattle.mdmp_c.specs.SummaryRows.{access_told, address_reached, counts_row, crash_found, crash_row, flag_of, outside_fault, first_outside_fault, registers_row, summary_row, thread_name_place};
 
 use crate::fault::{NO_FAULT, PlainFault, of_kind};
 use crate::header_rows::{HeaderRow, header_row};
@@ -13,9 +13,8 @@ use crate::summary_modules::{
     place_in_module_row, program_row, summary_system_row,
 };
 use crate::table::list_end;
-use mdmp_summary::{
-    AccessKind, Crash, FileSummary, ItemCounts, PartKind, PartOutside, Reached, Registers,
-};
+use crate::tool_fault::part_number;
+use mdmp_summary::{AccessKind, Crash, FileSummary, ItemCounts, PartOutside, Reached, Registers};
 use mdmp_wire::ThreadNameRecord;
 use std::mem::size_of;
 
@@ -204,19 +203,6 @@ fn address_reached(reached: Option<Reached>) -> u64
     }
 }
 
-/// The number of a kind of part.
-fn part_kind_number(part: PartKind) -> u32
-    ensures { result ≡ part_kind_number part }
-{
-    match part {
-        PartKind::Stack => 1,
-        PartKind::Context => 2,
-        PartKind::CodeView => 3,
-        PartKind::Misc => 4,
-        PartKind::Memory => 5,
-    }
-}
-
 /// A part outside the file as a plain fault.
 pub(crate) fn outside_fault(part: PartOutside) -> PlainFault
     ensures { result ≡ outside_fault part }
@@ -227,7 +213,7 @@ pub(crate) fn outside_fault(part: PartOutside) -> PlainFault
         offset: (part.offset % (1 << 64)) as u64,
         size: part.size,
         high: (part.offset / (1 << 64)) as u64,
-        part: part_kind_number(part.part),
+        part: part_number(part.part),
         has_index: 1,
         ..of_kind(kinds::PART_OUTSIDE)
     }

@@ -11,7 +11,7 @@ use mdmp_engines::ToolFault;
 use mdmp_writer::LayoutFault;
 
 /// The number of a part.
-fn part_of(part: PartName) -> u32
+pub(crate) fn part_number(part: PartName) -> u32
     ensures { result ≡ part_number part }
 {
     match part {
@@ -43,7 +43,7 @@ pub(crate) fn read_fault(fault: ReadFault) -> PlainFault
             offset: (offset % (1 << 64)) as u64,
             size,
             high: (offset / (1 << 64)) as u64,
-            part: part_of(part),
+            part: part_number(part),
             has_index: 1,
             reserved: [0; 4],
         },

@@ -10,8 +10,8 @@ use Rattle.mdmp_summary.specs.CheckRows.{are_some, check_rows, entry_parts, entr
 use Rattle.mdmp_summary.specs.Part.{parts_outside}
 use Rattle.mdmp_summary.specs.declared.check_row.CheckRow.{CheckRow}
 use Rattle.mdmp_summary.specs.declared.check_row.CheckRow.TheVariants.{Part, Entry}
-use Rattle.mdmp_summary.specs.declared.part.PartKind.{PartKind}
-use Rattle.mdmp_summary.specs.declared.part.PartKind.TheVariants as kinds
+use Rattle.mdmp_wire.specs.declared.slot.PartName.{PartName}
+use Rattle.mdmp_wire.specs.declared.slot.PartName.TheVariants as kinds
 use Rattle.mdmp_summary.specs.declared.part.PartOutside.{PartOutside}
 use Rattle.mdmp_print.specs.Json.{object_line}
 use Rattle.mdmp_print.specs.JsonLines.{verdict_object}
@@ -24,7 +24,7 @@ use Rattle.mdmp_engines.proofs.JsonObjects.{verdict-line}
 use Rattle.mdmp_engines.proofs.JsonPlain.{are_plain}
 use Rattle.mdmp_engines.proofs.JsonReads.{◌&◌, is_line, number, wide, words}
 
-part-plain : (part : PartKind) → are_plain (part_words part) ≡ true
+part-plain : (part : PartName) → are_plain (part_words part) ≡ true
 part-plain kinds.Stack = refl
 part-plain kinds.Context = refl
 part-plain kinds.CodeView = refl

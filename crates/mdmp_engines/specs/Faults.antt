@@ -2,12 +2,8 @@
 use Rattle.std.specs.Prelude.{ℕ, List, [], ◌∷◌, codes}
 use Rattle.std.specs.List.{concat}
 use Rattle.std.specs.Fmt.{decimal}
-use Rattle.mdmp_wire.specs.declared.slot.PartName.{PartName}
-use Rattle.mdmp_wire.specs.declared.slot.PartName.TheVariants as parts
 use Rattle.mdmp_dump.specs.declared.fault.ReadFault.{ReadFault}
 use Rattle.mdmp_dump.specs.declared.fault.ReadFault.TheVariants as reading
-use Rattle.mdmp_summary.specs.declared.part.PartKind.{PartKind}
-use Rattle.mdmp_summary.specs.declared.part.PartKind.TheVariants as kinds
 use Rattle.mdmp_print.specs.FaultWords.{budget_text, list_fault_text, memory_limit_text, memory_text, opening_text, source_text}
 use Rattle.mdmp_print.specs.PartLines.{part_text}
 use Rattle.mdmp_engines.specs.declared.fault.ToolFault.{ToolFault}
@@ -51,14 +47,6 @@ abbrev pub layout_text : LayoutFault → List ℕ
 layout_text (layout.RawKnownType stream) = concat (codes "stream " ∷ decimal stream ∷ codes " holds raw bytes of a known type" ∷ [])
 layout_text (layout.TooLarge) = codes "the copy is too large"
 
--- a part, as a check of parts names it
-abbrev pub part_kind : PartName → PartKind
-part_kind parts.Stack = kinds.Stack
-part_kind parts.Context = kinds.Context
-part_kind parts.CodeView = kinds.CodeView
-part_kind parts.Misc = kinds.Misc
-part_kind parts.Memory = kinds.Memory
-
 -- `entry <e> item <k>: name too long: <n>`
 abbrev pub long_name_text : ℕ → ℕ → ℕ → List ℕ
 long_name_text e k length = concat (codes "entry " ∷ decimal e ∷ codes " item " ∷ decimal k ∷ codes ": name too long: " ∷ decimal length ∷ [])
@@ -66,7 +54,7 @@ long_name_text e k length = concat (codes "entry " ∷ decimal e ∷ codes " ite
 abbrev pub reading_text : ReadFault → List ℕ
 reading_text (reading.Opening fault) = opening_text fault
 reading_text (reading.List fault) = list_fault_text fault
-reading_text (reading.PartOutside e k part offset size) = part_text (record { entry = e; index = k; part = part_kind part; offset = offset; size = size })
+reading_text (reading.PartOutside e k part offset size) = part_text (record { entry = e; index = k; part = part; offset = offset; size = size })
 reading_text (reading.NameTooLong e k length) = long_name_text e k length
 reading_text (reading.PartsTooLarge e k) = layout_text layout.TooLarge
 reading_text reading.Memory = memory_text

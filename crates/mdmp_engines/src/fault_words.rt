@@ -1,13 +1,13 @@
 //! What is said of a fault, as a piece of a line and as a text that is shown.
 ghost use Rattle.std.specs.Prelude.{◌≡◌, ◌++◌, refl};
-ghost use Rattle.mdmp_engines.specs.Faults.{layout_text, own_text, part_kind, reading_text};
+ghost use Rattle.mdmp_engines.specs.Faults.{layout_text, own_text, reading_text};
 
 use crate::fault::{ToolFault, fault_as_told};
-use mdmp_dump::{PartName, ReadFault};
+use mdmp_dump::ReadFault;
 use mdmp_print::{
     BudgetWords, LINE_ROOM, ListWords, OpenWords, OutsideWords, Piece, SourceWords, row,
 };
-use mdmp_summary::{PartKind, PartOutside};
+use mdmp_summary::PartOutside;
 use mdmp_writer::LayoutFault;
 use std::fmt::{self, Display, Formatter, Write};
 
@@ -76,7 +76,7 @@ impl Piece for ReadWords {
             } => OutsideWords(PartOutside {
                 entry,
                 index,
-                part: part_kind(part),
+                part,
                 offset,
                 size,
             })
@@ -100,19 +100,6 @@ impl Piece for ReadWords {
             ReadFault::Memory => b"out of memory".write_at(buffer, at),
             ReadFault::Source(fault) => SourceWords(fault).write_at(buffer, at),
         }
-    }
-}
-
-/// A part, as a check of parts names it.
-fn part_kind(part: PartName) -> PartKind
-    ensures { result ≡ part_kind part }
-{
-    match part {
-        PartName::Stack => PartKind::Stack,
-        PartName::Context => PartKind::Context,
-        PartName::CodeView => PartKind::CodeView,
-        PartName::Misc => PartKind::Misc,
-        PartName::Memory => PartKind::Memory,
     }
 }
 

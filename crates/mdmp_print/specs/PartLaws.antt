@@ -2,10 +2,10 @@
 use Rattle.std.proofs.Common.{◌≡◌, refl}
 use Rattle.json.specs.Print.{escape, escape_byte}
 use Rattle.mdmp_print.specs.PartLines.{part_words}
-use Rattle.mdmp_summary.specs.declared.part.PartKind.{PartKind}
-use Rattle.mdmp_summary.specs.declared.part.PartKind.TheVariants as parts
+use Rattle.mdmp_wire.specs.declared.slot.PartName.{PartName}
+use Rattle.mdmp_wire.specs.declared.slot.PartName.TheVariants as parts
 
-pub escape-part : (part : PartKind) → escape (part_words part) ≡ part_words part
+pub escape-part : (part : PartName) → escape (part_words part) ≡ part_words part
 unfolding escape_byte
 escape-part parts.Stack = refl
 escape-part parts.Context = refl

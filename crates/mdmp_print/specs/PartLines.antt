@@ -10,12 +10,12 @@ use Rattle.mdmp_print.specs.declared.form.LineForm.{LineForm}
 use Rattle.mdmp_print.specs.declared.form.LineForm.TheVariants.{Text, Json}
 use Rattle.mdmp_summary.specs.declared.check_row.CheckRow.{CheckRow}
 use Rattle.mdmp_summary.specs.declared.check_row.CheckRow.TheVariants.{Part, Entry}
-use Rattle.mdmp_summary.specs.declared.part.PartKind.{PartKind}
-use Rattle.mdmp_summary.specs.declared.part.PartKind.TheVariants as parts
+use Rattle.mdmp_wire.specs.declared.slot.PartName.{PartName}
+use Rattle.mdmp_wire.specs.declared.slot.PartName.TheVariants as parts
 use Rattle.mdmp_summary.specs.declared.part.PartOutside.{PartOutside}
 
 -- what a part is called
-abbrev pub part_words : PartKind → List ℕ
+abbrev pub part_words : PartName → List ℕ
 part_words parts.Stack = codes "stack"
 part_words parts.Context = codes "context"
 part_words parts.CodeView = codes "codeview"

@@ -13,11 +13,12 @@ use crate::values::{InQuotes, JsonMember, PlainPiece};
 use crate::verdict::print_verdict;
 use crate::{members, row};
 use mdmp_source::OutFailed;
-use mdmp_summary::{CheckRow, PartKind, PartOutside};
+use mdmp_summary::{CheckRow, PartOutside};
+use mdmp_wire::PartName;
 
 /// What a part is called.
 #[derive(Clone, Copy)]
-pub struct PartWords(pub PartKind);
+pub struct PartWords(pub PartName);
 
 impl Piece for PartWords {
     ghost text = { λ p. part_words p.0 };
@@ -30,11 +31,11 @@ impl Piece for PartWords {
 
     fn write_at(&self, buffer: &mut [u8], at: usize) -> usize {
         match self.0 {
-            PartKind::Stack => b"stack".write_at(buffer, at),
-            PartKind::Context => b"context".write_at(buffer, at),
-            PartKind::CodeView => b"codeview".write_at(buffer, at),
-            PartKind::Misc => b"misc".write_at(buffer, at),
-            PartKind::Memory => b"memory".write_at(buffer, at),
+            PartName::Stack => b"stack".write_at(buffer, at),
+            PartName::Context => b"context".write_at(buffer, at),
+            PartName::CodeView => b"codeview".write_at(buffer, at),
+            PartName::Misc => b"misc".write_at(buffer, at),
+            PartName::Memory => b"memory".write_at(buffer, at),
         }
     }
 }

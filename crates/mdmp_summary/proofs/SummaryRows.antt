@@ -11,7 +11,7 @@ use Rattle.mdmp_lister.specs.Format.Listing.{entries_from, only_chosen}
 use Rattle.mdmp_lister.proofs.Files.{crash_file, entry, head, location, misc_file, three_ranges_file}
 use Rattle.mdmp_lister.proofs.RowWords.{fault_of}
 use Rattle.mdmp_summary.specs.Summary.{file_summary}
-use Rattle.mdmp_summary.specs.declared.part.PartKind.TheVariants.{Context, Misc, Memory}
+use Rattle.mdmp_wire.specs.declared.slot.PartName.TheVariants.{Context, Misc, Memory}
 use Rattle.mdmp_summary.specs.declared.summary.Crash.{Crash}
 use Rattle.mdmp_summary.specs.declared.summary.PlaceInModule.{PlaceInModule}
 

@@ -10,7 +10,7 @@ use Rattle.mdmp_lister.specs.Format.Listing.{entries_from, only_chosen}
 use Rattle.mdmp_lister.proofs.Files.{crash_file, entry, faulty_file, head, location}
 use Rattle.mdmp_lister.proofs.RowWords.{fault_of}
 use Rattle.mdmp_summary.specs.Summary.{file_summary}
-use Rattle.mdmp_summary.specs.declared.part.PartKind.TheVariants.{Context, Memory}
+use Rattle.mdmp_wire.specs.declared.slot.PartName.TheVariants.{Context, Memory}
 use Rattle.mdmp_summary.specs.declared.summary.Crash.{Crash}
 
 whole : (file_summary crash_file 0).bad ≡ record { count = 0; first = None }

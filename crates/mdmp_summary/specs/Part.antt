@@ -7,13 +7,13 @@ use Rattle.mdmp_lister.specs.declared.item.Item.{Item}
 use Rattle.mdmp_lister.specs.declared.item.Item.TheVariants as items
 use Rattle.mdmp_summary.specs.Keeping.{counted_on, kept}
 use Rattle.mdmp_summary.specs.declared.lost_parts.LostParts.{LostParts}
-use Rattle.mdmp_summary.specs.declared.part.PartKind.{PartKind}
-use Rattle.mdmp_summary.specs.declared.part.PartKind.TheVariants.{Stack, Context, CodeView, Misc, Memory}
+use Rattle.mdmp_wire.specs.declared.slot.PartName.{PartName}
+use Rattle.mdmp_wire.specs.declared.slot.PartName.TheVariants.{Stack, Context, CodeView, Misc, Memory}
 use Rattle.mdmp_summary.specs.declared.part.PartOutside.{PartOutside}
 use Rattle.mdmp_summary.specs.declared.part.PartsOutside.{PartsOutside}
 
 -- the part at a location, of record k of entry e
-abbrev pub located : ℕ → ℕ → PartKind → Location → PartOutside
+abbrev pub located : ℕ → ℕ → PartName → Location → PartOutside
 located e k part at = record { entry = e; index = k; part = part; offset = at.rva; size = at.size }
 
 -- the part, if it lies outside the file

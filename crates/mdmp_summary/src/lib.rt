@@ -49,7 +49,7 @@ pub use crate::crash::Platform;
 pub use crate::gathering::ItemCounts;
 pub use crate::identity::{BuildId, CodeId, DebugIdentifier, Pdb20};
 pub use crate::lost_parts::LostParts;
-pub use crate::part::{PartKind, PartOutside, PartsOutside};
+pub use crate::part::{PartOutside, PartsOutside};
 pub use crate::reach::{AccessKind, Reached};
 pub use crate::summary::{Crash, FileSummary, PlaceInModule, SummaryFault};
 pub use crate::summing::{summarize, summarize_listing};

@@ -3,9 +3,10 @@ ghost use Rattle.std.specs.Prelude.{◌≡◌};
 ghost use Rattle.mdmp_lister.specs.declared.item.Item.TheVariants.{Exception, Module, Range, Thread};
 ghost use Rattle.mdmp_summary.specs.Part.{if_outside, part_told, parts_outside, parts_told};
 
-use crate::part::{PartKind, PartOutside};
+use crate::part::PartOutside;
 use mdmp_lister::{ExceptionItem, Item, ModuleItem, RangeItem, ThreadItem};
 use mdmp_source::Extent;
+use mdmp_wire::PartName;
 
 /// The parts of a record that lie outside the file, in the order of its fields.
 #[derive(Clone, Copy, Debug, PartialEq, Eq)]
@@ -32,11 +33,11 @@ impl LostParts {
         ensures { parts_told result ≡ parts_outside (Thread x.now) }
     {
         let (entry, index) = (x.entry, x.index);
-        let stack = PartOutside::located(entry, index, PartKind::Stack, x.fields.stack.memory);
+        let stack = PartOutside::located(entry, index, PartName::Stack, x.fields.stack.memory);
         let context = PartOutside::located(
             entry,
             index,
-            PartKind::Context,
+            PartName::Context,
             x.fields.thread_context,
         );
         LostParts {
@@ -49,8 +50,8 @@ impl LostParts {
         ensures { parts_told result ≡ parts_outside (Module x.now) }
     {
         let (entry, index) = (x.entry, x.index);
-        let codeview = PartOutside::located(entry, index, PartKind::CodeView, x.fields.cv_record);
-        let misc = PartOutside::located(entry, index, PartKind::Misc, x.fields.misc_record);
+        let codeview = PartOutside::located(entry, index, PartName::CodeView, x.fields.cv_record);
+        let misc = PartOutside::located(entry, index, PartName::Misc, x.fields.misc_record);
         LostParts {
             first: outside(x.codeview, codeview),
             second: outside(x.misc, misc),
@@ -64,7 +65,7 @@ impl LostParts {
         let context = PartOutside::located(
             x.entry,
             x.index,
-            PartKind::Context,
+            PartName::Context,
             x.fields.thread_context,
         );
         LostParts {
@@ -80,7 +81,7 @@ impl LostParts {
         let memory = PartOutside {
             entry: x.entry,
             index: x.index,
-            part: PartKind::Memory,
+            part: PartName::Memory,
             offset: x.offset,
             size: x.size,
         };

@@ -4,21 +4,7 @@ ghost use Rattle.std.specs.Prelude.{◌≡◌, None};
 use crate::keeping::{count, keep};
 use crate::lost_parts::LostParts;
 use mdmp_source::Location;
-
-/// A part of a record: bytes that one of its locations points at.
-#[derive(Clone, Copy, Debug, PartialEq, Eq)]
-pub enum PartKind {
-    /// The stack of a thread.
-    Stack,
-    /// The registers of a thread, or of an exception's thread.
-    Context,
-    /// The CodeView record of a module.
-    CodeView,
-    /// The miscellaneous debug record of a module.
-    Misc,
-    /// The bytes of a range of memory.
-    Memory,
-}
+use mdmp_wire::PartName;
 
 /// A part that lies outside the file: at least one of its bytes is after the end of the file.
 #[derive(Clone, Copy, Debug, PartialEq, Eq)]
@@ -28,7 +14,7 @@ pub struct PartOutside {
     /// The index of the record in its stream, from 0.
     pub index: u64,
     /// Which part of the record it is.
-    pub part: PartKind,
+    pub part: PartName,
     /// Where its first byte should be, an offset from the start of the file.
     pub offset: u128,
     /// How many bytes it has.
@@ -39,7 +25,7 @@ impl PartOutside {
     ghost use Rattle.mdmp_summary.specs.Part.{located};
 
     /// The part at a location.
-    pub(crate) fn located(entry: u32, index: u64, part: PartKind, at: Location) -> Self
+    pub(crate) fn located(entry: u32, index: u64, part: PartName, at: Location) -> Self
         ensures { result ≡ located entry index part at }
     {
         PartOutside {

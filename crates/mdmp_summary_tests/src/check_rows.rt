@@ -3,12 +3,13 @@ use crate::files::{CRASH_SIZE, LINUX, crash_file};
 use crate::same::assert_same_at;
 use mdmp_lister::{Choice, Limits, Lister, RunFault, Stopped};
 use mdmp_source::{MemoryStore, PatchyStore, Source, Store};
-use mdmp_summary::{CheckRow, CheckRowSink, PartKind, check_parts_into};
+use mdmp_summary::{CheckRow, CheckRowSink, check_parts_into};
+use mdmp_wire::PartName;
 use std::alloc::Global;
 use std::process::Abort;
 
 /// A row as plain values: an entry, a part with its place and size or whether the entry is good, and whether it loses parts.
-type RowSeen = (u32, Result<bool, (PartKind, u128, u64)>, bool);
+type RowSeen = (u32, Result<bool, (PartName, u128, u64)>, bool);
 
 /// Keeps rows, as many as it may.
 #[derive(Drop)]
@@ -92,7 +93,7 @@ const WHOLE: [RowSeen; 5] = [
 const CUT: [RowSeen; 6] = [
     (0, Ok(false), false),
     (1, Ok(true), false),
-    (2, Err((PartKind::Context, 596, 272)), true),
+    (2, Err((PartName::Context, 596, 272)), true),
     (2, Ok(true), true),
     (3, Ok(true), false),
     (4, Ok(true), false),

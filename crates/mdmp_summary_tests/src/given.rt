@@ -2,9 +2,9 @@
 use crate::files::{LINUX, Made, crash_file};
 use crate::summing::summary_in;
 use mdmp_lister::Name;
-use mdmp_summary::{AccessKind, FileSummary, PartKind, PartOutside, Reached};
+use mdmp_summary::{AccessKind, FileSummary, PartOutside, Reached};
 use mdmp_summary_lines::SummaryNames;
-use mdmp_wire::UnitsRef;
+use mdmp_wire::{PartName, UnitsRef};
 use std::alloc::Global;
 use std::process::Abort;
 
@@ -66,7 +66,7 @@ pub fn summary_of_write(rt: &impl Abort, alloc: Global) -> FileSummary {
 pub const STACK_OUTSIDE: PartOutside = PartOutside {
     entry: 2,
     index: 0,
-    part: PartKind::Stack,
+    part: PartName::Stack,
     offset: 4720,
     size: 7264,
 };
