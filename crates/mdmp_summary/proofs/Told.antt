@@ -53,6 +53,7 @@ same_listing_then a b c first then = record {
   limit = then.limit ∙ first.limit;
   rooms = then.rooms ∙ first.rooms;
   budget = then.budget ∙ first.budget;
+  start = then.start ∙ first.start;
   same_file = record {
     count = first.same_file.count + then.same_file.count;
     fetches = fetches_then first.same_file.count then.same_file.count a.source b.source c.source first.same_file.fetches then.same_file.fetches;
@@ -67,6 +68,7 @@ same_listing_none a = record {
   limit = refl;
   rooms = refl;
   budget = refl;
+  start = refl;
   same_file = record { count = 0; fetches = FetchesAtMost-none a.source };
 }
 
@@ -79,6 +81,7 @@ next_listing n a b same fetches = record {
   limit = same.limit;
   rooms = same.rooms;
   budget = same.budget;
+  start = same.start;
   same_file = record { count = n; fetches = fetches };
 }
 
@@ -95,6 +98,7 @@ sought_listing a b stays = record {
   limit = λ i. (stays i).limit;
   rooms = λ i. (stays i).rooms;
   budget = λ i. (stays i).counts.budget;
+  start = λ i. (stays i).counts.start;
   same_file = record { count = 0; fetches = subst (λ (l : ListerState). FetchesAtMost 0 a.source l.source) (sym stays) (FetchesAtMost-none a.source) };
 }
 
@@ -107,6 +111,7 @@ outside_listing most old new reads = record {
   limit = λ i. (reads.same i).list.limit;
   rooms = λ i. (reads.same i).list.rooms;
   budget = reads.aside.same_budget;
+  start = reads.aside.same_start;
   same_file = record { count = most.bytes; fetches = reads.fetches };
 }
 

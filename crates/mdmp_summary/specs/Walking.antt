@@ -37,6 +37,8 @@ pub record IsSameListing (old new : ListerState) : Type 0 where
   -- and in the same memory
   pub rooms : new.rooms ≡ old.rooms
   pub budget : new.counts.budget ≡ old.counts.budget
+  -- and what its source had counted as it was opened
+  pub start : new.counts.start ≡ old.counts.start
   pub same_file : FetchesSome old.source new.source
 
 -- the same listing, which kept to its budget: what it has fetched is within that, and is what its source has counted
