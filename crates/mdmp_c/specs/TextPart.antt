@@ -1,19 +1,25 @@
 -- Parts of a text.
 use Rattle.std.specs.Prelude.{◌≡◌, ◌≤◌, ◌+◌, ◌-◌, ◌++◌, ℕ, Bool, true, false, List, Option, Some, None, Result, Ok, Err, drop, length, take}
+use Rattle.mdmp_source.specs.Count.{raised}
 use Rattle.mdmp_source.specs.Range.{IsInside}
+use Rattle.mdmp_source.specs.Store.{IsGood}
 use Rattle.mdmp_c.specs.declared.fault.PlainFault.{PlainFault}
 use Rattle.mdmp_c.specs.Fault.{list_told, told_unless}
 use Rattle.mdmp_c.specs.Giving.{told_count}
+use Rattle.mdmp_c.specs.Limits.{most_read}
 use Rattle.mdmp_c.specs.Table.{IsEndedAt}
+use Rattle.mdmp_c.specs.declared.text_part.TextPart.{TextPart}
 use Rattle.mdmp_lister.specs.declared.choice.Choice.TheVariants.{All}
 use Rattle.mdmp_lister.specs.declared.item.Item.{Item}
 use Rattle.mdmp_lister.specs.Format.Listing.{Run, listing}
 use Rattle.mdmp_lister.specs.Format.Refusal.{opening_fault}
 use Rattle.mdmp_lister.specs.Lister.{ListerState}
 use Rattle.mdmp_lister.specs.Memory.{is_within}
+use Rattle.mdmp_lister.specs.Sink.{names_of_all}
 use Rattle.mdmp_engines.specs.declared.fault.ToolFault.{ToolFault}
 use Rattle.mdmp_engines.specs.declared.fault.ToolFault.TheVariants.{List as BadList, Budget, AsideLimit, Memory, Out}
-use Rattle.mdmp_engines.specs.Symbols.{IsRecordAmong, symbols_bytes}
+use Rattle.mdmp_engines.specs.Engines.{HasRequested, WhereToldToEnd}
+use Rattle.mdmp_engines.specs.Symbols.{IsRecordAmong, symbols_bytes, taken_bytes}
 use Rattle.mdmp_engines.specs.Text.{list_text}
 use Rattle.mdmp_print.specs.declared.form.LineForm.{LineForm}
 
@@ -64,6 +70,18 @@ PutsRun IsPut MayEnd text run (Err (AsideLimit offset size)) = PutsFirst IsPut (
 PutsRun IsPut MayEnd text run (Err Out) = Unit {0}
 PutsRun IsPut MayEnd text run (Err Memory) = Unit {0}
 PutsRun IsPut MayEnd text run (Err fault) = ⊥
+
+-- the text of what a lister has left, of a file that is known, was put into a part: up to its fault or none, or up to where a limit was
+-- reached. Items were given by requests, and of CodeView records no more was read than the limit says
+pub record GathersText (text_of : List ℕ → Run → List ℕ) (pdb : Bool) (most : Option ℕ) (old : ListerState) (before : TextPart) (result : Result (Unit {0}) ToolFault) (new : ListerState) (after : TextPart) : Type 0 where
+  pub requests : HasRequested old result new
+  pub aside : is_within most new.counts.aside.bytes ≡ true
+  pub taken : (file : List ℕ) → old.source.store.content ≡ Some file → (left : Run) → old.left ≡ Some left
+      → WhereToldToEnd result (raised old.counts.aside.bytes (taken_bytes file pdb old.limit left.items) ≤ new.counts.aside.bytes)
+  pub puts : (file : List ℕ) → IsGood old.source.store file → (left : Run) → old.left ≡ Some left → (skip room : ℕ) (given : List ℕ)
+      → IsPartOf skip room given before.skip before.room before.size before.kept.items
+      → PutsRun (λ text. IsPartOf skip room text after.skip after.room after.size after.kept.items) (EndsTextAt old (most_read file old.choice old.limit (old.counts.names + names_of_all left.items)) most pdb left)
+      (given ++ text_of file left) left result
 
 -- a text was put somewhere, and it ends at this fault; or memory ran out
 pub data EndsAt (IsPut : List ℕ → Type 0) (text : List ℕ) (fault : ToolFault) (result : Result (Unit {0}) ToolFault) : Type 0 where

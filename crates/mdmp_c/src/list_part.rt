@@ -1,17 +1,11 @@
 //! The text of a list, or a part of it, made a line at a time.
-ghost use Rattle.std.specs.Prelude.{◌≡◌, ◌≤◌, ◌+◌, ◌++◌, ◌⊎◌, Err, None, Some, ℕ, List, true};
+ghost use Rattle.std.specs.Prelude.{◌≡◌, ◌++◌, ◌⊎◌, Err, None, ℕ, List, true};
 ghost use Rattle.mdmp_c.specs.Giving.{Ends, bad_limits};
 ghost use Rattle.mdmp_lister.specs.Memory.{is_within};
-ghost use Rattle.mdmp_c.specs.Limits.{AreLimits, EndsText, KeepsText, most_read};
-ghost use Rattle.mdmp_c.specs.TextPart.{EndsAt, EndsTextAt, IsListPart, IsPartOf, PutsRun};
+ghost use Rattle.mdmp_c.specs.Limits.{AreLimits, EndsText, KeepsText};
+ghost use Rattle.mdmp_c.specs.TextPart.{EndsAt, GathersText, IsListPart, IsPartOf};
 ghost use Rattle.mdmp_lister.specs.declared.choice.Choice.TheVariants.{All};
-ghost use Rattle.mdmp_lister.specs.Format.Listing.{Run};
-ghost use Rattle.mdmp_lister.specs.Sink.{names_of_all};
-ghost use Rattle.mdmp_source.specs.Count.{raised};
-ghost use Rattle.mdmp_source.specs.Store.{IsGood};
 ghost use Rattle.mdmp_print.specs.Forms.{dump_line_in};
-ghost use Rattle.mdmp_engines.specs.Engines.{HasRequested, WhereToldToEnd};
-ghost use Rattle.mdmp_engines.specs.Symbols.{taken_bytes};
 ghost use Rattle.mdmp_engines.specs.Text.{run_text};
 ghost use Rattle.mdmp_print.specs.declared.form.LineForm.TheVariants.{Text};
 
@@ -95,14 +89,7 @@ fn gather_list<S: Store + Drop, A: Allocator + Copy>(
 ) -> Result<(), ToolFault>
     requires going { lister.old.stop ≡ None }
     requires kept { is_within aside lister.old.counts.aside.bytes ≡ true }
-    ensures requests { HasRequested lister.old result lister.new }
-    ensures aside { is_within aside lister.new.counts.aside.bytes ≡ true }
-    ensures taken { (file : List ℕ) → lister.old.source.store.content ≡ Some file → (left : Run) → lister.old.left ≡ Some left
-        → WhereToldToEnd result (raised lister.old.counts.aside.bytes (taken_bytes file pdb lister.old.limit left.items) ≤ lister.new.counts.aside.bytes) }
-    ensures puts { (file : List ℕ) → IsGood lister.old.source.store file → (left : Run) → lister.old.left ≡ Some left → (skip room : ℕ) (given : List ℕ)
-        → IsPartOf skip room given part.old.skip part.old.room part.old.size part.old.kept.items
-        → PutsRun (λ text. IsPartOf skip room text part.new.skip part.new.room part.new.size part.new.kept.items) (EndsTextAt lister.old (most_read file lister.old.choice lister.old.limit (lister.old.counts.names + names_of_all left.items)) aside pdb left)
-        (given ++ (dump_line_in form lister.old.header ++ run_text form pdb file lister.old.limit left)) left result }
+    ensures { GathersText (λ file left. dump_line_in form lister.old.header ++ run_text form pdb file lister.old.limit left) pdb aside lister.old part.old result lister.new part.new }
 {
     let mut line = WriteOut::new(Vec::new(alloc));
     if let Err(OutFailed) = print_dump(form, &lister.header(), &mut line) {
@@ -126,14 +113,7 @@ fn gather_items<S: Store + Drop, A: Allocator + Copy>(
 ) -> Result<(), ToolFault>
     requires going { lister.old.stop ≡ None }
     requires kept { is_within aside lister.old.counts.aside.bytes ≡ true }
-    ensures requests { HasRequested lister.old result lister.new }
-    ensures aside { is_within aside lister.new.counts.aside.bytes ≡ true }
-    ensures taken { (file : List ℕ) → lister.old.source.store.content ≡ Some file → (left : Run) → lister.old.left ≡ Some left
-        → WhereToldToEnd result (raised lister.old.counts.aside.bytes (taken_bytes file pdb lister.old.limit left.items) ≤ lister.new.counts.aside.bytes) }
-    ensures puts { (file : List ℕ) → IsGood lister.old.source.store file → (left : Run) → lister.old.left ≡ Some left → (skip room : ℕ) (given : List ℕ)
-        → IsPartOf skip room given part.old.skip part.old.room part.old.size part.old.kept.items
-        → PutsRun (λ text. IsPartOf skip room text part.new.skip part.new.room part.new.size part.new.kept.items) (EndsTextAt lister.old (most_read file lister.old.choice lister.old.limit (lister.old.counts.names + names_of_all left.items)) aside pdb left)
-        (given ++ run_text form pdb file lister.old.limit left) left result }
+    ensures { GathersText (λ file left. run_text form pdb file lister.old.limit left) pdb aside lister.old part.old result lister.new part.new }
 {
     let mut line = line;
     loop {

@@ -23,31 +23,6 @@ use Rattle.mdmp_engines.proofs.Reached.{HasNamed-fault, HasNamed-next, HasNamed-
 use Rattle.mdmp_c.proofs.Stopping.{text_over}
 use Rattle.mdmp_c.proofs.list_part.gather_items.Goals as goal
 
-pub returns-in-Ok-false-clause-puts : goal.returns-in-Ok-false-clause-puts
-returns-in-Ok-false-clause-puts g c = λ file good run known skip room before part.
-    let so_far = c.loop-lines.invariant in
-    let given = so_far.part file good run known skip room before part in
-    let content = so_far.source.fetches.same_content ∙ good.known in
-    let next = next_told c.args.form c.args.pdb file _ _ given.0 _ c.in-Ok-false.field-0 false _ so_far.run.limit c.in-Ok-false.field-0-test (c.in-Ok-false.ensures.lists file content given.0 given.1.0) in
-    PutsRun-end c.args.form c.args.pdb file c.args.lister.now.limit (EndsTextAt c.args.lister.now (most_read file c.args.lister.now.choice c.args.lister.now.limit (c.args.lister.now.counts.names + names_of_all run.items)) c.args.aside c.args.pdb run) run given.0 before skip room _ _ _ _ _ _ given.1.1 next
-
-pub returns-in-Err-clause-puts : goal.returns-in-Err-clause-puts
-returns-in-Err-clause-puts g c = λ file good run known skip room before part.
-    let so_far = c.loop-lines.invariant in
-    let given = so_far.part file good run known skip room before part in
-    let now : IsGood c.loop-lines.lister.source.store file = IsGood-later file _ _ _ so_far.source.fetches good in
-    let next = next_within c.args.form c.args.pdb file _ _ given.0 _ (Err c.in-Err.fault) _ so_far.run.limit (c.in-Err.ensures.lists file now.known given.0 given.1.0) in
-    let met = so_far.met file good.known run known in
-    let there = next_within c.args.form c.args.pdb file _ _ met.left _ (Err c.in-Err.fault) _ so_far.run.limit (c.in-Err.ensures.lists file now.known met.left met.left_is) in
-    PutsRun-ended c.args.form c.args.pdb file c.args.lister.now.limit (EndsTextAt c.args.lister.now (most_read file c.args.lister.now.choice c.args.lister.now.limit (c.args.lister.now.counts.names + names_of_all run.items)) c.args.aside c.args.pdb run) run given.0 before _ skip room _ _ _ _ _ _ _ _ _ _ c.in-Err.fault _ given.1.1 next
-    (ap (λ (o : OutState). o.taken) c.new-lines.ensures ∙ ap Some c.clear.ensures.items) (sym c.into_inner.ensures) (c.end_items.ensures.puts skip room) (c.in-Err.ensures.leaves.good file now)
-    (text_over c.args.lister.now c.list_next.new.lister file run c.args.aside c.args.pdb c.counts-counts.result c.in-Err.fault (met_record c.args.pdb file c.args.lister.now run c.args.form c.loop-lines.lister c.list_next.new.lister met _ _ c.in-Err.fault there c.in-Err.ensures.read.rests)
-    (runs_on _ _ (run_then _ _ _ so_far.run c.in-Err.ensures.same) (c.in-Err.ensures.leaves.reads.fetches.fetches.same_content ∙ so_far.source.fetches.same_content)
-    (c.in-Err.ensures.leaves.reads.fetches.fetches.same_size ∙ so_far.source.fetches.same_size)) c.counts-counts.ensures.value
-    (c.counts-counts.ensures.of_file file (c.in-Err.ensures.leaves.reads.fetches.fetches.same_content ∙ now.known)) (HasNamed-fault _ _ _ so_far.named c.in-Err.ensures.names run known)
-    c.counts-counts.ensures.held c.counts-counts.ensures.spent
-    (budget_later Bool Bool c.in-Err.fault c.args.lister.now c.loop-lines.lister c.list_next.new.lister so_far.stands c.in-Err.ensures.over) (c.in-Err.ensures.aside so_far.aside))
-
 pub loop-lines-init : goal.loop-lines-init
 loop-lines-init g c = record {
   going = c.requires.going;
@@ -89,51 +64,68 @@ loop-lines-preserved g c =
           );
     }
 
-pub returns-in-Ok-false-clause-requests : goal.returns-in-Ok-false-clause-requests
-returns-in-Ok-false-clause-requests g c =
-    let so_far = c.loop-lines.invariant.requested in
-    end_requested tt _ _ _ so_far.0 _ c.in-Ok-false.field-0-test so_far.1 c.in-Ok-false.ensures.read.requests
+pub returns-in-Ok-false : goal.returns-in-Ok-false
+returns-in-Ok-false g c = record {
+  requests =
+      let so_far = c.loop-lines.invariant.requested in
+      end_requested tt _ _ _ so_far.0 _ c.in-Ok-false.field-0-test so_far.1 c.in-Ok-false.ensures.read.requests;
+  aside = (c.in-Ok-false.ensures.aside c.loop-lines.invariant.aside).kept;
+  taken = λ file content run known.
+      let so_far = c.loop-lines.invariant in
+      let met = so_far.met file content run known in
+      let of = c.in-Ok-false.ensures in
+      let next = next_told c.args.form c.args.pdb file _ _ met.left _ c.in-Ok-false.field-0 false _ so_far.run.limit c.in-Ok-false.field-0-test (of.lists file (so_far.source.fetches.same_content ∙ content) met.left met.left_is) in
+      met_all c.args.pdb file c.args.lister.now run c.loop-lines.lister c.list_next.new.lister met None (taken_bytes file c.args.pdb c.loop-lines.lister.limit (take 1 met.left.items)) next.0
+      (of.read.taken file (so_far.source.fetches.same_content ∙ content) met.left met.left_is);
+  puts = λ file good run known skip room before part.
+      let so_far = c.loop-lines.invariant in
+      let given = so_far.part file good run known skip room before part in
+      let content = so_far.source.fetches.same_content ∙ good.known in
+      let next = next_told c.args.form c.args.pdb file _ _ given.0 _ c.in-Ok-false.field-0 false _ so_far.run.limit c.in-Ok-false.field-0-test (c.in-Ok-false.ensures.lists file content given.0 given.1.0) in
+      PutsRun-end c.args.form c.args.pdb file c.args.lister.now.limit (EndsTextAt c.args.lister.now (most_read file c.args.lister.now.choice c.args.lister.now.limit (c.args.lister.now.counts.names + names_of_all run.items)) c.args.aside c.args.pdb run) run given.0 before skip room _ _ _ _ _ _ given.1.1 next;
+}
 
-pub returns-in-Err-clause-requests : goal.returns-in-Err-clause-requests
-returns-in-Err-clause-requests g c =
-    let so_far = c.loop-lines.invariant.requested in
-    let f = c.in-Err.fault in
-    let old = c.args.lister.now in
-    let new = c.list_next.new.lister in
-    let asked : HasRequested {T = Unit {0}} old (Err f) new = requested_behind so_far.0 old c.loop-lines.lister new (Err f) so_far.1 (requested_same {T = Bool} _ _ f c.in-Err.ensures.read.requests) in
-    fault_or_memory old new f c.end_items.result c.end_items.ensures.fault asked
+pub returns-in-Err : goal.returns-in-Err
+returns-in-Err g c = record {
+  requests =
+      let so_far = c.loop-lines.invariant.requested in
+      let f = c.in-Err.fault in
+      let old = c.args.lister.now in
+      let new = c.list_next.new.lister in
+      let asked : HasRequested {T = Unit {0}} old (Err f) new = requested_behind so_far.0 old c.loop-lines.lister new (Err f) so_far.1 (requested_same {T = Bool} _ _ f c.in-Err.ensures.read.requests) in
+      fault_or_memory old new f c.end_items.result c.end_items.ensures.fault asked;
+  aside = (c.in-Err.ensures.aside c.loop-lines.invariant.aside).kept;
+  taken = λ file content run known.
+      let so_far = c.loop-lines.invariant in
+      let met = so_far.met file content run known in
+      let of = c.in-Err.ensures in
+      let there = next_within c.args.form c.args.pdb file _ _ met.left _ (Err c.in-Err.fault) _ so_far.run.limit (of.lists file (so_far.source.fetches.same_content ∙ content) met.left met.left_is) in
+      fault_met c.args.pdb file c.args.lister.now run c.args.form c.loop-lines.lister c.list_next.new.lister met _ _ c.in-Err.fault there of.read.rests c.end_items.result c.end_items.ensures.fault;
+  puts = λ file good run known skip room before part.
+      let so_far = c.loop-lines.invariant in
+      let given = so_far.part file good run known skip room before part in
+      let now : IsGood c.loop-lines.lister.source.store file = IsGood-later file _ _ _ so_far.source.fetches good in
+      let next = next_within c.args.form c.args.pdb file _ _ given.0 _ (Err c.in-Err.fault) _ so_far.run.limit (c.in-Err.ensures.lists file now.known given.0 given.1.0) in
+      let met = so_far.met file good.known run known in
+      let there = next_within c.args.form c.args.pdb file _ _ met.left _ (Err c.in-Err.fault) _ so_far.run.limit (c.in-Err.ensures.lists file now.known met.left met.left_is) in
+      PutsRun-ended c.args.form c.args.pdb file c.args.lister.now.limit (EndsTextAt c.args.lister.now (most_read file c.args.lister.now.choice c.args.lister.now.limit (c.args.lister.now.counts.names + names_of_all run.items)) c.args.aside c.args.pdb run) run given.0 before _ skip room _ _ _ _ _ _ _ _ _ _ c.in-Err.fault _ given.1.1 next
+      (ap (λ (o : OutState). o.taken) c.new-lines.ensures ∙ ap Some c.clear.ensures.items) (sym c.into_inner.ensures) (c.end_items.ensures.puts skip room) (c.in-Err.ensures.leaves.good file now)
+      (text_over c.args.lister.now c.list_next.new.lister file run c.args.aside c.args.pdb c.counts-counts.result c.in-Err.fault (met_record c.args.pdb file c.args.lister.now run c.args.form c.loop-lines.lister c.list_next.new.lister met _ _ c.in-Err.fault there c.in-Err.ensures.read.rests)
+      (runs_on _ _ (run_then _ _ _ so_far.run c.in-Err.ensures.same) (c.in-Err.ensures.leaves.reads.fetches.fetches.same_content ∙ so_far.source.fetches.same_content)
+      (c.in-Err.ensures.leaves.reads.fetches.fetches.same_size ∙ so_far.source.fetches.same_size)) c.counts-counts.ensures.value
+      (c.counts-counts.ensures.of_file file (c.in-Err.ensures.leaves.reads.fetches.fetches.same_content ∙ now.known)) (HasNamed-fault _ _ _ so_far.named c.in-Err.ensures.names run known)
+      c.counts-counts.ensures.held c.counts-counts.ensures.spent
+      (budget_later Bool Bool c.in-Err.fault c.args.lister.now c.loop-lines.lister c.list_next.new.lister so_far.stands c.in-Err.ensures.over) (c.in-Err.ensures.aside so_far.aside));
+}
 
-pub returns-in-Err-take-clause-requests : goal.returns-in-Err-take-clause-requests
-returns-in-Err-take-clause-requests g c =
-    let so_far = c.loop-lines.invariant in
-    let of = c.in-Ok-true.ensures in
-    let more = next_requested _ _ _ so_far.requested.0 _ c.in-Ok-true.field-0-test so_far.requested.1 of.read.requests in
-    requested_so_far more.0 _ _ Memory more.1 tt
-
--- ---- what was read beside the listing
-
-pub returns-in-Ok-false-clause-aside : goal.returns-in-Ok-false-clause-aside
-returns-in-Ok-false-clause-aside g c = (c.in-Ok-false.ensures.aside c.loop-lines.invariant.aside).kept
-
-pub returns-in-Ok-false-clause-taken : goal.returns-in-Ok-false-clause-taken
-returns-in-Ok-false-clause-taken g c = λ file content run known.
-    let so_far = c.loop-lines.invariant in
-    let met = so_far.met file content run known in
-    let of = c.in-Ok-false.ensures in
-    let next = next_told c.args.form c.args.pdb file _ _ met.left _ c.in-Ok-false.field-0 false _ so_far.run.limit c.in-Ok-false.field-0-test (of.lists file (so_far.source.fetches.same_content ∙ content) met.left met.left_is) in
-    met_all c.args.pdb file c.args.lister.now run c.loop-lines.lister c.list_next.new.lister met None (taken_bytes file c.args.pdb c.loop-lines.lister.limit (take 1 met.left.items)) next.0
-    (of.read.taken file (so_far.source.fetches.same_content ∙ content) met.left met.left_is)
-
-pub returns-in-Err-clause-aside : goal.returns-in-Err-clause-aside
-returns-in-Err-clause-aside g c = (c.in-Err.ensures.aside c.loop-lines.invariant.aside).kept
-
-pub returns-in-Err-clause-taken : goal.returns-in-Err-clause-taken
-returns-in-Err-clause-taken g c = λ file content run known.
-    let so_far = c.loop-lines.invariant in
-    let met = so_far.met file content run known in
-    let of = c.in-Err.ensures in
-    let there = next_within c.args.form c.args.pdb file _ _ met.left _ (Err c.in-Err.fault) _ so_far.run.limit (of.lists file (so_far.source.fetches.same_content ∙ content) met.left met.left_is) in
-    fault_met c.args.pdb file c.args.lister.now run c.args.form c.loop-lines.lister c.list_next.new.lister met _ _ c.in-Err.fault there of.read.rests c.end_items.result c.end_items.ensures.fault
-
-pub returns-in-Err-take-clause-aside : goal.returns-in-Err-take-clause-aside
-returns-in-Err-take-clause-aside g c = (c.in-Ok-true.ensures.aside c.loop-lines.invariant.aside).kept
+pub returns-in-Err-take : goal.returns-in-Err-take
+returns-in-Err-take g c = record {
+  requests =
+      let so_far = c.loop-lines.invariant in
+      let of = c.in-Ok-true.ensures in
+      let more = next_requested _ _ _ so_far.requested.0 _ c.in-Ok-true.field-0-test so_far.requested.1 of.read.requests in
+      requested_so_far more.0 _ _ Memory more.1 tt;
+  aside = (c.in-Ok-true.ensures.aside c.loop-lines.invariant.aside).kept;
+  taken = λ file known left is. tt;
+  puts = λ file good left is skip room given part. tt;
+}
