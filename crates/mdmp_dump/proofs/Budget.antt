@@ -24,6 +24,7 @@ use Rattle.mdmp_dump.specs.declared.reader.Reader.{Reader}
 use Rattle.mdmp_dump.specs.Part.{part_in}
 use Rattle.mdmp_dump.specs.Reading.{AreBytesOf, Fetches, HasBytesAt, IsReadRefusal, TakesSteps, store_fault}
 use Rattle.mdmp_dump.specs.Refusal.{Refuse, ReadStep, Take, first_refusal, part_steps}
+use Rattle.mdmp_dump.proofs.ItemsRead.{parts_one, parts_unread}
 use Rattle.mdmp_dump.proofs.Keeping.{keeps_none, keeps_till, keeps_untaken}
 use Rattle.mdmp_dump.proofs.Refusal.{refusal_moved}
 use Rattle.mdmp_dump.proofs.Taking.{Fetches_memory}
@@ -68,15 +69,16 @@ Fetches-read n (ShortRead at) old new fetches told good = record { fetches = rec
 Fetches-read n (Changed at) old new fetches told good = record { fetches = record { count = n; fetches = fetches }; told = absurd told.cause; good = λ file is. absurd (good file is); refusal = tt }
 
 -- a part was not obtained
-module _ {S A T : Type 0} (old new : Reader S A) (e k at size : ℕ) (fault : SourceFault) {n : ℕ} (same : new.lister ≡ record old.lister { source = new.lister.source; counts = new.lister.counts })
-    (aside : SpendsAside 1 size old.lister.counts new.lister.counts) (fetches : FetchesAtMost n old.lister.source new.lister.source) (fits : size ≤ old.left) (some : 0 < size)
+module _ {S A T : Type 0} (old new : Reader S A) (e k at size : ℕ) (fault : SourceFault) (same : new.lister ≡ record old.lister { source = new.lister.source; counts = new.lister.counts })
+    (aside : SpendsAside 1 size old.lister.counts new.lister.counts) (fetches : FetchesAtMost size old.lister.source new.lister.source) (fits : size ≤ old.left) (some : 0 < size)
     (told : IsToldAmong at size fault old.lister.source new.lister.source) (good : (file : List ℕ) → IsGood old.lister.source.store file → ⊥) where
   pub untaken : TakesSteps {T = T} (Take e k at size ∷ []) old (Err (faults.Source fault)) new
   untaken = record {
     same = same;
-    fetches = Fetches-read n fault old.lister.source new.lister.source fetches told.told good;
+    fetches = Fetches-read size fault old.lister.source new.lister.source fetches told.told good;
     settles = λ rest last own. absurd (own tt);
-    calls = omega (arith, aside.aside_calls);
+    parts = parts_one e k at size old.lister new.lister same aside fetches;
+    of_steps = λ is. is;
     keeps = keeps_untaken old new size same aside fetches fits (faults.Source fault) (omega (arith, fits, some)) (inl (inl (told.from, told.before)));
   }
 
@@ -107,7 +109,8 @@ outside-refused old e k part at size = record {
   same = refl;
   fetches = Fetches-none _ old.lister.source refl tt;
   settles = λ rest last own. refused-first (faults.PartOutside e k part at size) old.left rest last;
-  calls = omega arith;
+  parts = parts_unread _ old.lister;
+  of_steps = λ is. is;
   keeps = keeps_till old old (faults.PartOutside e k part at size) tt tt (keeps_none old);
 }
 

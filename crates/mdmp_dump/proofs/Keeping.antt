@@ -1,6 +1,6 @@
 -- What a reading fetches, one step after the other.
 use Rattle.std.proofs.Common.{◌≡◌, ◌∙◌, ◌≤◌, ◌+◌, [], ◌∷◌, ◌++◌, ℕ, suc, List, drop, length, Option, None, Some, Result, Ok, Err, ap, arith, inl, inr, refl, slice_get, subst, sym}
-use Rattle.std.specs.Prelude.{IfErr, max, option_map}
+use Rattle.std.specs.Prelude.{IfErr, IfOk, max, option_map}
 use Rattle.mdmp_source.specs.Count.{raised}
 use Rattle.mdmp_source.specs.Fault.{fault_at}
 use Rattle.mdmp_source.specs.Source.{FetchesAtMost, FetchesSome, SourceState}
@@ -20,8 +20,9 @@ use Rattle.mdmp_lister.specs.declared.name.Name.TheVariants.{Long}
 use Rattle.mdmp_lister.specs.declared.step.ItemRead.{ItemRead}
 use Rattle.mdmp_lister.specs.declared.step.ItemRead.TheVariants as reads
 use Rattle.mdmp_lister.specs.Format.Directory.{IsDirectory}
-use Rattle.mdmp_lister.specs.Format.Listing.{Run, listing}
+use Rattle.mdmp_lister.specs.Format.Listing.{Run, listing, nothing}
 use Rattle.mdmp_lister.specs.Format.Name.{plain_name}
+use Rattle.mdmp_lister.specs.Counts.{AreSpent, numbers_of}
 use Rattle.mdmp_lister.specs.Lister.{IsNewLister, ListerLeaves, ListerState, NextLeaves, Rooms, left_after, standpoint_in}
 use Rattle.mdmp_lister.specs.Meter.{IsBooked, IsUnmade, KeepsTo, SpendsAside}
 use Rattle.mdmp_lister.specs.NextFetch.{TellsNextOpening}
@@ -32,8 +33,11 @@ use Rattle.mdmp_dump.specs.declared.fault.ReadFault.TheVariants as faults
 use Rattle.mdmp_dump.specs.declared.reader.Reader.{Reader}
 use Rattle.mdmp_dump.specs.declared.reader.Told.{Told}
 use Rattle.mdmp_dump.specs.Keeping.{AreAmong, IsAtEntry, IsOpeningEnd, IsSameReading, KeepsStep, KeepsOn, KeepsReading, KeepsTill, TellsFetch, TellsListed, TellsListing, TellsPart, TellsReadEnd, WasLeft, standing_at}
-use Rattle.mdmp_dump.specs.Reading.{FindsRead, IsNameTaken, IsOneLeft, listed_within, read_within, refusal_of}
-use Rattle.mdmp_dump.specs.Refusal.{AsksByte, ReadStep, Refuse, Take, TakesByte, item_steps, name_steps}
+use Rattle.mdmp_dump.specs.Keeping.IsReadBy.{in_turn, refused}
+use Rattle.mdmp_dump.specs.ItemsRead.{ReadsInTurn}
+use Rattle.mdmp_dump.specs.Reading.{FindsRead, IsNameTaken, IsOneLeft, listed_within, read_within}
+use Rattle.mdmp_dump.specs.Refusal.{AsksByte, ReadStep, Refuse, Take, TakesByte, item_steps, name_steps, refusal_of}
+use Rattle.mdmp_dump.proofs.ItemsRead.{all_in_turn, reads_within}
 use Rattle.mdmp_dump.proofs.NextReads.{fault_at_entry, goes_on_at, some_fetch}
 
 same_none : (v : ListerState) → IsSameReading v v
@@ -293,6 +297,7 @@ pub opening_keeps : {T : Type 0} (choice : Choice) (limits : Limits) (parts : �
 opening_keeps choice limits parts old fault new keeps next handed_back = record {
   fetched = keeps.fetched;
   aside = 0;
+  by = refused fault refl (record { over = keeps.over; next = next; handed_back = handed_back }) refl;
   spent = keeps.spent ∙ ap (raised old.fetched) (let h : keeps.fetched ≡ keeps.fetched + 0 = omega arith in h);
   kept = keeps.kept;
   few = omega arith;
@@ -302,7 +307,7 @@ opening_keeps choice limits parts old fault new keeps next handed_back = record 
 -- while it was listed
 module _ {S A : Type 0} (choice : Choice) (limits : Limits) (parts : ℕ) (old : SourceState) (first new : Reader S A) (source : SourceState)
     (opened : IsNewLister old choice limits first.lister) (left : first.left ≡ parts) (sized : (file : List ℕ) → old.store.content ≡ Some file → old.size ≡ length file)
-    (source_is : source ≡ new.lister.source) (booked : IsBooked source new.lister.counts) (kept : KeepsTo new.lister.counts.budget new.lister.counts.fetched) where
+    (source_is : source ≡ new.lister.source) (spent : AreSpent new.lister (numbers_of new.lister)) (booked : IsBooked source new.lister.counts) (kept : KeepsTo new.lister.counts.budget new.lister.counts.fetched) where
   -- nothing was passed yet
   begins_at : IsAtEntry first.lister
   begins_at = λ going number is. (let none = opened.list.given.passed in absurd (omega (arith, is, none)))
@@ -317,11 +322,24 @@ module _ {S A : Type 0} (choice : Choice) (limits : Limits) (parts : ℕ) (old :
     aside_few : new.lister.counts.aside.bytes ≤ parts
     aside_few = omega (arith, few, left, ap (λ (a : Amount). a.bytes) opened.list.counts.aside)
 
-    keeps_reading : {T : Type 0} (result : Result T ReadFault) → IfErr result (λ fault. TellsReadEnd choice limits parts old new.lister.counts.fetched fault source)
+    keeps_reading : {T : Type 0} (result : Result T ReadFault) (turns : ReadsInTurn [] result [] first.lister new.lister)
+        → IfOk result (λ _. (file : List ℕ) → old.store.content ≡ Some file → turns.items ≡ (listing file choice limits.name).items) → IfErr result (λ fault. TellsReadEnd choice limits parts old new.lister.counts.fetched fault source)
         → KeepsReading choice limits parts result old source
-    keeps_reading result ends = record {
+    keeps_reading result turns whole ends = record {
       fetched = new.lister.counts.fetched;
       aside = new.lister.counts.aside.bytes;
+      by = in_turn (record {
+        opened = first.lister;
+        is_new = opened;
+        last = new.lister;
+        reads = turns;
+        whole = whole;
+        source = source_is;
+        booked = booked;
+        fetched_is = refl;
+        aside_is = refl;
+        spent = spent;
+      });
       spent = booked.bytes ∙ ap (λ (n : ℕ). raised n (new.lister.counts.fetched + new.lister.counts.aside.bytes)) started;
       kept = rw (← budget_is) kept;
       few = aside_few;
@@ -395,8 +413,13 @@ module _ {S A : Type 0} (choice : Choice) (limits : Limits) (parts : ℕ) (old :
     ends_by budget (faults.Source f) ends part = record { some = omega (arith, left, ends); byte = part_in_file f part }
     ends_by budget fault ends part = tt
 
-  pub reading_keeps : {T : Type 0} (x : T) → KeepsOn first new → KeepsReading choice limits parts (Ok x) old source
-  reading_keeps x on = keeps_reading on.same (omega (arith, on.few)) (Ok x) tt
+  pub reading_keeps : {T : Type 0} (x : T) → KeepsOn first new → ReadsInTurn [] (Ok x) [] first.lister new.lister → ((file : List ℕ) → old.store.content ≡ Some file → new.lister.left ≡ Some nothing)
+      → KeepsReading choice limits parts (Ok x) old source
+  reading_keeps x on turns none =
+      keeps_reading on.same (omega (arith, on.few)) (Ok x) turns
+      (λ file known. all_in_turn x first.lister new.lister (listing file choice limits.name) turns (opened.list.given.left ∙ (rw known refl)) (none file known)) tt
 
-  pub reading_ends : {T : Type 0} (fault : ReadFault) → KeepsTill [] fault first new → KeepsReading {T = T} choice limits parts (Err (read_within limits.budget fault)) old source
-  reading_ends fault till = keeps_reading till.same till.few (Err (read_within limits.budget fault)) (ends_by till.same till.few limits.budget fault (till.ends begins_at) till.part)
+  pub reading_ends : {T U : Type 0} (fault : ReadFault) → KeepsTill [] fault first new → ReadsInTurn {T = U} [] (Err fault) [] first.lister new.lister
+      → KeepsReading {T = T} choice limits parts (Err (read_within limits.budget fault)) old source
+  reading_ends fault till turns =
+      keeps_reading till.same till.few (Err (read_within limits.budget fault)) (reads_within limits.budget fault first.lister new.lister (budget_is till.same till.few) turns) tt (ends_by till.same till.few limits.budget fault (till.ends begins_at) till.part)

@@ -13,6 +13,7 @@ pub mod FileRefusals
 pub mod FileViews
 pub mod Founding
 pub mod InFiles
+pub mod ItemsRead
 pub mod Keeping
 pub mod KnownViews
 pub mod Laid

@@ -30,10 +30,10 @@ use Rattle.mdmp_lister.specs.declared.limits.Limits.{Limits}
 use Rattle.mdmp_dump.specs.FileRefusal.{view_refusal}
 use Rattle.mdmp_dump.specs.declared.fault.ReadFault.{ReadFault}
 use Rattle.mdmp_dump.specs.declared.fault.ReadFault.TheVariants as faults
-use Rattle.mdmp_dump.specs.Reading.{Fetches, IsLastTold, IsWanting, MayBeTold, TellsOf, refusal_of, store_fault}
+use Rattle.mdmp_dump.specs.Reading.{Fetches, IsLastTold, IsWanting, MayBeTold, TellsOf, store_fault}
 use Rattle.mdmp_source.specs.declared.fault.SourceFault.{SourceFault}
 use Rattle.mdmp_source.specs.declared.fault.SourceFault.TheVariants.{Changed}
-use Rattle.mdmp_dump.specs.Refusal.{read_refusal}
+use Rattle.mdmp_dump.specs.Refusal.{read_refusal, refusal_of}
 use Rattle.mdmp_dump.proofs.Budget.{Fetches-read}
 use Rattle.mdmp_dump.proofs.Taking.{Fetches_memory}
 

@@ -12,7 +12,8 @@ use Rattle.mdmp_lister.specs.Memory.{IsRefusalWithin, TellsMemory}
 use Rattle.mdmp_dump.specs.FileRefusal.{IsUnbudgeted}
 use Rattle.mdmp_dump.specs.declared.fault.ReadFault.{ReadFault}
 use Rattle.mdmp_dump.specs.declared.fault.ReadFault.TheVariants as faults
-use Rattle.mdmp_dump.specs.Reading.{Fetches, IsWithoutBudget, OpensWithin, Settles, TellsLimit, listed_within, opened_within, read_within, refusal_of}
+use Rattle.mdmp_dump.specs.Reading.{Fetches, IsWithoutBudget, OpensWithin, Settles, TellsLimit, listed_within, opened_within, read_within}
+use Rattle.mdmp_dump.specs.Refusal.{refusal_of}
 use Rattle.mdmp_dump.proofs.Opened.{TellsNone}
 use Rattle.mdmp_dump.proofs.Taking.{Fetches_memory}
 

@@ -22,8 +22,8 @@ use Rattle.mdmp_dump.specs.declared.found_record.FoundRecord.{FoundRecord}
 use Rattle.mdmp_dump.specs.EntryWalk.{FindsRow, IsRowFound, no_entry}
 use Rattle.mdmp_dump.specs.FileRefusal.{IsOfOpening, IsViewRefusal, body_told, entry_told, first_told, opened_told, run_told, view_refusal}
 use Rattle.mdmp_dump.specs.Left.{body_from, records_from, run_of, shaped_from}
-use Rattle.mdmp_dump.specs.Reading.{IsOwn, IsReadRefusal, refusal_of}
-use Rattle.mdmp_dump.specs.Refusal.{ReadStep, Refuse, Take, item_steps}
+use Rattle.mdmp_dump.specs.Reading.{IsOwn, IsReadRefusal}
+use Rattle.mdmp_dump.specs.Refusal.{ReadStep, Refuse, Take, item_steps, refusal_of}
 use Rattle.mdmp_dump.specs.Seen.{Seen, nothing_seen}
 use Rattle.mdmp_dump.proofs.Opened.{TellsNone}
 use Rattle.mdmp_dump.proofs.Left.{body_from-all, body_from-shaped}

@@ -20,8 +20,9 @@ use Rattle.mdmp_lister.specs.declared.step.ItemRead.{ItemRead}
 use Rattle.mdmp_lister.specs.declared.step.ItemRead.TheVariants as reads
 use Rattle.mdmp_dump.specs.declared.reader.Reader.{Reader}
 use Rattle.mdmp_dump.specs.Reading.{Fetches, FindsRead, IsLastTold, IsNameTaken, IsReadRefusal, Settles, TakesSteps, store_fault, store_fault_in}
-use Rattle.mdmp_dump.specs.Refusal.{Refuse, ReadStep, Take, first_refusal, name_steps, parts_in_steps}
+use Rattle.mdmp_dump.specs.Refusal.{Refuse, ReadStep, first_refusal, name_steps}
 use Rattle.mdmp_dump.specs.declared.reader.Told.{Told}
+use Rattle.mdmp_dump.proofs.ItemsRead.{parts_append, parts_first, parts_none, parts_unread}
 use Rattle.mdmp_dump.proofs.Keeping.{keeps_before, keeps_later, keeps_memory, keeps_none}
 use Rattle.mdmp_lister.specs.Format.Name.{plain_name}
 use Rattle.mdmp_lister.specs.declared.name.Name.{Name}
@@ -124,12 +125,6 @@ Fetches_later (Err fault) a b c first then = fetches_err a b c first fault then
 
 -- ---- steps
 
--- the parts of some steps and of others
-parts_both : (xs ys : List ReadStep) → parts_in_steps (xs ++ ys) ≡ parts_in_steps xs + parts_in_steps ys
-parts_both [] ys = omega arith
-parts_both (Refuse fault ∷ xs) ys = parts_both xs ys
-parts_both (Take e k offset size ∷ xs) ys = omega (arith, parts_both xs ys)
-
 module _ {S A : Type 0} where
   -- nothing is asked
   pub Takes_none : {T : Type 0} (old : Reader S A) (x : T) → TakesSteps [] old (Ok x) old
@@ -137,7 +132,8 @@ module _ {S A : Type 0} where
     same = refl;
     fetches = Fetches_only x old.lister.source old.lister.source (FetchesSome_none old.lister.source);
     settles = λ rest last. refl;
-    calls = omega arith;
+    parts = parts_none [] old.lister;
+    of_steps = tt;
     keeps = keeps_none old;
   }
 
@@ -147,7 +143,8 @@ module _ {S A : Type 0} where
     same = refl;
     fetches = Fetches_memory old.lister.source old.lister.source (FetchesSome_none old.lister.source);
     settles = λ rest last other. absurd (other tt);
-    calls = omega arith;
+    parts = parts_unread steps old.lister;
+    of_steps = λ is. is;
     keeps = keeps_memory old old (keeps_none old);
   }
 
@@ -176,7 +173,8 @@ module _ {S A : Type 0} where
       same = takes.same;
       fetches = Fetches_only y old.lister.source new.lister.source takes.fetches.fetches;
       settles = λ rest last. takes.settles rest last;
-      calls = takes.calls;
+      parts = takes.parts;
+      of_steps = tt;
       keeps = takes.keeps;
     }
 
@@ -190,7 +188,8 @@ module _ {S A : Type 0} where
           let all : first_refusal old.left 0 ((steps ++ more) ++ rest) last ≡ first_refusal mid.left 0 (more ++ rest) last =
           ap (λ (all : List ReadStep). first_refusal old.left 0 all last) (append_assoc steps more rest) ∙ first.settles (more ++ rest) last in
           subst (λ (refusal : Option ReadFault). Settles refusal result (λ _. first_refusal new.left 0 rest last)) (sym all) (then.settles rest last);
-      calls = omega (arith, first.calls, then.calls, parts_both steps more);
+      parts = parts_append steps more old.lister mid.lister new.lister first.parts then.parts;
+      of_steps = then.of_steps;
       keeps = keeps_later steps more result old mid new first.keeps then.keeps;
     }
 
@@ -202,7 +201,8 @@ module _ {S A : Type 0} where
       fetches = Fetches_as fault old.lister.source new.lister.source takes.fetches;
       settles = λ rest last other.
           ap (λ (all : List ReadStep). first_refusal old.left 0 all last) (append_assoc steps more rest) ∙ takes.settles (more ++ rest) last other;
-      calls = omega (arith, takes.calls, parts_both steps more);
+      parts = parts_first steps more old.lister new.lister takes.parts;
+      of_steps = takes.of_steps;
       keeps = keeps_before steps more fault old new takes.keeps;
     }
 
@@ -212,6 +212,7 @@ module _ {S A : Type 0} where
       same = takes.same;
       fetches = Fetches_as fault old.lister.source new.lister.source takes.fetches;
       settles = λ rest last other. takes.settles rest last other;
-      calls = takes.calls;
+      parts = takes.parts;
+      of_steps = takes.of_steps;
       keeps = takes.keeps;
     }

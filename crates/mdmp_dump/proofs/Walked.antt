@@ -9,11 +9,12 @@ use Rattle.mdmp_lister.specs.Lister.{ListerState, tail}
 use Rattle.mdmp_dump.specs.declared.dump.Stream.{Stream}
 use Rattle.mdmp_dump.specs.declared.fault.ReadFault.{ReadFault}
 use Rattle.mdmp_dump.specs.declared.reader.Reader.{Reader}
+use Rattle.mdmp_dump.specs.ItemsRead.{ReadsInTurn}
 use Rattle.mdmp_dump.specs.Keeping.{KeepsOn, KeepsTill}
 use Rattle.mdmp_lister.specs.declared.item.Item.TheVariants as items
 use Rattle.mdmp_dump.specs.LaysOut.{AreStreams, NamesStream}
 use Rattle.mdmp_dump.specs.Left.{is_item_of, left_from, run_of}
-use Rattle.mdmp_dump.specs.Reading.{IsEntryRead, IsGoing, IsLeftBehind, IsNextStream, IsOfType, IsOneLeft, IsOneStream, IsWanting, NoRowFirst, Settles, owed}
+use Rattle.mdmp_dump.specs.Reading.{IsEntryRead, IsGoing, IsLeftBehind, IsNextStream, IsOfType, IsOneLeft, IsOneStream, IsWanting, NoRowFirst, Settles, owed, steps_of}
 use Rattle.mdmp_dump.specs.Refusal.{first_refusal, stream_steps}
 use Rattle.mdmp_dump.proofs.Keeping.{asked_part, keeps_err, one_left_before, told_part}
 use Rattle.mdmp_dump.proofs.Left.{first_given, no_row_first, none_given}
@@ -47,6 +48,7 @@ pub record AreRead {S A Z : Type 0} (F : List ℕ) (limit : ℕ) (xs : List Numb
 pub record StreamsRead {S A Z : Type 0} (old : Reader S A) (streams : List (Stream Z)) (next : Option StreamItem) (new : Reader S A) : Type 0 where
   pub fetches : FetchesSome old.lister.source new.lister.source
   pub keeps : KeepsOn old new
+  pub reads : ReadsInTurn {T = Unit {0}} [] (Ok tt) (steps_of old.lister.source.size next) old.lister new.lister
   pub awaited : IsAwaited next new.lister
   pub given : IsOneGiven next old.lister
   pub of_file : (F : List ℕ) (limit : ℕ) (xs : List Numbered) → old.lister.source.store.content ≡ Some F → old.lister.left ≡ Some (run_of F limit xs)
@@ -153,6 +155,9 @@ module _ {S A Z : Type 0} (F : List ℕ) (limit : ℕ) (xs : List Numbered) (old
       let all : xs ≡ read.done = read.all ∙ ap (λ (ys : List Numbered). read.done ++ ys) read.behind.1.1.0 ∙ append-nil read.done in
       rw all read.are
 
+  pub none_behind : new.lister.left ≡ Some nothing
+  none_behind = read.behind.1.0 ∙ ap Some read.behind.1.1.1
+
   pub none_refused_behind : owed F old.left None old.lister.left ≡ None
   none_refused_behind =
-      read.settles ∙ ap (owed F new.left None) (read.behind.1.0 ∙ ap Some read.behind.1.1.1) ∙ none_owed F new.left
+      read.settles ∙ ap (owed F new.left None) none_behind ∙ none_owed F new.left

@@ -1,5 +1,5 @@
 -- What reading a file into a value fetches: for the listing within a budget, and beside it the bytes of parts.
-use Rattle.std.specs.Prelude.{◌≡◌, ◌≤◌, ◌<◌, ◌+◌, ◌⊎◌, ℕ, List, length, Option, None, Some, Result, Ok, Err, IfErr, IsTrue, max, slice_get}
+use Rattle.std.specs.Prelude.{◌≡◌, ◌≤◌, ◌<◌, ◌+◌, ◌⊎◌, ℕ, List, [], length, Option, None, Some, Result, Ok, Err, IfErr, IfOk, IsTrue, max, slice_get}
 use Rattle.mdmp_source.specs.Count.{raised}
 use Rattle.mdmp_source.specs.Fault.{fault_at}
 use Rattle.mdmp_source.specs.Range.{IsInside}
@@ -17,14 +17,16 @@ use Rattle.mdmp_lister.specs.Fault.{IsToldIn}
 use Rattle.mdmp_lister.specs.Following.{through}
 use Rattle.mdmp_lister.specs.Format.Directory.{IsDirectory}
 use Rattle.mdmp_lister.specs.Format.Listing.{Run, is_chosen, listing}
-use Rattle.mdmp_lister.specs.Lister.{IsRefusedIn, ListerState, standpoint_in}
-use Rattle.mdmp_lister.specs.Meter.{KeepsTo, is_passed}
+use Rattle.mdmp_lister.specs.Counts.{AreSpent, numbers_of}
+use Rattle.mdmp_lister.specs.Lister.{IsNewLister, IsRefusedIn, ListerState, standpoint_in}
+use Rattle.mdmp_lister.specs.Meter.{IsBooked, KeepsTo, is_passed}
 use Rattle.mdmp_lister.specs.NextFetch.{Standpoint, TellsNextOpening, TellsSomeFetch}
 use Rattle.mdmp_lister.specs.Opening.{IsHandedBack, TellsOver}
 use Rattle.mdmp_dump.specs.declared.fault.ReadFault.{ReadFault}
 use Rattle.mdmp_dump.specs.declared.fault.ReadFault.TheVariants as faults
 use Rattle.mdmp_dump.specs.declared.reader.Reader.{Reader}
-use Rattle.mdmp_dump.specs.Refusal.{AsksByte, ReadStep, TakesByte}
+use Rattle.mdmp_dump.specs.ItemsRead.{ReadsInTurn}
+use Rattle.mdmp_dump.specs.Refusal.{AsksByte, ReadStep, TakesByte, refusal_of}
 
 -- ---- as a caller sees it
 
@@ -99,11 +101,32 @@ TellsReadEnd choice limits parts old fetched (faults.List fault) new = TellsList
 TellsReadEnd choice limits parts old fetched (faults.Source fault) new = IsPartEnd choice limits parts old fault
 TellsReadEnd choice limits parts old fetched fault new = Unit {0}
 
+-- a lister was opened by these limits, and it gave the items of the file in turn, each with its parts: it is all that the source was read
+-- for, in its bytes and in its calls, which are within the bounds of a listing
+pub record IsReadInTurn {T : Type 0} (choice : Choice) (limits : Limits) (result : Result T ReadFault) (old : SourceState) (fetched aside : ℕ) (new : SourceState) : Type 0 where
+  pub opened : ListerState
+  pub is_new : IsNewLister old choice limits opened
+  pub last : ListerState
+  pub reads : ReadsInTurn [] result [] opened last
+  -- of a known file that gives a dump, all items of its listing
+  pub whole : IfOk result (λ _. (file : List ℕ) → old.store.content ≡ Some file → reads.items ≡ (listing file choice limits.name).items)
+  pub source : new ≡ last.source
+  pub booked : IsBooked new last.counts
+  pub fetched_is : fetched ≡ last.counts.fetched
+  pub aside_is : aside ≡ last.counts.aside.bytes
+  pub spent : AreSpent last (numbers_of last)
+
+-- or its opening was refused, and nothing else was read
+pub data IsReadBy {T : Type 0} (choice : Choice) (limits : Limits) (result : Result T ReadFault) (old : SourceState) (fetched aside : ℕ) (new : SourceState) : Type 0 where
+  in_turn : IsReadInTurn choice limits result old fetched aside new → IsReadBy choice limits result old fetched aside new
+  refused : (fault : OpenFault) → result ≡ Err (refusal_of fault) → IsOpeningEnd choice limits old fetched fault new → aside ≡ 0 → IsReadBy choice limits result old fetched aside new
+
 -- a reading has fetched so many bytes to open and list the file, within the budget, and beside them so many of parts and of
 -- streams whose records are not known, within the limit on them. No other byte was fetched.
 pub record KeepsReading {T : Type 0} (choice : Choice) (limits : Limits) (parts : ℕ) (result : Result T ReadFault) (old new : SourceState) : Type 0 where
   pub fetched : ℕ
   pub aside : ℕ
+  pub by : IsReadBy choice limits result old fetched aside new
   pub spent : new.fetched ≡ raised old.fetched (fetched + aside)
   pub kept : KeepsTo limits.budget fetched
   pub few : aside ≤ parts

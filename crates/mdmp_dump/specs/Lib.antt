@@ -8,6 +8,7 @@ pub mod Finding
 pub mod Fits
 pub mod FoundRecord
 pub mod InFile
+pub mod ItemsRead
 pub mod Keeping
 pub mod LaysOut
 pub mod Left

@@ -40,6 +40,7 @@ use Rattle.mdmp_dump.specs.declared.reader.Told.TheVariants as tolds
 use Rattle.mdmp_dump.specs.declared.reader.Next.{Next}
 use Rattle.mdmp_dump.specs.declared.reader.Next.TheVariants as nexts
 use Rattle.mdmp_dump.specs.FileRefusal.{IsUnbudgeted}
+use Rattle.mdmp_dump.specs.ItemsRead.{IsOfListing, ReadsParts}
 use Rattle.mdmp_dump.specs.Keeping.{KeepsStep, KeepsReading}
 use Rattle.mdmp_dump.specs.LaysOut.{EachFrom, NamesStream}
 use Rattle.mdmp_dump.specs.declared.dump.Stream.{Stream}
@@ -47,7 +48,7 @@ use Rattle.mdmp_wire.specs.declared.entry.Entry.{Entry}
 use Rattle.mdmp_lister.specs.Format.Kind.{kind_of}
 use Rattle.mdmp_dump.specs.Left.{StandBehind, IsGiven, RowGiven, left_from}
 use Rattle.mdmp_dump.specs.Name.{IsName, name_told}
-use Rattle.mdmp_dump.specs.Refusal.{ReadStep, Refuse, first_refusal, item_steps, name_steps, parts_asked, parts_in_steps, stream_steps}
+use Rattle.mdmp_dump.specs.Refusal.{ReadStep, Refuse, first_refusal, item_steps, name_steps, parts_asked, stream_steps}
 use Rattle.mdmp_source.specs.Range.{is_inside}
 use Rattle.mdmp_source.specs.declared.location.Extent.{Extent}
 use Rattle.mdmp_source.specs.declared.location.Extent.TheVariants as classes
@@ -69,11 +70,6 @@ store_fault (faults.Source fault) = Some fault
 store_fault (faults.List fault) = store_fault_in fault.kind
 store_fault (faults.Opening (opening.Source fault)) = Some fault
 store_fault fault = None
-
--- a file that can't be listed gives no dump; want of memory is told as such
-abbrev pub refusal_of : OpenFault → ReadFault
-refusal_of opening.Memory = faults.Memory
-refusal_of fault = faults.Opening fault
 
 -- a file of `size` bytes may be refused so, whatever they are: a fault of the opening or of the listing fits it, and want of
 -- memory is told as such
@@ -174,8 +170,10 @@ pub record TakesSteps {S A T : Type 0} (steps : List ReadStep) (old : Reader S A
   pub same : new.lister ≡ record old.lister { source = new.lister.source; counts = new.lister.counts }
   pub fetches : Fetches result old.lister.source new.lister.source
   pub settles : (rest : List ReadStep) (last : Option ReadFault) → Settles (first_refusal old.left 0 (steps ++ rest) last) result (λ _. first_refusal new.left 0 rest last)
-  -- each part is read whole, by one fetch
-  pub calls : new.lister.counts.aside.calls ≤ old.lister.counts.aside.calls + parts_in_steps steps
+  -- each part is read once, by one fetch
+  pub parts : ReadsParts steps [] old.lister new.lister
+  -- and no error is the listing's
+  pub of_steps : IfErr result (λ fault. IsOfListing fault → ⊥)
   pub keeps : KeepsStep steps result old new
 
 -- these are the bytes at a place inside the file
@@ -210,6 +208,11 @@ steps_of size (Some item) = stream_steps size item.entry item.stream_type item.l
 abbrev pub refusal_in : List ℕ → ℕ → List ReadStep → Option Run → Option ReadFault
 refusal_in F left steps None = None
 refusal_in F left steps (Some run) = first_refusal left 0 (steps ++ flat_map (item_steps (length F)) run.items) (option_map faults.List run.fault)
+
+-- what is left to take of a record that was found, or of a stream whose item was
+abbrev pub steps_told : {Z : Type 0} → ℕ → Told Z → List ReadStep
+steps_told z (tolds.Record r name) = parts_asked z r
+steps_told z (tolds.Behind next) = steps_of z next
 
 -- the same behind a Stream item or none
 abbrev pub owed : List ℕ → ℕ → Option StreamItem → Option Run → Option ReadFault

@@ -7,6 +7,7 @@ use Rattle.mdmp_source.specs.declared.location.Extent.{Extent}
 use Rattle.mdmp_source.specs.declared.location.Extent.TheVariants as classes
 use Rattle.mdmp_lister.specs.declared.choice.Choice.{Choice}
 use Rattle.mdmp_lister.specs.declared.fault.OpenFault.{OpenFault}
+use Rattle.mdmp_lister.specs.declared.fault.OpenFault.TheVariants as opening
 use Rattle.mdmp_lister.specs.declared.name.Name.{Name}
 use Rattle.mdmp_lister.specs.declared.name.Name.TheVariants.{Long}
 use Rattle.mdmp_lister.specs.declared.name.Name.TheVariants as names
@@ -100,6 +101,12 @@ parts_in_steps [] = 0
 parts_in_steps (Refuse fault ∷ steps) = parts_in_steps steps
 parts_in_steps (Take e k offset size ∷ steps) = 1 + parts_in_steps steps
 
+-- and how many bytes
+abbrev pub bytes_in_steps : List ReadStep → ℕ
+bytes_in_steps [] = 0
+bytes_in_steps (Refuse fault ∷ steps) = bytes_in_steps steps
+bytes_in_steps (Take e k offset size ∷ steps) = size + bytes_in_steps steps
+
 -- ---- a byte
 
 -- the byte at this place is one that some of these steps take
@@ -117,6 +124,11 @@ pub record AsksByte (given : List Item) (z at : ℕ) : Type 0 where
   pub byte : TakesByte (item_steps z item) at
 
 -- ---- a file
+
+-- a file that can't be listed gives no dump; want of memory is told as such
+abbrev pub refusal_of : OpenFault → ReadFault
+refusal_of opening.Memory = faults.Memory
+refusal_of fault = faults.Opening fault
 
 -- the first step that is refused, or with which more than the limit was taken in all, or else the last fault
 unfoldable pub first_refusal : ℕ → ℕ → List ReadStep → Option ReadFault → Option ReadFault

@@ -14,7 +14,8 @@ ghost use Rattle.mdmp_lister.specs.Meter.{KeepsTo};
 ghost use Rattle.mdmp_dump.specs.Opened.{HandsSourceBack, RefusesView};
 ghost use Rattle.mdmp_dump.specs.Opening.{IsNameless, copy_fault, copy_held};
 ghost use Rattle.mdmp_lister.specs.Memory.{is_within};
-ghost use Rattle.mdmp_dump.specs.Reading.{IsWanting, refusal_of};
+ghost use Rattle.mdmp_dump.specs.Reading.{IsWanting};
+ghost use Rattle.mdmp_dump.specs.Refusal.{refusal_of};
 
 use crate::fault::ReadFault;
 use crate::found_record::{FoundRecord, found_record};

@@ -1,14 +1,16 @@
 //! Reading a file into a value.
 ghost use Rattle.std.specs.Prelude.{◌≡◌, ◌<◌, ℕ, List, [], MatchResult, None, Some, Err, IfErr, IfOk};
 ghost use Rattle.mdmp_source.specs.Store.{IsGood};
-ghost use Rattle.mdmp_lister.specs.Format.Listing.{Numbered};
+ghost use Rattle.mdmp_lister.specs.Counts.{AreSpent, numbers_of};
+ghost use Rattle.mdmp_lister.specs.Format.Listing.{Numbered, nothing};
 ghost use Rattle.mdmp_lister.specs.Meter.{IsBooked, KeepsTo};
 ghost use Rattle.mdmp_dump.specs.Dropped.{IsReadAndDropped};
+ghost use Rattle.mdmp_dump.specs.ItemsRead.{ReadsInTurn, steps_left};
 ghost use Rattle.mdmp_dump.specs.Keeping.{KeepsStep, KeepsReading};
 ghost use Rattle.mdmp_dump.specs.LaysOut.{AreStreams, LaysOut};
 ghost use Rattle.mdmp_dump.specs.Left.{is_item_of, left_from, run_of};
-ghost use Rattle.mdmp_dump.specs.Reading.{Fetches, IsEntryRead, IsGoing, IsOfType, IsOneStream, IsRaw, IsReadRefusal, IsWithoutBudget, OpensWithin, Settles, TellsLimit, TellsOf, owed, read_within, refusal_of, store_fault};
-ghost use Rattle.mdmp_dump.specs.Refusal.{inside_steps, read_refusal, stream_steps};
+ghost use Rattle.mdmp_dump.specs.Reading.{Fetches, IsEntryRead, IsGoing, IsOfType, IsOneStream, IsRaw, IsReadRefusal, IsWithoutBudget, OpensWithin, Settles, TellsLimit, TellsOf, owed, read_within, steps_of, store_fault};
+ghost use Rattle.mdmp_dump.specs.Refusal.{inside_steps, read_refusal, refusal_of, stream_steps};
 
 use crate::dump::{Dump, Stream};
 use crate::exception::Exception;
@@ -133,6 +135,7 @@ pub fn read_source<S: Store + Drop, A: Allocator + Copy>(
 /// The source of a reading that has ended.
 fn source_of<S: Store + Drop, A: Allocator + Copy>(reader: Reader<S, A>) -> Source<S>
     ensures value { result ≡ reader.lister.source }
+    ensures spent { AreSpent reader.lister (numbers_of reader.lister) }
     ensures booked { IsBooked result reader.lister.counts }
     ensures kept { KeepsTo reader.lister.counts.budget reader.lister.counts.fetched }
 {
@@ -180,6 +183,9 @@ fn read_streams<S: Store + Drop, A: Allocator + Copy>(
     requires { reader.old.lister.stop ≡ None }
     ensures fetches { Fetches result reader.old.lister.source reader.new.lister.source }
     ensures keeps { KeepsStep [] result reader.old reader.new }
+    ensures reads { ReadsInTurn [] result [] reader.old.lister reader.new.lister }
+    ensures whole { (file : List ℕ) (limit : ℕ) (xs : List Numbered) → reader.old.lister.source.store.content ≡ Some file
+        → reader.old.lister.left ≡ Some (run_of file limit xs) → IfOk result (λ _. reader.new.lister.left ≡ Some nothing) }
     ensures of_file { (file : List ℕ) (limit : ℕ) (xs : List Numbered) → reader.old.lister.source.store.content ≡ Some file
         → reader.old.lister.left ≡ Some (run_of file limit xs)
         → IfOk result (AreStreams file xs) × Settles (owed file reader.old.left None reader.old.lister.left) result (λ _. None) }
@@ -209,6 +215,7 @@ fn read_stream<S: Store + Drop, A: Allocator + Copy>(
     requires { reader.old.lister.stop ≡ None }
     ensures fetches { Fetches result reader.old.lister.source reader.new.lister.source }
     ensures keeps { KeepsStep (stream_steps reader.old.lister.source.size item.entry item.stream_type item.location) result reader.old reader.new }
+    ensures reads { ReadsInTurn (stream_steps reader.old.lister.source.size item.entry item.stream_type item.location) result (steps_left (λ r. steps_of reader.old.lister.source.size r.1) result) reader.old.lister reader.new.lister }
     ensures going { IfOk result (λ r. IsGoing reader.old.lister r.1 reader.new.lister) }
     ensures of_file { (file : List ℕ) (limit : ℕ) (x : Numbered) (xs : List Numbered) → reader.old.lister.source.store.content ≡ Some file
         → reader.old.lister.left ≡ Some (left_from file limit x 0 xs) → item ≡ is_item_of x → IsOfType reader.old.lister item.stream_type
@@ -268,6 +275,7 @@ fn read_raw<S: Store + Drop, A: Allocator + Copy>(
     requires { reader.old.lister.stop ≡ None }
     ensures fetches { Fetches result reader.old.lister.source reader.new.lister.source }
     ensures keeps { KeepsStep (inside_steps reader.old.lister.source.size item.entry item.location) result reader.old reader.new }
+    ensures reads { ReadsInTurn (inside_steps reader.old.lister.source.size item.entry item.location) result (steps_left (λ r. steps_of reader.old.lister.source.size r.1) result) reader.old.lister reader.new.lister }
     ensures going { IfOk result (λ r. IsGoing reader.old.lister r.1 reader.new.lister) }
     ensures of_file { (file : List ℕ) (limit : ℕ) (x : Numbered) (xs : List Numbered) → reader.old.lister.source.store.content ≡ Some file
         → reader.old.lister.left ≡ Some (left_from file limit x 0 xs) → item ≡ is_item_of x → IsRaw x.entry.stream_type

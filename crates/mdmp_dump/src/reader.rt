@@ -8,6 +8,7 @@ ghost use Rattle.mdmp_lister.specs.declared.name.Name.TheVariants as names;
 ghost use Rattle.mdmp_lister.specs.Format.Name.{plain_name};
 ghost use Rattle.mdmp_lister.specs.Format.Kind.{kind_of};
 ghost use Rattle.mdmp_lister.specs.Format.Listing.{Numbered, Run};
+ghost use Rattle.mdmp_dump.specs.ItemsRead.{ReadsInTurn, steps_left};
 ghost use Rattle.mdmp_dump.specs.Keeping.{KeepsStep};
 ghost use Rattle.mdmp_dump.specs.LaysOut.{HasRecords};
 ghost use Rattle.mdmp_dump.specs.Left.{left_from};
@@ -34,6 +35,8 @@ ghost use Rattle.mdmp_dump.specs.Reading.{
   next_behind,
   owed,
   refusal_found,
+  steps_of,
+  steps_told,
 };
 ghost use Rattle.mdmp_dump.specs.RecordParts.{ArePartsOf, IsSlotPart};
 ghost use Rattle.mdmp_dump.specs.Refusal.{Take, location_steps, name_steps, part_steps, parts_asked, slot_steps};
@@ -208,6 +211,7 @@ impl<S: Store + Drop, A: Allocator + Copy> Reader<S, A> {
         requires { self.old.lister.stop ≡ None }
         ensures fetches { Fetches result self.old.lister.source self.new.lister.source }
         ensures keeps { KeepsStep [] result self.old self.new }
+        ensures reads { ReadsInTurn [] result (steps_left (steps_of self.old.lister.source.size) result) self.old.lister self.new.lister }
         ensures going { IfOk result (λ next. IsGoing self.old.lister next self.new.lister) }
         ensures gives { (file : List ℕ) (run : Run) → self.old.lister.source.store.content ≡ Some file → self.old.lister.left ≡ Some run → NoRowFirst run
             → IfOk result (λ next. IsNextStream run next self.new.lister.left) × Settles (owed file self.old.left None self.old.lister.left) result (λ next. owed file self.new.left next self.new.lister.left) }
@@ -225,6 +229,7 @@ impl<S: Store + Drop, A: Allocator + Copy> Reader<S, A> {
         requires { self.old.lister.stop ≡ None }
         ensures fetches { Fetches result self.old.lister.source self.new.lister.source }
         ensures keeps { KeepsStep [] result self.old self.new }
+        ensures reads { ReadsInTurn [] result (steps_left (steps_told self.old.lister.source.size) result) self.old.lister self.new.lister }
         ensures left { self.new.left ≡ self.old.left }
         ensures first { IfOk result (IsFirstLeft self.old.lister) }
         ensures of_file { (file : List ℕ) (limit : ℕ) (x : Numbered) (k : ℕ) (xs : List Numbered) (kind : StreamKind) → self.old.lister.source.store.content ≡ Some file
@@ -246,6 +251,7 @@ impl<S: Store + Drop, A: Allocator + Copy> Reader<S, A> {
         requires { self.old.lister.stop ≡ None }
         ensures fetches { Fetches result self.old.lister.source self.new.lister.source }
         ensures keeps { KeepsStep [] result self.old self.new }
+        ensures reads { ReadsInTurn [] result (steps_left (λ next. steps_of self.old.lister.source.size (next_behind next)) result) self.old.lister self.new.lister }
         ensures going { IfOk result (λ next. IsGoingOn self.old.lister next self.new.lister) }
         ensures of_file { (file : List ℕ) (limit : ℕ) (x : Numbered) (k : ℕ) (xs : List Numbered) → self.old.lister.source.store.content ≡ Some file
             → self.old.lister.left ≡ Some (left_from file limit x k xs) → kind_of x.entry.stream_type ≡ Some T.kind → IsOfType self.old.lister x.entry.stream_type
@@ -274,6 +280,7 @@ impl<S: Store + Drop, A: Allocator + Copy> Reader<S, A> {
         requires { self.old.lister.stop ≡ None }
         ensures fetches { Fetches result self.old.lister.source self.new.lister.source }
         ensures keeps { KeepsStep [] result self.old self.new }
+        ensures reads { ReadsInTurn [] result (steps_left (λ r. steps_of self.old.lister.source.size r.1) result) self.old.lister self.new.lister }
         ensures going { IfOk result (λ r. IsGoing self.old.lister r.1 self.new.lister) }
         ensures of_file { (file : List ℕ) (limit : ℕ) (x : Numbered) (xs : List Numbered) → self.old.lister.source.store.content ≡ Some file
             → self.old.lister.left ≡ Some (left_from file limit x 0 xs) → kind_of x.entry.stream_type ≡ Some T.kind → IsOfType self.old.lister x.entry.stream_type
@@ -301,6 +308,7 @@ impl<S: Store + Drop, A: Allocator + Copy> Reader<S, A> {
         requires { self.old.lister.stop ≡ None }
         ensures fetches { Fetches result self.old.lister.source self.new.lister.source }
         ensures keeps { KeepsStep [] result self.old self.new }
+        ensures reads { ReadsInTurn [] result (steps_left (λ r. steps_of self.old.lister.source.size r.1) result) self.old.lister self.new.lister }
         ensures going { IfOk result (λ r. IsGoing self.old.lister r.1 self.new.lister) }
         ensures of_file { (file : List ℕ) (limit : ℕ) (x : Numbered) (xs : List Numbered) → self.old.lister.source.store.content ≡ Some file
             → self.old.lister.left ≡ Some (left_from file limit x 0 xs) → kind_of x.entry.stream_type ≡ Some T.kind → IsOfType self.old.lister x.entry.stream_type → HasOneRecord file x T.kind

@@ -1,14 +1,15 @@
-use Rattle.std.proofs.Common.{◌≡◌, ◌∙◌, ap, refl, sym, Some, None, Err}
+use Rattle.std.proofs.Common.{Err, None, Some, [], ap, refl, sym, ◌∙◌, ◌≡◌}
 use Rattle.mdmp_lister.specs.declared.fault.OpenFault.{OpenFault}
 use Rattle.mdmp_lister.specs.Format.Listing.{chosen}
 use Rattle.mdmp_lister.specs.Format.Refusal.{opening_fault}
 use Rattle.mdmp_dump.specs.Left.{run_of}
-use Rattle.mdmp_dump.specs.Reading.{owed, read_within, refusal_of}
-use Rattle.mdmp_dump.specs.Refusal.{read_refusal}
+use Rattle.mdmp_dump.specs.Reading.{owed, read_within}
+use Rattle.mdmp_dump.specs.Refusal.{read_refusal, refusal_of}
 use Rattle.mdmp_dump.proofs.Keeping.{opening_keeps, reading_ends, reading_keeps}
 use Rattle.mdmp_dump.proofs.Opened.{opened-head, opened_behind, opening-fetches, opening-settles, tells_none, tells_of, wants_behind}
 use Rattle.mdmp_dump.proofs.ReadWithin.{fetches-within, limited-within, opening-limited, refusal-without, settles-within, without}
 use Rattle.mdmp_dump.proofs.Taking.{fetches_err, fetches_ok}
+use Rattle.mdmp_dump.proofs.ItemsRead.{reads_done}
 use Rattle.mdmp_dump.proofs.read.read_source.Goals as goal
 
 pub returns-in-Err-clause-refuses : goal.returns-in-Err-clause-refuses
@@ -107,13 +108,16 @@ returns-in-Err-clause-keeps g c =
 pub returns-in-Ok-read_streams-clause-keeps : goal.returns-in-Ok-read_streams-clause-keeps
 returns-in-Ok-read_streams-clause-keeps g c =
     let opened = c.in-Ok.ensures.new in
-    reading_keeps c.args.choice c.args.limits c.args.parts c.args.source _ c.read_streams.new.reader c.source_of.result opened refl (λ file known. (let size = rw known at c.size-size.ensures.content in sym c.size-size.ensures.value ∙ size)) c.source_of.ensures.value c.source_of.ensures.booked c.source_of.ensures.kept _
-    c.in-Ok-read_streams.ensures.keeps
+    reading_keeps c.args.choice c.args.limits c.args.parts c.args.source _ c.read_streams.new.reader c.source_of.result opened refl (λ file known. (let size = rw known at c.size-size.ensures.content in sym c.size-size.ensures.value ∙ size)) c.source_of.ensures.value c.source_of.ensures.spent c.source_of.ensures.booked c.source_of.ensures.kept _
+    c.in-Ok-read_streams.ensures.keeps (reads_done [] [] _ _ _ _ c.in-Ok-read_streams.ensures.reads)
+    (λ file known.
+    let left : c.in-Ok.lister.left ≡ Some (run_of file c.args.limits.name (chosen file c.args.choice)) = opened.list.given.left ∙ (rw known refl) in
+    c.in-Ok-read_streams.ensures.whole file c.args.limits.name (chosen file c.args.choice) (opened.fetches.same_content ∙ known) left)
 
 pub returns-in-Err-read_streams-clause-keeps : goal.returns-in-Err-read_streams-clause-keeps
 returns-in-Err-read_streams-clause-keeps g c =
     let opened = c.in-Ok.ensures.new in
     let ended = c.source_of-in-Err-read_streams.ensures in
     rw c.told_within.ensures
-    (reading_ends c.args.choice c.args.limits c.args.parts c.args.source _ c.read_streams.new.reader c.source_of-in-Err-read_streams.result opened refl (λ file known. (let size = rw known at c.size-size.ensures.content in sym c.size-size.ensures.value ∙ size)) ended.value ended.booked ended.kept
-    c.in-Err-read_streams.fault c.in-Err-read_streams.ensures.keeps)
+    (reading_ends c.args.choice c.args.limits c.args.parts c.args.source _ c.read_streams.new.reader c.source_of-in-Err-read_streams.result opened refl (λ file known. (let size = rw known at c.size-size.ensures.content in sym c.size-size.ensures.value ∙ size)) ended.value ended.spent ended.booked ended.kept
+    c.in-Err-read_streams.fault c.in-Err-read_streams.ensures.keeps c.in-Err-read_streams.ensures.reads)

@@ -15,6 +15,7 @@ use Rattle.mdmp_dump.proofs.Streams.{one_single, stream_read, stream_refused, un
 use Rattle.std.proofs.lemmas.Result.{IfOk-from_err}
 use Rattle.mdmp_dump.proofs.Keeping.{keeps_any}
 use Rattle.mdmp_dump.proofs.Taking.{Fetches_as, Fetches_only, refused_by}
+use Rattle.mdmp_dump.proofs.ItemsRead.{reads_any, reads_as, reads_done}
 use Rattle.mdmp_dump.proofs.read.read_stream.Goals as goal
 
 pub returns-in_ok-threads-in-3-clause-of_file : goal.returns-in_ok-threads-in-3-clause-of_file
@@ -415,3 +416,83 @@ returns-in_err-threads-in-24-clause-keeps g c =
 
 pub returns-in_ok-threads-in-24-clause-keeps : goal.returns-in_ok-threads-in-24-clause-keeps
 returns-in_ok-threads-in-24-clause-keeps g c = c.in_ok-threads-in-24.ensures.keeps
+
+pub returns-in_err-next-in-0-clause-reads : goal.returns-in_err-next-in-0-clause-reads
+returns-in_err-next-in-0-clause-reads g c =
+    let fault = c.in_err-next-in-0.field-0.0 in
+    rw (refused_by c.from_residual.result fault c.from_residual.ensures.1) (reads_any _ [] _ _ _ (reads_as [] fault _ _ c.in_err-next-in-0.ensures.reads))
+
+pub returns-in_err-threads-in-3-clause-reads : goal.returns-in_err-threads-in-3-clause-reads
+returns-in_err-threads-in-3-clause-reads g c =
+    let fault = c.in_err-threads-in-3.field-0.0 in
+    rw (refused_by c.from_residual-in_err-threads-in-3.result fault c.from_residual-in_err-threads-in-3.ensures.1) (reads_any _ [] _ _ _ (reads_as [] fault _ _ c.in_err-threads-in-3.ensures.reads))
+
+pub returns-in_err-modules-in-4-clause-reads : goal.returns-in_err-modules-in-4-clause-reads
+returns-in_err-modules-in-4-clause-reads g c =
+    let fault = c.in_err-modules-in-4.field-0.0 in
+    rw (refused_by c.from_residual-in_err-modules-in-4.result fault c.from_residual-in_err-modules-in-4.ensures.1) (reads_any _ [] _ _ _ (reads_as [] fault _ _ c.in_err-modules-in-4.ensures.reads))
+
+pub returns-in_err-ranges-in-5-clause-reads : goal.returns-in_err-ranges-in-5-clause-reads
+returns-in_err-ranges-in-5-clause-reads g c =
+    let fault = c.in_err-ranges-in-5.field-0.0 in
+    rw (refused_by c.from_residual-in_err-ranges-in-5.result fault c.from_residual-in_err-ranges-in-5.ensures.1) (reads_any _ [] _ _ _ (reads_as [] fault _ _ c.in_err-ranges-in-5.ensures.reads))
+
+pub returns-in_err-exception-in-6-clause-reads : goal.returns-in_err-exception-in-6-clause-reads
+returns-in_err-exception-in-6-clause-reads g c =
+    let fault = c.in_err-exception-in-6.field-0.0 in
+    rw (refused_by c.from_residual-in_err-exception-in-6.result fault c.from_residual-in_err-exception-in-6.ensures.1) (reads_any _ [] _ _ _ (reads_as [] fault _ _ c.in_err-exception-in-6.ensures.reads))
+
+pub returns-in_err-system-in-7-clause-reads : goal.returns-in_err-system-in-7-clause-reads
+returns-in_err-system-in-7-clause-reads g c =
+    let fault = c.in_err-system-in-7.field-0.0 in
+    rw (refused_by c.from_residual-in_err-system-in-7.result fault c.from_residual-in_err-system-in-7.ensures.1) (reads_any _ [] _ _ _ (reads_as [] fault _ _ c.in_err-system-in-7.ensures.reads))
+
+pub returns-in_err-ranges-in-9-clause-reads : goal.returns-in_err-ranges-in-9-clause-reads
+returns-in_err-ranges-in-9-clause-reads g c =
+    let fault = c.in_err-ranges-in-9.field-0.0 in
+    rw (refused_by c.from_residual-in_err-ranges-in-9.result fault c.from_residual-in_err-ranges-in-9.ensures.1) (reads_any _ [] _ _ _ (reads_as [] fault _ _ c.in_err-ranges-in-9.ensures.reads))
+
+pub returns-in_err-modules-in-14-clause-reads : goal.returns-in_err-modules-in-14-clause-reads
+returns-in_err-modules-in-14-clause-reads g c =
+    let fault = c.in_err-modules-in-14.field-0.0 in
+    rw (refused_by c.from_residual-in_err-modules-in-14.result fault c.from_residual-in_err-modules-in-14.ensures.1) (reads_any _ [] _ _ _ (reads_as [] fault _ _ c.in_err-modules-in-14.ensures.reads))
+
+pub returns-in_err-regions-in-16-clause-reads : goal.returns-in_err-regions-in-16-clause-reads
+returns-in_err-regions-in-16-clause-reads g c =
+    let fault = c.in_err-regions-in-16.field-0.0 in
+    rw (refused_by c.from_residual-in_err-regions-in-16.result fault c.from_residual-in_err-regions-in-16.ensures.1) (reads_any _ [] _ _ _ (reads_as [] fault _ _ c.in_err-regions-in-16.ensures.reads))
+
+pub returns-in_err-threads-in-24-clause-reads : goal.returns-in_err-threads-in-24-clause-reads
+returns-in_err-threads-in-24-clause-reads g c =
+    let fault = c.in_err-threads-in-24.field-0.0 in
+    rw (refused_by c.from_residual-in_err-threads-in-24.result fault c.from_residual-in_err-threads-in-24.ensures.1) (reads_any _ [] _ _ _ (reads_as [] fault _ _ c.in_err-threads-in-24.ensures.reads))
+
+pub returns-in_ok-next-in-0-clause-reads : goal.returns-in_ok-next-in-0-clause-reads
+returns-in_ok-next-in-0-clause-reads g c = reads_any _ _ _ _ _ (reads_done [] _ _ _ _ _ c.in_ok-next-in-0.ensures.reads)
+
+pub returns-in_ok-threads-in-3-clause-reads : goal.returns-in_ok-threads-in-3-clause-reads
+returns-in_ok-threads-in-3-clause-reads g c = reads_any _ _ _ _ _ (reads_done [] _ _ _ _ _ c.in_ok-threads-in-3.ensures.reads)
+
+pub returns-in_ok-modules-in-4-clause-reads : goal.returns-in_ok-modules-in-4-clause-reads
+returns-in_ok-modules-in-4-clause-reads g c = reads_any _ _ _ _ _ (reads_done [] _ _ _ _ _ c.in_ok-modules-in-4.ensures.reads)
+
+pub returns-in_ok-ranges-in-5-clause-reads : goal.returns-in_ok-ranges-in-5-clause-reads
+returns-in_ok-ranges-in-5-clause-reads g c = reads_any _ _ _ _ _ (reads_done [] _ _ _ _ _ c.in_ok-ranges-in-5.ensures.reads)
+
+pub returns-in_ok-exception-in-6-clause-reads : goal.returns-in_ok-exception-in-6-clause-reads
+returns-in_ok-exception-in-6-clause-reads g c = reads_any _ _ _ _ _ (reads_done [] _ _ _ _ _ c.in_ok-exception-in-6.ensures.reads)
+
+pub returns-in_ok-system-in-7-clause-reads : goal.returns-in_ok-system-in-7-clause-reads
+returns-in_ok-system-in-7-clause-reads g c = reads_any _ _ _ _ _ (reads_done [] _ _ _ _ _ c.in_ok-system-in-7.ensures.reads)
+
+pub returns-in_ok-ranges-in-9-clause-reads : goal.returns-in_ok-ranges-in-9-clause-reads
+returns-in_ok-ranges-in-9-clause-reads g c = reads_any _ _ _ _ _ (reads_done [] _ _ _ _ _ c.in_ok-ranges-in-9.ensures.reads)
+
+pub returns-in_ok-modules-in-14-clause-reads : goal.returns-in_ok-modules-in-14-clause-reads
+returns-in_ok-modules-in-14-clause-reads g c = reads_any _ _ _ _ _ (reads_done [] _ _ _ _ _ c.in_ok-modules-in-14.ensures.reads)
+
+pub returns-in_ok-regions-in-16-clause-reads : goal.returns-in_ok-regions-in-16-clause-reads
+returns-in_ok-regions-in-16-clause-reads g c = reads_any _ _ _ _ _ (reads_done [] _ _ _ _ _ c.in_ok-regions-in-16.ensures.reads)
+
+pub returns-in_ok-threads-in-24-clause-reads : goal.returns-in_ok-threads-in-24-clause-reads
+returns-in_ok-threads-in-24-clause-reads g c = reads_any _ _ _ _ _ (reads_done [] _ _ _ _ _ c.in_ok-threads-in-24.ensures.reads)

@@ -1,7 +1,9 @@
-use Rattle.std.proofs.Common.{Err, Ok, refl}
+use Rattle.std.proofs.Common.{Err, Ok, [], refl}
+use Rattle.mdmp_dump.specs.declared.fault.ReadFault.TheVariants.{Memory}
 use Rattle.mdmp_dump.proofs.Keeping.{keeps_memory, keeps_then}
-use Rattle.mdmp_dump.proofs.Walked.{all_read, awaited_going, fewer_left, given_before, given_going, more_read, more_refused, never_none, none_read, none_refused, none_refused_behind, stream_untaken}
+use Rattle.mdmp_dump.proofs.Walked.{all_read, awaited_going, fewer_left, given_before, given_going, more_read, more_refused, never_none, none_behind, none_read, none_refused, none_refused_behind, stream_untaken}
 use Rattle.mdmp_dump.proofs.Taking.{FetchesSome_then, Fetches_as, Fetches_memory, fetches_err, refused_by}
+use Rattle.mdmp_dump.proofs.ItemsRead.{parts_fail, parts_none, reads_as, reads_done, reads_memory, steps_sized, stream_in_turn}
 use Rattle.mdmp_dump.proofs.read.read_streams.Goals as goal
 
 pub returns-in_err-next-clause-fetches : goal.returns-in_err-next-clause-fetches
@@ -22,6 +24,7 @@ loop-next-init g c =
     rw c.in-Ok.ensures.items (record {
       fetches = r.ensures.fetches.fetches;
       keeps = r.ensures.keeps;
+      reads = reads_done [] _ _ tt _ _ r.ensures.reads;
       awaited = awaited_going c.args.reader.now.lister r.next c.behind.new.self.lister r.ensures.going;
       given = given_going c.args.reader.now.lister r.next c.behind.new.self.lister r.ensures.going;
       of_file = none_read c.args.reader.now c.behind.new.self (Ok r.next) r.ensures.gives r.next refl;
@@ -58,6 +61,8 @@ loop-next-preserved-in-Ok-push g c =
     rw c.in-Ok-push.ensures.items (record {
       fetches = FetchesSome_then c.args.reader.now.lister.source mid.lister.source new.lister.source so_far.fetches r.ensures.fetches.fetches;
       keeps = keeps_then c.args.reader.now mid new so_far.keeps r.ensures.keeps;
+      reads = reads_done [] _ _ tt _ _
+          (steps_sized [] _ r.behind _ _ _ _ so_far.fetches.fetches.same_size (stream_in_turn tt c.in-Some.item _ _ mid.lister _ _ so_far.awaited.0 so_far.fetches.fetches.same_size so_far.reads r.ensures.reads));
       awaited = awaited_going mid.lister r.behind new.lister r.ensures.going;
       given = given_before c.args.reader.now mid new r.behind so_far.keeps r.ensures.going;
       of_file = λ file limit xs known left.
@@ -76,6 +81,8 @@ loop-next-preserved g c =
     record {
       fetches = FetchesSome_then c.args.reader.now.lister.source mid.lister.source new.lister.source so_far.fetches r.ensures.fetches.fetches;
       keeps = keeps_then c.args.reader.now mid new so_far.keeps r.ensures.keeps;
+      reads = reads_done [] _ _ tt _ _
+          (steps_sized [] _ r.behind _ _ _ _ so_far.fetches.fetches.same_size (stream_in_turn tt c.in-Some.item _ _ mid.lister _ _ so_far.awaited.0 so_far.fetches.fetches.same_size so_far.reads r.ensures.reads));
       awaited = awaited_going mid.lister r.behind new.lister r.ensures.going;
       given = given_before c.args.reader.now mid new r.behind so_far.keeps r.ensures.going;
       of_file = λ file limit xs known left.
@@ -108,3 +115,35 @@ pub returns-in-Err-clause-keeps : goal.returns-in-Err-clause-keeps
 returns-in-Err-clause-keeps g c =
     keeps_memory c.args.reader.now c.read_stream.new.reader
     (keeps_then c.args.reader.now c.loop-next.reader c.read_stream.new.reader c.loop-next.invariant.keeps c.in_ok-stream.ensures.keeps)
+
+pub returns-in_err-next-clause-reads : goal.returns-in_err-next-clause-reads
+returns-in_err-next-clause-reads g c =
+    let r = c.in_err-next in
+    let is = refused_by c.from_residual.result r.field-0.0 c.from_residual.ensures.1 in
+    rw is (reads_as [] r.field-0.0 _ _ r.ensures.reads)
+
+pub returns-in_err-stream-clause-reads : goal.returns-in_err-stream-clause-reads
+returns-in_err-stream-clause-reads g c =
+    let r = c.in_err-stream in
+    let is = refused_by c.from_residual-in_err-stream.result r.field-0.0 c.from_residual-in_err-stream.ensures.1 in
+    let so_far = rw c.in-Some.is at c.loop-next.invariant in
+    rw is (reads_as [] r.field-0.0 _ _ (stream_in_turn tt c.in-Some.item _ _ c.loop-next.reader.lister _ [] so_far.awaited.0 so_far.fetches.fetches.same_size so_far.reads r.ensures.reads))
+
+pub returns-in-Err-clause-reads : goal.returns-in-Err-clause-reads
+returns-in-Err-clause-reads g c =
+    let r = c.in_ok-stream in
+    let so_far = rw c.in-Some.is at c.loop-next.invariant in
+    reads_memory [] _ _ _ _ (stream_in_turn tt c.in-Some.item _ _ c.loop-next.reader.lister _ _ so_far.awaited.0 so_far.fetches.fetches.same_size so_far.reads r.ensures.reads)
+
+pub returns-clause-reads : goal.returns-clause-reads
+returns-clause-reads g c =
+    let all = rw c.in_default-next.is at c.loop-next.invariant in
+    reads_done [] [] tt _ _ _ all.reads
+
+pub returns-clause-whole : goal.returns-clause-whole
+returns-clause-whole g c =
+    let all = rw c.in_default-next.is at c.loop-next.invariant in
+    λ file limit xs known left. none_behind file limit xs c.args.reader.now c.loop-next.streams.items c.loop-next.reader (all.of_file file limit xs known left)
+
+pub returns-in_default-clause-reads : goal.returns-in_default-clause-reads
+returns-in_default-clause-reads g c = parts_fail [] Memory _ _ (λ is. is) (parts_none [] c.args.reader.now.lister)

@@ -6,7 +6,8 @@ use Rattle.mdmp_lister.proofs.Refusals.{open_refusal}
 use Rattle.mdmp_dump.specs.EntryWalk.{IsOpenedWalk}
 use Rattle.mdmp_dump.specs.FileView.{IsShortAt}
 use Rattle.mdmp_dump.specs.Opening.{FetchesWithin, TellsOpeningEnd, copy_fault, copy_held, opening_bound}
-use Rattle.mdmp_dump.specs.Reading.{Fetches, refusal_of}
+use Rattle.mdmp_dump.specs.Reading.{Fetches}
+use Rattle.mdmp_dump.specs.Refusal.{refusal_of}
 use Rattle.mdmp_dump.specs.Walking.{state_of}
 use Rattle.mdmp_dump.proofs.EntryWalks.{lifted_fetched, lifted_header, lifted_opened, lifted_stands, walker_within}
 use Rattle.mdmp_dump.proofs.Opened.{copied_bare, copied_good, copied_none, copied_open, copied_refusal, copied_unread, copy_within, directory-settles, kept_fetches, limited, opening-fetches, opening_ends, opening_short, tells_none, tells_of, wants_bare}

@@ -5,6 +5,9 @@ use Rattle.mdmp_dump.specs.Left.{left_from}
 use Rattle.mdmp_dump.proofs.Keeping.{keeps_found, keeps_next, keeps_refused}
 use Rattle.mdmp_dump.proofs.Settled.{end-given, fault-owed, found-given, found_first, found_going, read_kind}
 use Rattle.mdmp_dump.proofs.Taking.{Fetches_found, Fetches_listed}
+use Rattle.mdmp_dump.proofs.ItemsRead.{reads_end, reads_fault, reads_found}
+use Rattle.mdmp_lister.proofs.Requested.{item_requested}
+use Rattle.mdmp_lister.specs.ItemRead.{item_read}
 use Rattle.mdmp_dump.proofs.reader.Reader.find.Goals as goal
 
 pub returns-in-Err-clause-of_file : goal.returns-in-Err-clause-of_file
@@ -60,3 +63,18 @@ returns-in-Ok-None-clause-keeps g c =
 pub returns-in-Ok-Some-clause-keeps : goal.returns-in-Ok-Some-clause-keeps
 returns-in-Ok-Some-clause-keeps g c =
     keeps_found c.in-Ok-Some.item c.args.self.now _ (keeps_next c.args.self.now _ refl c.requires _ c.next_read.follows.holds-at-none.leaves) c.found.result c.found.ensures
+
+pub returns-in-Err-clause-reads : goal.returns-in-Err-clause-reads
+returns-in-Err-clause-reads g c = reads_fault _ _ c.in-Err.fault (record { leaves = rw c.in-Err.is at c.next_read.follows.holds-at-none.leaves; gives = c.in-Err.ensures.gives })
+
+pub returns-in-Ok-None-clause-reads : goal.returns-in-Ok-None-clause-reads
+returns-in-Ok-None-clause-reads g c =
+    let r = c.in-Ok-None in
+    reads_end _ _ _ (record { leaves = rw (r.is, r.field-0-is) at c.next_read.follows.holds-at-none.leaves; gives = λ left known. rw r.field-0-is at (r.ensures.gives left known) })
+
+pub returns-in-Ok-Some-clause-reads : goal.returns-in-Ok-Some-clause-reads
+returns-in-Ok-Some-clause-reads g c =
+    let r = c.in-Ok-Some in
+    let leaves = rw (r.is, r.field-0-is) at c.next_read.follows.holds-at-none.leaves in
+    let given = item_requested c.args.self.now.lister (item_read c.args.self.now.lister.source.size r.item) _ leaves (λ run left. rw r.field-0-is at (r.ensures.gives run left)) in
+    reads_found c.args.self.now.lister _ r.item given c.found.result c.found.ensures

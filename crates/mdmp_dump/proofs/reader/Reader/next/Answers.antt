@@ -1,7 +1,8 @@
-use Rattle.std.proofs.Common.{◌≡◌, ◌∙◌, length, sym}
+use Rattle.std.proofs.Common.{[], length, sym, ◌∙◌, ◌≡◌}
 use Rattle.mdmp_dump.proofs.Keeping.{keeps_then}
 use Rattle.mdmp_dump.proofs.Settled.{parts-read, parts_untaken, row-read, row-refused}
 use Rattle.mdmp_dump.proofs.Taking.{Fetches_as, fetches_err, fetches_ok, refused_by}
+use Rattle.mdmp_dump.proofs.ItemsRead.{reads_as, reads_done, reads_record}
 use Rattle.mdmp_dump.proofs.reader.Reader.next.Goals as goal
 
 pub returns-in_err-parts-in-Record-clause-fetches : goal.returns-in_err-parts-in-Record-clause-fetches
@@ -82,3 +83,35 @@ returns-in-Record-clause-of_file g c = λ file limit x k xs known left kind curr
     let at = parts-read file limit x k xs g.T.Row.kind g.T.Row.IsAt _ c.find.new.self c.in-Record.read c.in-Record.name found.0 found.1 sized c.parts.new.self r.parts (r.ensures.of_file file (first.same_content ∙ known)) r.ensures.name in
     let stands = rw c.in-None.is at (c.of.ensures file x.entry.location.rva k _ at) in
     absurd stands
+
+pub returns-in_err-read-clause-reads : goal.returns-in_err-read-clause-reads
+returns-in_err-read-clause-reads g c =
+    let fault = c.in_err-read.field-0.0 in
+    let is = refused_by c.from_residual.result fault c.from_residual.ensures.1 in
+    rw is (reads_as [] fault _ _ c.in_err-read.ensures.reads)
+
+pub returns-in_err-parts-in-Record-clause-reads : goal.returns-in_err-parts-in-Record-clause-reads
+returns-in_err-parts-in-Record-clause-reads g c =
+    let fault = c.in_err-parts-in-Record.field-0.0 in
+    let is = refused_by c.from_residual-in_err-parts-in-Record.result fault c.from_residual-in_err-parts-in-Record.ensures.1 in
+    let found = c.in_ok-read.ensures in
+    let going = rw c.in-Record.is at found.going in
+    rw is (reads_as [] fault _ _
+    (reads_record _ c.in-Record.read _ c.args.self.now c.find.new.self c.parts.new.self going.0.0 found.fetches.fetches.fetches.same_size (rw c.in-Record.is at found.reads) c.in_err-parts-in-Record.ensures.takes))
+
+pub returns-in-Some-clause-reads : goal.returns-in-Some-clause-reads
+returns-in-Some-clause-reads g c =
+    let found = c.in_ok-read.ensures in
+    let going = rw c.in-Record.is at found.going in
+    reads_done [] [] _ _ _ _
+    (reads_record _ c.in-Record.read _ c.args.self.now c.find.new.self c.parts.new.self going.0.0 found.fetches.fetches.fetches.same_size (rw c.in-Record.is at found.reads) c.in_ok-parts-in-Record.ensures.takes)
+
+pub returns-in-Record-clause-reads : goal.returns-in-Record-clause-reads
+returns-in-Record-clause-reads g c =
+    let found = c.in_ok-read.ensures in
+    let going = rw c.in-Record.is at found.going in
+    reads_done [] [] _ _ _ _
+    (reads_record _ c.in-Record.read _ c.args.self.now c.find.new.self c.parts.new.self going.0.0 found.fetches.fetches.fetches.same_size (rw c.in-Record.is at found.reads) c.in_ok-parts-in-Record.ensures.takes)
+
+pub returns-clause-reads : goal.returns-clause-reads
+returns-clause-reads g c = reads_done [] _ _ _ _ _ (rw c.in-Behind.is at c.in_ok-read.ensures.reads)

@@ -1,9 +1,10 @@
-use Rattle.std.proofs.Common.{◌≡◌, ◌∙◌, ◌+◌, ◌∷◌, [], ◌++◌, ℕ, length, length-append, Some, ap, arith, subst, sym}
+use Rattle.std.proofs.Common.{Some, [], ap, arith, length, length-append, refl, subst, sym, ℕ, ◌++◌, ◌+◌, ◌∙◌, ◌∷◌, ◌≡◌}
 use Rattle.mdmp_wire.specs.declared.entry.Entry.{Entry}
 use Rattle.mdmp_dump.specs.Left.{left_from}
-use Rattle.mdmp_dump.proofs.Keeping.{keeps_err, keeps_memory, keeps_then}
-use Rattle.mdmp_dump.proofs.Settled.{going_before, rows-all, rows-more}
-use Rattle.mdmp_dump.proofs.Taking.{FetchesSome_then, Fetches_memory, fetches_err, fetches_ok, refused_by}
+use Rattle.mdmp_dump.proofs.Keeping.{keeps_err, keeps_memory, keeps_none, keeps_then}
+use Rattle.mdmp_dump.proofs.Settled.{going_before, rows-all, rows-more, rows-none}
+use Rattle.mdmp_dump.proofs.Taking.{FetchesSome_none, FetchesSome_then, Fetches_memory, fetches_err, fetches_ok, refused_by}
+use Rattle.mdmp_dump.proofs.ItemsRead.{parts_none, reads_as, reads_done, reads_memory, reads_parts, reads_then, steps_sized}
 use Rattle.mdmp_dump.proofs.reader.Reader.rows.Goals as goal
 
 pub returns-in_err-row-clause-fetches : goal.returns-in_err-row-clause-fetches
@@ -25,6 +26,7 @@ loop-rows-preserved g c =
       current = going.1 ∙ before.current;
       fetches = FetchesSome_then c.args.self.now.lister.source c.loop-rows.self.lister.source c.next.new.self.lister.source before.fetches c.in_ok-row.ensures.fetches.fetches;
       keeps = keeps_then c.args.self.now c.loop-rows.self c.next.new.self before.keeps c.in_ok-row.ensures.keeps;
+      reads = reads_done [] [] _ tt _ _ (reads_then [] [] [] tt _ _ c.loop-rows.self.lister _ before.going before.reads (rw c.in-Row.is at c.in_ok-row.ensures.reads));
       rests = omega (arith, before.rests, going.0.1);
       of_file = λ file limit x xs known left kind current.
           let so_far = before.of_file file limit x xs known left kind current in
@@ -84,3 +86,32 @@ returns-in-Behind-clause-going g c =
     let before = c.loop-rows.invariant in
     let going = rw c.in-Behind.is at c.in_ok-row.ensures.going in
     going_before c.args.self.now.lister c.loop-rows.self.lister c.in-Behind.next c.next.new.self.lister before.rests before.keeps.left going
+
+pub loop-rows-init : goal.loop-rows-init
+loop-rows-init g c = rw c.new-rows.ensures.items (record {
+  going = c.requires;
+  fetches = FetchesSome_none c.args.self.now.lister.source;
+  keeps = keeps_none c.args.self.now;
+  reads = reads_parts [] [] tt _ _ (parts_none [] c.args.self.now.lister);
+  current = refl;
+  rests = omega arith;
+  of_file = λ file limit x xs known left kind current. (left, (rows-none file x g.T.Row.kind (g.T.Row.IsAt file x.entry.location.rva), refl));
+})
+
+pub returns-in_err-row-clause-reads : goal.returns-in_err-row-clause-reads
+returns-in_err-row-clause-reads g c =
+    let before = c.loop-rows.invariant in
+    let fault = c.in_err-row.field-0.0 in
+    let is = refused_by c.from_residual.result fault c.from_residual.ensures.1 in
+    rw is (reads_as [] fault _ _ (reads_then [] [] [] tt _ _ c.loop-rows.self.lister _ before.going before.reads c.in_err-row.ensures.reads))
+
+pub returns-in-Err-clause-reads : goal.returns-in-Err-clause-reads
+returns-in-Err-clause-reads g c =
+    let before = c.loop-rows.invariant in
+    reads_memory [] [] _ _ _ (reads_then [] [] [] tt _ _ c.loop-rows.self.lister _ before.going before.reads (rw c.in-Row.is at c.in_ok-row.ensures.reads))
+
+pub returns-in-Behind-clause-reads : goal.returns-in-Behind-clause-reads
+returns-in-Behind-clause-reads g c =
+    let before = c.loop-rows.invariant in
+    let all = reads_then [] [] _ tt _ _ c.loop-rows.self.lister _ before.going before.reads (rw c.in-Behind.is at c.in_ok-row.ensures.reads) in
+    reads_done [] _ _ _ _ _ (steps_sized [] _ c.in-Behind.next _ _ _ _ before.fetches.fetches.same_size all)

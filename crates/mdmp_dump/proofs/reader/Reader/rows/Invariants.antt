@@ -1,7 +1,8 @@
-use Rattle.std.proofs.Common.{◌≡◌, ◌≤◌, ℕ, List, length, Some, None}
+use Rattle.std.proofs.Common.{◌≡◌, ◌≤◌, ℕ, List, [], length, Ok, Some, None}
 use Rattle.mdmp_source.specs.Source.{FetchesSome}
 use Rattle.mdmp_lister.specs.Format.Kind.{kind_of}
 use Rattle.mdmp_lister.specs.Format.Listing.{Numbered}
+use Rattle.mdmp_dump.specs.ItemsRead.{ReadsInTurn}
 use Rattle.mdmp_dump.specs.Keeping.{KeepsOn}
 use Rattle.mdmp_dump.specs.Left.{left_from}
 use Rattle.mdmp_dump.specs.Reading.{AreRows, IsOfType, owed}
@@ -13,6 +14,7 @@ invariant-loop-rows g l = record {
   going : l.self.lister.stop ≡ None;
   fetches : FetchesSome l.initial.self.lister.source l.self.lister.source;
   keeps : KeepsOn l.initial.self l.self;
+  reads : ReadsInTurn {T = Unit {0}} [] (Ok tt) [] l.initial.self.lister l.self.lister;
   current : l.self.lister.current ≡ l.initial.self.lister.current;
   rests : l.self.lister.work ≤ l.initial.self.lister.work;
   of_file : (file : List ℕ) (limit : ℕ) (x : Numbered) (xs : List Numbered) → l.initial.self.lister.source.store.content ≡ Some file

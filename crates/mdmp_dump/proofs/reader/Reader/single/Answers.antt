@@ -1,7 +1,8 @@
-use Rattle.std.proofs.Common.{◌∙◌, arith, refl}
+use Rattle.std.proofs.Common.{[], arith, refl, ◌∙◌}
 use Rattle.mdmp_dump.proofs.Keeping.{keeps_err, keeps_then}
 use Rattle.mdmp_dump.proofs.Settled.{behind-given, going_before, no-row-after-one, one-read}
 use Rattle.mdmp_dump.proofs.Taking.{Fetches_as, fetches_err, fetches_ok, refused_by}
+use Rattle.mdmp_dump.proofs.ItemsRead.{reads_as, reads_done, reads_then, steps_sized}
 use Rattle.mdmp_dump.proofs.reader.Reader.single.Goals as goal
 
 pub returns-in_err-behind-in-Row-clause-fetches : goal.returns-in_err-behind-in-Row-clause-fetches
@@ -66,3 +67,27 @@ pub returns-in_ok-behind-in-Row-clause-going : goal.returns-in_ok-behind-in-Row-
 returns-in_ok-behind-in-Row-clause-going g c =
     let first = rw c.in-Row.is at c.in_ok-row.ensures.going in
     going_before c.args.self.now.lister c.next.new.self.lister c.in_ok-behind-in-Row.field-0 c.behind.new.self.lister (omega (arith, first.0.1)) c.in_ok-row.ensures.keeps.left c.in_ok-behind-in-Row.ensures.going
+
+pub returns-in_err-row-clause-reads : goal.returns-in_err-row-clause-reads
+returns-in_err-row-clause-reads g c =
+    let fault = c.in_err-row.field-0.0 in
+    let is = refused_by c.from_residual.result fault c.from_residual.ensures.1 in
+    rw is (reads_as [] fault _ _ c.in_err-row.ensures.reads)
+
+pub returns-in_err-behind-in-Row-clause-reads : goal.returns-in_err-behind-in-Row-clause-reads
+returns-in_err-behind-in-Row-clause-reads g c =
+    let fault = c.in_err-behind-in-Row.field-0.0 in
+    let is = refused_by c.from_residual-in_err-behind-in-Row.result fault c.from_residual-in_err-behind-in-Row.ensures.1 in
+    let first = rw c.in-Row.is at c.in_ok-row.ensures.reads in
+    let going = rw c.in-Row.is at c.in_ok-row.ensures.going in
+    rw is (reads_as [] fault _ _ (reads_then [] [] [] _ _ _ c.next.new.self.lister _ going.0.0 first c.in_err-behind-in-Row.ensures.reads))
+
+pub returns-in_ok-behind-in-Row-clause-reads : goal.returns-in_ok-behind-in-Row-clause-reads
+returns-in_ok-behind-in-Row-clause-reads g c =
+    let first = rw c.in-Row.is at c.in_ok-row.ensures.reads in
+    let going = rw c.in-Row.is at c.in_ok-row.ensures.going in
+    let all = reads_then [] [] _ _ _ _ c.next.new.self.lister _ going.0.0 first c.in_ok-behind-in-Row.ensures.reads in
+    reads_done [] _ _ _ _ _ (steps_sized [] _ c.in_ok-behind-in-Row.field-0 _ _ _ _ c.in_ok-row.ensures.fetches.fetches.fetches.same_size all)
+
+pub returns-in-Behind-clause-reads : goal.returns-in-Behind-clause-reads
+returns-in-Behind-clause-reads g c = reads_done [] _ _ _ _ _ (rw c.in-Behind.is at c.in_ok-row.ensures.reads)
