@@ -132,20 +132,28 @@ static void test_held(const filler *tried, blob file, uint8_t *out, size_t room)
     ASSERT(heap.total <= LIMITS.window + 12 * (uint64_t)header.number_of_streams + 24 * ranges + LIMITS.name);
 }
 
-/* A window that is far larger than the file is taken whole, and touched no further than it is filled. */
-static void test_touched(blob file) {
-    mdmp_limits wide = LIMITS;
+/* A buffer of 1 GiB is taken whole, and of a file that is far smaller no more is touched than the file fills. */
+static void assert_touched(blob file, const mdmp_limits *wide) {
     struct rusage before, after;
     mdmp_fault fault;
     uint64_t count;
-    wide.window = 1 << 30;
     heap.largest = 0;
     ASSERT(getrusage(RUSAGE_SELF, &before) == 0);
-    ASSERT(mdmp_modules(file.bytes, file.size, &wide, NULL, 0, &count, &fault) != MDMP_BAD_ARGUMENT);
+    ASSERT(mdmp_modules(file.bytes, file.size, wide, NULL, 0, &count, &fault) != MDMP_BAD_ARGUMENT);
     ASSERT(getrusage(RUSAGE_SELF, &after) == 0);
     ASSERT(file.size == 32 || heap.largest == 1 << 30);
     /* of 1,048,576 KiB, an eighth of which may be touched by a sanitizer */
     ASSERT(after.ru_maxrss - before.ru_maxrss < 256 * 1024);
+}
+
+/* A window that is far larger than the file, and then the buffer of names. */
+static void test_touched(blob file) {
+    mdmp_limits wide = LIMITS;
+    wide.window = 1 << 30;
+    assert_touched(file, &wide);
+    wide.window = LIMITS.window;
+    wide.name = 1 << 30;
+    assert_touched(file, &wide);
 }
 
 /* A list takes no memory for text that the buffer has no room for: what is held is the same, however long the text is. */

@@ -25,7 +25,7 @@ use Rattle.mdmp_lister.proofs.Fetches.{IsCaused_later}
 use Rattle.mdmp_lister.proofs.Heads.{heads_few}
 use Rattle.mdmp_lister.proofs.Refusals.{IsHandedBack-begun}
 use Rattle.mdmp_lister.proofs.Summary.{begins_as, summary_of-plain}
-use Rattle.mdmp_lister.specs.Walk.{CountsRanges, IsNewWalk, SameRoom}
+use Rattle.mdmp_lister.specs.Walk.{CountsRanges, IsNewWalk, SameRoom, held_beside}
 
 -- what is left now follows from what was left, of each file
 pub option_map-then : (old new : List ℕ → Run) (f : Run → Run) (content : Option (List ℕ)) → ((file : List ℕ) → content ≡ Some file → new file ≡ f (old file))
@@ -55,10 +55,10 @@ current_after-plain x e = ap (λ (s : Summary). entry_begun s.stream e) (summary
 -- what a lister has room for stays where no list of its walk is longer or shorter
 module _ {S A : Type 0} where
   abbrev rooms_of : Walk S A → ℕ → Rooms
-  rooms_of w room = record { entries = vec_capacity w.entries; window = w.window.room; ranges = room }
+  rooms_of w room = record { entries = vec_capacity w.entries; window = w.window.room; ranges = room; held = held_beside room w }
 
   pub same_rooms : (old new : Walk S A) (room : ℕ) → SameRoom old new → rooms_of new room ≡ rooms_of old room
-  same_rooms old new room same = rw (same.entries, same.window) refl
+  same_rooms old new room same = rw (same.entries, same.window, same.name) refl
 
   pub same_entries : (old new : Walk S A) → SameRoom old new → new.entries.items ≡ old.entries.items
   same_entries old new same = rw same.entries refl

@@ -20,10 +20,11 @@ use Rattle.mdmp_lister.specs.Walk.{IsSound, left_of, left_of_entry}
 abbrev pub viewed : {T : Type 0} {x y : T} → x ≡ y → T
 viewed {T} {x} {y} same = x
 
-pub state_aside : (old new : ListerState) → new ≡ record old { source = new.source; counts = new.counts; limit = new.limit; left = new.left; unread = new.unread } → new.limit ≡ old.limit → new.left ≡ old.left → new.unread ≡ old.unread
-    → new ≡ record old { source = new.source; counts = new.counts }
-state_aside old new is limit left unread =
-    is ∙ ap (λ n. record old { source = new.source; counts = new.counts; limit = n; left = new.left; unread = new.unread }) limit
+pub state_aside : (old new : ListerState) → new ≡ record old { source = new.source; counts = new.counts; limit = new.limit; rooms = new.rooms; left = new.left; unread = new.unread } → new.limit ≡ old.limit → new.rooms ≡ old.rooms
+    → new.left ≡ old.left → new.unread ≡ old.unread → new ≡ record old { source = new.source; counts = new.counts }
+state_aside old new is limit rooms left unread =
+    is ∙ ap (λ n. record old { source = new.source; counts = new.counts; limit = n; rooms = new.rooms; left = new.left; unread = new.unread }) limit
+    ∙ ap (λ r. record old { source = new.source; counts = new.counts; rooms = r; left = new.left; unread = new.unread }) rooms
     ∙ ap (λ run. record old { source = new.source; counts = new.counts; left = run; unread = new.unread }) left
     ∙ ap (λ n. record old { source = new.source; counts = new.counts; unread = n }) unread
 

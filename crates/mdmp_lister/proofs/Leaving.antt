@@ -16,7 +16,7 @@ use Rattle.mdmp_lister.specs.Meter.{counts_of}
 use Rattle.mdmp_lister.specs.Following.{records_by}
 use Rattle.mdmp_lister.specs.Stage.{records_left_in, standing_of, stop_of}
 use Rattle.mdmp_lister.specs.Step.{IsNameHeld, step_item}
-use Rattle.mdmp_lister.specs.Walk.{IsReading, IsSound, left_of, work_of}
+use Rattle.mdmp_lister.specs.Walk.{IsReading, IsSound, held_beside, left_of, work_of}
 use Rattle.mdmp_lister.specs.Walk.Paying.{unread_bytes}
 use Rattle.mdmp_lister.specs.Walk.Requests.{Answered}
 use Rattle.mdmp_lister.proofs.Budgets.{fault_over}
@@ -38,7 +38,7 @@ module _ {S A : Type 0} where
     entries = w.entries.items;
     choice = w.choice;
     limit = w.name.limit;
-    rooms = record { entries = vec_capacity w.entries; window = w.window.room; ranges = room };
+    rooms = record { entries = vec_capacity w.entries; window = w.window.room; ranges = room; held = held_beside room w };
     passed = w.next;
     current = w.current;
     ranges = ranges;

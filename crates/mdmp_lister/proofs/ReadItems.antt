@@ -4,7 +4,6 @@ use Rattle.mdmp_lister.specs.declared.kind.StreamKind.{StreamKind}
 use Rattle.mdmp_lister.specs.declared.step.ItemRead.{ItemRead}
 use Rattle.mdmp_lister.specs.declared.step.ItemRead.TheVariants as reads
 use Rattle.mdmp_lister.specs.declared.step.Step.{Step}
-use Rattle.mdmp_lister.specs.declared.step.Step.TheVariants as step
 use Rattle.mdmp_lister.specs.Format.Item.{item_of, plain}
 use Rattle.mdmp_lister.specs.ItemRead.{IsLentOf, IsReadOf, item_read}
 use Rattle.mdmp_lister.specs.Step.{IsNameTold, IsStepHeld, step_item}

@@ -176,6 +176,7 @@ refusal_of-directory F choice size (DirectoryOutside offset len) bare of = rw of
 
 -- what a header is refused with, a walk may be
 header_refusal : (size : ℕ) (fault : OpenFault) → IsHeaderRefusal size fault → IsBareRefusal size fault
+header_refusal size Memory of = absurd of
 header_refusal size (MemoryLimit held) of = absurd of
 header_refusal size _ of = of
 

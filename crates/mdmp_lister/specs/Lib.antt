@@ -1,5 +1,6 @@
 pub mod AddressLaws
 pub mod Addressing
+pub mod Calls
 pub mod Check
 pub mod CodeView
 pub mod Costs

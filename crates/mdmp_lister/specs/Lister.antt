@@ -46,6 +46,8 @@ pub record Rooms : Type 0 where
   pub entries : ℕ
   pub window : ℕ
   pub ranges : ℕ
+  -- the bytes that all lists of all its parts have room for, with that of a name
+  pub held : ℕ
 
 pub record ListerState : Type 0 where
   -- the file is the source's content, where that is known
@@ -221,6 +223,8 @@ pub record IsNewList (source : SourceState) (choice : Choice) (limits : Limits) 
   pub read : HasReadDirectory source new
   pub asked : IsAskedFor choice limits new
   pub given : HasGivenNothing source.store.content choice limits new
+  -- its directory, its window, a name and its ranges are all that it has room for
+  pub whole : new.rooms.held ≡ room_held new
   -- what it has room for is within the limit of memory
   pub memory : is_within limits.memory (room_held new) ≡ true
 

@@ -173,6 +173,7 @@ IsBareRefusal size fault = IsOpenRefusal size fault
 
 -- nor any memory taken
 abbrev pub IsHeaderRefusal : ℕ → OpenFault → Type 0
+IsHeaderRefusal size Memory = ⊥
 IsHeaderRefusal size (MemoryLimit held) = ⊥
 IsHeaderRefusal size fault = IsBareRefusal size fault
 

@@ -7,7 +7,7 @@ pub mod Positions
 pub mod Reaching
 pub mod Requests
 pub mod Telling
-use Rattle.std.specs.Prelude.{◌≡◌, ◌≤◌, ◌<◌, ◌+◌, ◌-◌, ◌*◌, ◌^◌, ℕ, List, Option, None, Some, true, Result, Ok, Err, IfOk, vec_capacity, vec_len, max}
+use Rattle.std.specs.Prelude.{◌≡◌, ◌≤◌, ◌<◌, ◌+◌, ◌-◌, ◌*◌, ◌^◌, ℕ, List, [], Option, None, Some, true, Result, Ok, Err, IfOk, vec_capacity, vec_len, max}
 use Rattle.mdmp_source.specs.Count.{raised}
 use Rattle.mdmp_source.specs.Range.{IsInside}
 use Rattle.mdmp_source.specs.Source.{SourceState, FetchesAtMost}
@@ -98,6 +98,12 @@ stage_work (Records kind shape index offset) = shape.count - index
 stage_work stage = 0
 
 module _ {S A : Type 0} where
+  -- the bytes that all lists of a walk have room for, beside a map of so many ranges. Each part of a walk is named here, so
+  -- that no list is left out.
+  abbrev pub held_beside : ℕ → Walk S A → ℕ
+  held_beside ranges = λ record { meter = _; header = _; entries = entries; choice = _; listed = _; window = window; name = name; next = _; current = _; stage = _ }.
+      held_bound window.room name.limit (vec_capacity entries) ranges
+
   -- how many calls may still give an item, at most
   abbrev pub work_of : Walk S A → ℕ
   work_of w = (vec_len w.entries - w.next) * 2 ^ 33 + stage_work w.stage
@@ -169,6 +175,8 @@ module _ {S A : Type 0} where
     pub budget : w.meter.budget ≡ limits.budget
     pub window : w.window.room ≡ limits.window
     pub name : w.name.limit ≡ limits.name
+    -- no memory of the name's buffer was touched
+    pub unnamed : w.name.items ≡ []
     pub next : w.next ≡ 0
     pub stage : w.stage ≡ Between
     -- its lists without a map are within the limit of memory

@@ -32,6 +32,7 @@
 #![tactic(auto)]
 
 mod addressing;
+mod calls;
 mod checking;
 mod choice;
 mod codeview;

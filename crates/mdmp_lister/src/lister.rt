@@ -6,6 +6,7 @@ ghost use Rattle.mdmp_source.specs.Range.{IsInside, bytes_at};
 ghost use Rattle.mdmp_source.specs.Store.{IsGood, IsSizeOf};
 ghost use Rattle.mdmp_wire.specs.CodeView.{codeview_of};
 ghost use Rattle.mdmp_lister.specs.CodeView.{AreFetched, ReadsRecordAside, codeview_head, codeview_told, codeview_head_of};
+ghost use Rattle.mdmp_lister.specs.Calls.{TellsLacking};
 ghost use Rattle.mdmp_lister.specs.Opening.{IsRefusalOf};
 ghost use Rattle.mdmp_lister.specs.Refused.{IsRefusedLister};
 ghost use Rattle.mdmp_lister.specs.Format.Refusal.{opening_fault};
@@ -21,6 +22,7 @@ ghost use Rattle.mdmp_lister.specs.Fault.{IsOfStore, IsToldIn, IsUnobtained};
 ghost use Rattle.mdmp_lister.specs.Stage.{stop_after, stop_after_run};
 
 use crate::addressing::read_addresses;
+use crate::calls::AskedAllocator;
 use crate::checking::check_entries;
 use crate::choice::Choice;
 use crate::codeview::CodeViewBytes;
@@ -61,27 +63,28 @@ impl<S: Store + Drop, A: Allocator + Copy> Model for Lister<S, A> {
     ghost use Rattle.mdmp_lister.specs.Meter.{counts_of};
     ghost use Rattle.mdmp_lister.specs.Stage.{records_left_in, standing_of, stop_of};
     ghost use Rattle.mdmp_lister.specs.Walk.Mapping.{IsMapped};
-    ghost use Rattle.mdmp_lister.specs.Walk.{left_of, work_of};
+    ghost use Rattle.mdmp_lister.specs.Walk.{held_beside, left_of, work_of};
 
     ghost Value = { ListerState };
 
-    ghost view = { λ l. record {
-      source = l.walk.meter.source;
-      counts = counts_of l.walk.meter;
-      header = l.walk.header;
-      entries = l.walk.entries.items;
-      choice = l.walk.choice;
-      limit = l.walk.name.limit;
-      rooms = record { entries = vec_capacity l.walk.entries; window = l.walk.window.room; ranges = l.map.room };
-      passed = l.walk.next;
-      current = l.walk.current;
-      ranges = l.map.ranges;
-      left = option_map (left_of l.walk) l.walk.meter.source.store.content;
-      stop = stop_of l.walk.stage;
-      unread = unread_bytes l.walk;
-      standing = standing_of l.walk.stage;
-      records = records_left_in l.walk.stage;
-      work = work_of l.walk;
+    // Each part is named, so that a list of any other one would be counted too.
+    ghost view = { λ record { walk = walk; map = map }. record {
+      source = walk.meter.source;
+      counts = counts_of walk.meter;
+      header = walk.header;
+      entries = walk.entries.items;
+      choice = walk.choice;
+      limit = walk.name.limit;
+      rooms = record { entries = vec_capacity walk.entries; window = walk.window.room; ranges = map.room; held = held_beside map.room walk };
+      passed = walk.next;
+      current = walk.current;
+      ranges = map.ranges;
+      left = option_map (left_of walk) walk.meter.source.store.content;
+      stop = stop_of walk.stage;
+      unread = unread_bytes walk;
+      standing = standing_of walk.stage;
+      records = records_left_in walk.stage;
+      work = work_of walk;
     } };
 
     ghost invariant = { λ l. IsMapped l.walk l.map };
@@ -112,6 +115,8 @@ impl<S: Store + Drop, A: Allocator + Copy> Lister<S, A> {
         limits: Limits,
         choice: Choice,
     ) -> Result<Lister<S, A>, OpenRefused<S>>
+    where
+        A: AskedAllocator,
         ensures opens { (file : List ℕ) → source.store.content ≡ Some file
             → MatchResult result (λ _. opening_fault file choice ≡ None) (λ refused. IsRefusalOf file choice refused.fault) }
         ensures within { (file : List ℕ) → source.store.content ≡ Some file
@@ -119,6 +124,7 @@ impl<S: Store + Drop, A: Allocator + Copy> Lister<S, A> {
         ensures short { source.size < 32 → MatchResult result (λ _. ⊥) (λ refused. refused.fault ≡ OpenFault.TooShort source.size) }
         ensures new { IfOk result (IsNewLister source choice limits) }
         ensures refused { IfErr result (λ refused. IsRefusedLister choice limits source refused.fault refused.source) }
+        ensures lacks { IfErr result (λ refused. TellsLacking A.may_lack alloc limits choice source.store.content refused.fault) }
     {
         let mut walk = match Walk::open(alloc, source, limits, choice) {
             Ok(walk) => walk,
@@ -137,7 +143,7 @@ impl<S: Store + Drop, A: Allocator + Copy> Lister<S, A> {
         }
         // The proof learns here that what was fetched is within the budget.
         let _counts = walk.meter.counts();
-        match AddressMap::with_room(alloc, count as usize) {
+        match alloc.ask_map(limits, walk.header.number_of_streams, count as u64) {
             Ok(map) => Ok(Lister { walk, map }),
             Err(AllocError) => Err(refused(OpenFault::Memory, walk.meter)),
         }

@@ -22,7 +22,7 @@ impl<A: Allocator> Model for NameBuffer<A> {
 
     ghost Value = { NameBufferState };
 
-    ghost view = { λ b. record { items = b.bytes.items; limit = vec_capacity b.bytes } };
+    ghost view = { λ record { bytes = bytes }. record { items = bytes.items; limit = vec_capacity bytes } };
 }
 
 impl<A: Allocator> NameBuffer<A> {

@@ -1,5 +1,6 @@
 //! The walk over the entries of a file, without its public face.
 ghost use Rattle.std.specs.Prelude.{◌≡◌, ◌+◌, ◌*◌, ◌^◌, ◌≤◌, ◌<◌, ◌-◌, ℕ, List, None, Some, IfOk, IfErr, IfSome, MatchOption, MatchResult, length, vec_len};
+ghost use Rattle.mdmp_lister.specs.Calls.{TellsListsLacking};
 ghost use Rattle.mdmp_lister.specs.Format.Kind.{HasNoNames, kind_of};
 ghost use Rattle.mdmp_lister.specs.HeldStep.{AnswerHasItsBytes, HasItsBytes, answer_told, given_told, read_told, step_told};
 ghost use Rattle.mdmp_lister.specs.Meter.{IsBooked, IsMetered, KeepsTo, counts_of};
@@ -8,6 +9,7 @@ ghost use Rattle.mdmp_lister.specs.Opening.{IsRefused, KeepsToBudget};
 ghost use Rattle.mdmp_lister.specs.Stage.{IsUnended, StaysUnchanged, fault_stage, records_left_in};
 ghost use Rattle.mdmp_lister.specs.Walk.Owing.{ranges_ahead};
 
+use crate::calls::{AskedAllocator, WalkLists};
 use crate::choice::Choice;
 use crate::counting::count_ranges;
 use crate::counts::{Counts, listed_bytes};
@@ -25,7 +27,7 @@ use crate::stage::Stage;
 use crate::stream_head::begin_stream;
 use mdmp_source::{Location, Source, SourceFault, Store, Window};
 use mdmp_wire::{Entry, Header, Record};
-use std::alloc::Allocator;
+use std::alloc::{AllocError, Allocator};
 
 /// Stands in the place of the current entry before the first one.
 const NO_ENTRY: Entry = Entry {
@@ -66,12 +68,15 @@ impl<S: Store + Drop, A: Allocator + Copy> Walk<S, A> {
         limits: Limits,
         choice: Choice,
     ) -> Result<Self, OpenRefused<S>>
+    where
+        A: AskedAllocator,
         ensures new { IfOk result (IsNewWalk source choice limits) }
         ensures refused { IfErr result (λ refused. IsRefused source refused.fault refused.source) }
         ensures kept { IfErr result (λ refused. KeepsToBudget limits source refused.fault refused.source) }
         ensures next { IfErr result (λ refused. TellsNextOpening None limits source refused.fault refused.source) }
         ensures within { (file : List ℕ) → source.store.content ≡ Some file → MatchResult result (λ _. walk_fault limits file ≡ None) (λ refused. IsWalkRefusal limits file refused.fault) }
         ensures over { IfErr result (λ refused. TellsWalkMemory limits source refused.fault refused.source) }
+        ensures lacks { IfErr result (λ refused. TellsListsLacking A.may_lack alloc limits choice source.store.content refused.fault) }
     {
         let mut meter = Meter::new(source, limits.budget);
         let header = match read_header(&mut meter) {
@@ -82,14 +87,13 @@ impl<S: Store + Drop, A: Allocator + Copy> Walk<S, A> {
         if !limits.holds(held) {
             return Err(refused(OpenFault::MemoryLimit { held }, meter));
         }
-        let Ok(mut entries) = Vec::with_capacity(alloc, header.number_of_streams as usize) else {
-            return Err(refused(OpenFault::Memory, meter));
-        };
-        let Ok(mut window) = Window::with_room(alloc, limits.window as usize) else {
-            return Err(refused(OpenFault::Memory, meter));
-        };
-        let Ok(name) = NameBuffer::with_limit(alloc, limits.name as usize) else {
-            return Err(refused(OpenFault::Memory, meter));
+        let WalkLists {
+            mut entries,
+            mut window,
+            name,
+        } = match alloc.ask_lists(limits, header.number_of_streams) {
+            Ok(lists) => lists,
+            Err(AllocError) => return Err(refused(OpenFault::Memory, meter)),
         };
         if let Err(fault) = read_directory(&mut meter, &mut window, header, &mut entries) {
             return Err(refused(OpenFault::from(fault), meter));

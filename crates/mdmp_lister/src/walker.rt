@@ -6,6 +6,7 @@ ghost use Rattle.mdmp_source.specs.Range.{IsInside, bytes_at};
 ghost use Rattle.mdmp_source.specs.Source.{IsToldAmong};
 ghost use Rattle.mdmp_source.specs.Store.{IsGood, IsOfBytes, IsSizeOf};
 ghost use Rattle.mdmp_wire.specs.Header.{header_at};
+ghost use Rattle.mdmp_lister.specs.Calls.{TellsListsLacking};
 ghost use Rattle.mdmp_lister.specs.Costs.{begun_at};
 ghost use Rattle.mdmp_lister.specs.Counts.{AreHeld, AreOfFile, numbers_of};
 ghost use Rattle.mdmp_lister.specs.Fault.{IsAnsweredFor, IsOfStore, TellsNoChange};
@@ -21,6 +22,7 @@ ghost use Rattle.mdmp_lister.specs.Step.{IsStepOf};
 ghost use Rattle.mdmp_lister.specs.Walk.{IsSound};
 ghost use Rattle.mdmp_lister.specs.Walk.Positions.{AnsweredFrom, IsPositioned, IsWalked, mark_by, position_by};
 
+use crate::calls::AskedAllocator;
 use crate::choice::Choice;
 use crate::counts::Counts;
 use crate::fault::{ListFault, OpenFault};
@@ -57,31 +59,33 @@ impl<S: Store + Drop, A: Allocator + Copy> Model for Walker<S, A> {
     ghost use Rattle.std.specs.Prelude.{[], vec_capacity, vec_len};
     ghost use Rattle.mdmp_lister.specs.Meter.{counts_of};
     ghost use Rattle.mdmp_lister.specs.Walker.{WalkerState};
+    ghost use Rattle.mdmp_lister.specs.Walk.{held_beside};
     ghost use Rattle.mdmp_lister.specs.Walk.Positions.{IsWalked, left_in, records_at_position, standing_in, stop_in, unread_in, work_in};
 
     ghost Value = { WalkerState };
 
-    ghost view = { λ w. record {
+    // Each part is named, so that a list of any other one would be counted too.
+    ghost view = { λ record { walk = walk; position = position; mark = mark }. record {
       list = record {
-        source = w.walk.meter.source;
-        counts = counts_of w.walk.meter;
-        header = w.walk.header;
-        entries = w.walk.entries.items;
-        choice = w.walk.choice;
-        limit = w.walk.name.limit;
-        rooms = record { entries = vec_capacity w.walk.entries; window = w.walk.window.room; ranges = 0 };
-        passed = w.walk.next;
-        current = w.walk.current;
+        source = walk.meter.source;
+        counts = counts_of walk.meter;
+        header = walk.header;
+        entries = walk.entries.items;
+        choice = walk.choice;
+        limit = walk.name.limit;
+        rooms = record { entries = vec_capacity walk.entries; window = walk.window.room; ranges = 0; held = held_beside 0 walk };
+        passed = walk.next;
+        current = walk.current;
         ranges = [];
-        left = option_map (left_in w.position w.walk) w.walk.meter.source.store.content;
-        stop = stop_in w.position w.walk.stage;
-        unread = unread_in w.position w.walk;
-        standing = standing_in w.position w.walk.stage;
-        records = records_at_position w.position w.walk.stage;
-        work = work_in w.position w.walk;
+        left = option_map (left_in position walk) walk.meter.source.store.content;
+        stop = stop_in position walk.stage;
+        unread = unread_in position walk;
+        standing = standing_in position walk.stage;
+        records = records_at_position position walk.stage;
+        work = work_in position walk;
       };
-      position = w.position;
-      mark = w.mark;
+      position = position;
+      mark = mark;
     } };
 
     ghost invariant = { λ w. IsWalked w.position w.mark w.walk };
@@ -106,6 +110,8 @@ impl<S: Store + Drop, A: Allocator + Copy> Walker<S, A> {
         limits: Limits,
         choice: Choice,
     ) -> Result<Walker<S, A>, OpenRefused<S>>
+    where
+        A: AskedAllocator,
         ensures opens { (file : List ℕ) → source.store.content ≡ Some file
             → MatchResult result (λ _. directory_refusal file ≡ None) (λ refused. IsDirectoryRefusal file refused.fault) }
         ensures within { (file : List ℕ) → source.store.content ≡ Some file
@@ -113,6 +119,7 @@ impl<S: Store + Drop, A: Allocator + Copy> Walker<S, A> {
         ensures short { source.size < 32 → MatchResult result (λ _. ⊥) (λ refused. refused.fault ≡ OpenFault.TooShort source.size) }
         ensures new { IfOk result (IsNewWalker source choice limits) }
         ensures refused { IfErr result (λ refused. IsRefusedWalker limits source refused.fault refused.source) }
+        ensures lacks { IfErr result (λ refused. TellsListsLacking A.may_lack alloc limits choice source.store.content refused.fault) }
     {
         match Walk::open(alloc, source, limits, choice) {
             Ok(walk) => {

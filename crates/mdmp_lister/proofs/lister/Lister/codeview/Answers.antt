@@ -22,7 +22,7 @@ returns-in_err-read g c =
         λ _. tt,
         record {
           aside = record {
-            same = state_aside (viewed c.self.view_is) _ (rw e.same refl) e.room (codeview_left c.args.location w n _ e) (codeview_unread c.args.location w n _ e);
+            same = state_aside (viewed c.self.view_is) _ (rw e.same refl) e.room (rw (e.same, e.room) refl) (codeview_left c.args.location w n _ e) (codeview_unread c.args.location w n _ e);
             aside = books.spends;
             fetches = books.fetches;
             source_calls = books.source_calls;
@@ -57,7 +57,7 @@ returns g c =
         λ _. tt,
         record {
           aside = record {
-            same = state_aside (viewed c.self.view_is) _ (rw e.same refl) e.room (codeview_left c.args.location w n _ e) (codeview_unread c.args.location w n _ e);
+            same = state_aside (viewed c.self.view_is) _ (rw e.same refl) e.room (rw (e.same, e.room) refl) (codeview_left c.args.location w n _ e) (codeview_unread c.args.location w n _ e);
             aside = books.spends;
             fetches = books.fetches;
             source_calls = books.source_calls;

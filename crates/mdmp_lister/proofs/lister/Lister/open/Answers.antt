@@ -1,15 +1,18 @@
-use Rattle.std.proofs.Common.{◌≡◌, ◌∙◌, ◌≤◌, ◌+◌, ◌*◌, ℕ, List, None, Some, Result, Ok, Err, ap, arith, inl, inr, length, refl, rules, subst, sym, true, vec_capacity}
+use Rattle.std.proofs.Common.{◌≡◌, ◌∙◌, ◌≤◌, ◌+◌, ◌*◌, ℕ, List, None, Option, Some, Result, Ok, Err, ap, arith, inl, inr, length, refl, rules, subst, sym, true, vec_capacity}
+use Rattle.mdmp_wire.specs.declared.header.Header.{Header}
 use Rattle.mdmp_wire.specs.Header.{header_at}
 use Rattle.std.proofs.lemmas.Bool.{le-ltb, lt-ltb}
 use Rattle.mdmp_source.specs.Source.{SourceState, FetchesAtMost}
 use Rattle.mdmp_source.specs.SourceLaws.{fetches_then}
 use Rattle.mdmp_lister.specs.declared.choice.Choice.{Choice}
 use Rattle.mdmp_lister.specs.declared.fault.FetchFault.{FetchFault}
+use Rattle.mdmp_lister.specs.declared.fault.FetchFault.TheVariants as fetch
 use Rattle.mdmp_lister.specs.declared.fault.OpenFault.{OpenFault}
 use Rattle.mdmp_lister.specs.declared.fault.OpenFault.TheVariants.{Memory, MemoryLimit, TooManyRanges}
 use Rattle.mdmp_lister.specs.declared.limits.Limits.{Limits}
 use Rattle.mdmp_lister.specs.declared.stage.Stage.TheVariants.{Between}
 use Rattle.mdmp_lister.specs.declared.walk.Walk.{Walk}
+use Rattle.mdmp_lister.specs.Calls.{AskedRoom, ForMap, ForWalk, TellsLacking, TellsListsLacking}
 use Rattle.mdmp_lister.specs.Fault.{IsCaused}
 use Rattle.mdmp_lister.specs.Format.Bounds.{held_bound}
 use Rattle.mdmp_lister.specs.Format.Numbers.{range_count}
@@ -42,13 +45,13 @@ returns-then-count-gt-MOST_RANGES-clause-opens g c = λ file known.
     let is : count ≡ range_count file c.args.choice = c.in-Ok-count_ranges.ensures.count file (new.spends.fetches.same_content ∙ known) ∙ ap (range_count file) new.choice_is in
     rw (c.refused-then-count-gt-MOST_RANGES.ensures.made, new.reads.opens file known, ← is, lt-ltb most_ranges count (omega arith)) refl
 
-pub returns-in-Ok-with_room-clause-opens : goal.returns-in-Ok-with_room-clause-opens
-returns-in-Ok-with_room-clause-opens g c = λ file known.
+pub returns-in-Ok-ask_map-clause-opens : goal.returns-in-Ok-ask_map-clause-opens
+returns-in-Ok-ask_map-clause-opens g c = λ file known.
     let new = c.in-Ok.ensures.new in
     few_ranges file c.args.choice c.in-Ok-count_ranges.count (new.reads.opens file known) (c.in-Ok-count_ranges.ensures.count file (new.spends.fetches.same_content ∙ known) ∙ ap (range_count file) new.choice_is) (omega arith)
 
-pub returns-in-Ok-with_room-clause-new : goal.returns-in-Ok-with_room-clause-new
-returns-in-Ok-with_room-clause-new g c =
+pub returns-in-Ok-ask_map-clause-new : goal.returns-in-Ok-ask_map-clause-new
+returns-in-Ok-ask_map-clause-new g c =
     let new = c.in-Ok.ensures.new in
     let counts = c.in-Ok-count_ranges.ensures in
     let books = counts.books in
@@ -56,7 +59,7 @@ returns-in-Ok-with_room-clause-new g c =
     let w = c.in-Ok.walk in
     let heads : heads_ahead w.choice w.meter.source.size w.entries.items ≡ heads_ahead c.args.choice c.args.source.size w.entries.items =
     ap (λ (c : Choice). heads_ahead c w.meter.source.size w.entries.items) new.choice_is ∙ ap (λ z. heads_ahead c.args.choice z w.entries.items) new.spends.fetches.same_size in
-    let free : c.in-Ok-with_room.map.room ≡ c.in-Ok-count_ranges.count = search rules in
+    let free : c.in-Ok-ask_map.map.room ≡ c.in-Ok-count_ranges.count = search rules in
     let n = c.count_ranges.new.self in
     let ok = n.entries.ok.0 in
     let all : n.meter.fetched ≡ 32 + 12 * length n.entries.items + heads_ahead n.choice n.meter.source.size n.entries.items =
@@ -77,6 +80,7 @@ returns-in-Ok-with_room-clause-new g c =
           count = omega (arith, counts.sound.whole, c.count_ranges.new.self.entries.ok.0);
         };
         asked = record { choice_is = room.choice ∙ new.choice_is; limit_is = room.name ∙ new.name; window_room = room.window ∙ new.window; entry_room = rw (room.entries, room.header_is) new.reads.room };
+        whole = refl;
         memory =
             let n = c.count_ranges.new.self in
             let window : n.window.room ≡ c.args.limits.window = room.window ∙ new.window in
@@ -114,8 +118,8 @@ returns-in-Err-clause-opens g c = λ file known. refusal_of-directory file c.arg
 pub returns-in-Err-count_ranges-clause-opens : goal.returns-in-Err-count_ranges-clause-opens
 returns-in-Err-count_ranges-clause-opens g c = λ file known. rw (c.refused.ensures.made, c.from.ensures) (refusal_of_fetch-any file c.args.choice c.in-Err-count_ranges.fault)
 
-pub returns-in-Err-with_room-clause-opens : goal.returns-in-Err-with_room-clause-opens
-returns-in-Err-with_room-clause-opens g c = λ file known. rw c.refused-in-Err-with_room.ensures.made (c.in-Ok.ensures.new.reads.opens file known)
+pub returns-in-Err-ask_map-clause-opens : goal.returns-in-Err-ask_map-clause-opens
+returns-in-Err-ask_map-clause-opens g c = λ file known. rw c.refused-in-Err-ask_map.ensures.made (c.in-Ok.ensures.new.reads.opens file known)
 
 -- ---- a refusal
 
@@ -187,13 +191,13 @@ returns-then-not-holds-clause-refused g c =
     (refused_behind c.args.source c.args.choice c.args.limits c.in-Ok.walk c.count_ranges.new.self (Ok count) new counts refused.booked refused.kept (MemoryLimit held)
     (λ of. of) new.reads.long (λ same. cc) (search rules) (IsCaused-counted c.args.source c.args.choice c.args.limits c.in-Ok.walk c.count_ranges.new.self (Ok count) new counts) tt tt)
 
-pub returns-in-Err-with_room-clause-refused : goal.returns-in-Err-with_room-clause-refused
-returns-in-Err-with_room-clause-refused g c =
+pub returns-in-Err-ask_map-clause-refused : goal.returns-in-Err-ask_map-clause-refused
+returns-in-Err-ask_map-clause-refused g c =
     let new = c.in-Ok.ensures.new in
     let n = c.count_ranges.new.self in
     let counts = c.in-Ok-count_ranges.ensures in
     let count = c.in-Ok-count_ranges.count in
-    let refused = c.refused-in-Err-with_room.ensures in
+    let refused = c.refused-in-Err-ask_map.ensures in
     rw refused.made
     (refused_behind c.args.source c.args.choice c.args.limits c.in-Ok.walk n (Ok count) new counts refused.booked refused.kept Memory
     (λ of. of) new.reads.long
@@ -204,6 +208,44 @@ returns-in-Err-with_room-clause-refused g c =
     lister_within c.args.limits file c.args.choice n.header count (c.in-Ok.ensures.within file known) header counted (omega arith) holds)
     tt (IsCaused-counted c.args.source c.args.choice c.args.limits c.in-Ok.walk n (Ok count) new counts) tt tt)
 
+-- ---- memory
+
+module _ {A : Type 0} (may_lack : A → Limits → AskedRoom → Type 0) (alloc : A) (limits : Limits) (choice : Choice) (content : Option (List ℕ)) where
+  -- a lister is lacking what a walk is
+  lists_lacking : (fault : OpenFault) → TellsListsLacking may_lack alloc limits choice content fault → TellsLacking may_lack alloc limits choice content fault
+  lists_lacking Memory lacking = (ForWalk lacking.0, lacking.1)
+  lists_lacking _ _ = tt
+
+  -- a fetch that failed is no want of memory
+  fetch_lacking : (fault : FetchFault) → TellsLacking may_lack alloc limits choice content (refusal_of_fetch fault)
+  fetch_lacking (fetch.Source fault) = tt
+  fetch_lacking (fetch.Budget offset size) = tt
+
+pub returns-in-Err-clause-lacks : goal.returns-in-Err-clause-lacks
+returns-in-Err-clause-lacks g c = lists_lacking g.A.AskedAllocator.may_lack c.args.alloc c.args.limits c.args.choice c.args.source.store.content c.in-Err.refused.fault c.in-Err.ensures.lacks
+
+pub returns-in-Err-count_ranges-clause-lacks : goal.returns-in-Err-count_ranges-clause-lacks
+returns-in-Err-count_ranges-clause-lacks g c = rw (c.refused.ensures.made, c.from.ensures) (fetch_lacking g.A.AskedAllocator.may_lack c.args.alloc c.args.limits c.args.choice c.args.source.store.content c.in-Err-count_ranges.fault)
+
+pub returns-in-Err-ask_map-clause-lacks : goal.returns-in-Err-ask_map-clause-lacks
+returns-in-Err-ask_map-clause-lacks g c =
+    let new = c.in-Ok.ensures.new in
+    let n = c.count_ranges.new.self in
+    let counts = c.in-Ok-count_ranges.ensures in
+    let count = c.in-Ok-count_ranges.count in
+    rw c.refused-in-Err-ask_map.ensures.made (
+      ForMap n.header.number_of_streams count,
+      record {
+        allowed = (omega arith, search rules);
+        of_file = λ file known.
+            let header : n.header ≡ header_at file 0 = counts.sound.header_is file (counts.books.fetches.same_content ∙ new.spends.fetches.same_content ∙ known) in (
+              ap (λ (h : Header). h.number_of_streams) header,
+              counts.count file (new.spends.fetches.same_content ∙ known) ∙ ap (range_count file) new.choice_is,
+            );
+        refused = search rules;
+      },
+    )
+
 -- ---- the map of the lister
 
 pub invariant_of-result : goal.invariant_of-result
@@ -212,7 +254,7 @@ invariant_of-result g c =
     let counts = c.in-Ok-count_ranges.ensures in
     let count = c.in-Ok-count_ranges.count in
     let n = c.count_ranges.new.self in
-    let map = c.in-Ok-with_room.map in
+    let map = c.in-Ok-ask_map.map in
     let free : map.room ≡ count = search rules in
     let stage : n.stage ≡ Between = counts.stage ∙ new.stage in
     let known_count : (file : List ℕ) → n.meter.source.store.content ≡ Some file → map.room ≡ range_count file n.choice =

@@ -1,16 +1,27 @@
-use Rattle.std.proofs.Common.{◌≡◌, ◌+◌, ◌-◌, ◌*◌, ◌∙◌, ℕ, None, Err, ap, arith, refl, rules, subst, sym}
+use Rattle.std.proofs.Common.{◌≡◌, ◌+◌, ◌-◌, ◌*◌, ◌∙◌, ℕ, List, None, Option, Err, ap, arith, refl, rules, subst, sym}
+use Rattle.mdmp_lister.specs.declared.choice.Choice.{Choice}
+use Rattle.mdmp_lister.specs.declared.fault.OpenFault.{OpenFault}
+use Rattle.mdmp_lister.specs.declared.fault.OpenFault.TheVariants.{Memory}
+use Rattle.mdmp_lister.specs.declared.limits.Limits.{Limits}
+use Rattle.mdmp_lister.specs.Calls.{AskedRoom, TellsListsLacking}
 use Rattle.mdmp_lister.specs.Holding.{fills_of}
 use Rattle.mdmp_lister.specs.Meter.{Books}
 use Rattle.mdmp_wire.specs.declared.header.Header.{Header}
 use Rattle.mdmp_lister.specs.NextFetch.{TriesDirectory}
-use Rattle.mdmp_lister.specs.Opening.{refusal_of_fetch}
+use Rattle.mdmp_lister.specs.Opening.{IsHeaderRefusal, refusal_of_fetch}
 use Rattle.mdmp_lister.proofs.Budgets.{header-kept, opening-begun, opening-over, opening-then, over_fetched}
 use Rattle.mdmp_lister.proofs.Fetches.{IsCaused_later}
 use Rattle.mdmp_lister.proofs.Directory.{directory_fills}
 use Rattle.mdmp_lister.proofs.Metering.{Books-then, Books-within}
 use Rattle.mdmp_lister.proofs.Openings.{directory-next, header-next, header_read}
-use Rattle.mdmp_lister.proofs.Refusals.{IsRefused-directory, IsRefused-header, IsRefused-memory, directory_room, header-long}
+use Rattle.mdmp_lister.proofs.Refusals.{IsRefused-directory, IsRefused-header, IsRefused-limit, IsRefused-memory, directory_room, header-long}
 use Rattle.mdmp_lister.proofs.walk.Walk.open.Goals as goal
+
+-- the fault of a header is no want of memory
+header_lacking : {A : Type 0} (may_lack : A → Limits → AskedRoom → Type 0) (alloc : A) (limits : Limits) (choice : Choice) (content : Option (List ℕ)) (size : ℕ) (fault : OpenFault)
+    → IsHeaderRefusal size fault → TellsListsLacking may_lack alloc limits choice content fault
+header_lacking may_lack alloc limits choice content size Memory of = absurd of
+header_lacking may_lack alloc limits choice content size _ of = tt
 
 pub returns-in-Err-clause-refused : goal.returns-in-Err-clause-refused
 returns-in-Err-clause-refused g c =
@@ -22,46 +33,24 @@ returns-in-Err-clause-kept g c =
     let limits = c.args.limits in
     rw c.refused.ensures.made (header-kept limits c.args.source c.new-meter.result c.read_header.new.meter c.new-meter.ensures c.in-Err.ensures.books c.refused.ensures.booked c.refused.ensures.kept c.in-Err.fault c.in-Err.ensures.over)
 
-pub returns-in_default-clause-kept : goal.returns-in_default-clause-kept
-returns-in_default-clause-kept g c =
+pub returns-in-Err-ask_lists-clause-kept : goal.returns-in-Err-ask_lists-clause-kept
+returns-in-Err-ask_lists-clause-kept g c =
     let limits = c.args.limits in
-    let refused = c.refused-in_default.ensures in
+    let refused = c.refused-in-Err-ask_lists.ensures in
     rw refused.made (header-kept limits c.args.source c.new-meter.result c.read_header.new.meter c.new-meter.ensures c.in-Ok.ensures.books refused.booked refused.kept _ tt)
 
-pub returns-in_default-with_room-clause-kept : goal.returns-in_default-with_room-clause-kept
-returns-in_default-with_room-clause-kept g c =
-    let limits = c.args.limits in
-    let refused = c.refused-in_default-with_room.ensures in
-    rw refused.made (header-kept limits c.args.source c.new-meter.result c.read_header.new.meter c.new-meter.ensures c.in-Ok.ensures.books refused.booked refused.kept _ tt)
-
-pub returns-in_default-with_limit-clause-kept : goal.returns-in_default-with_limit-clause-kept
-returns-in_default-with_limit-clause-kept g c =
-    let limits = c.args.limits in
-    let refused = c.refused-in_default-with_limit.ensures in
-    rw refused.made (header-kept limits c.args.source c.new-meter.result c.read_header.new.meter c.new-meter.ensures c.in-Ok.ensures.books refused.booked refused.kept _ tt)
-
-pub returns-in_default-clause-refused : goal.returns-in_default-clause-refused
-returns-in_default-clause-refused g c =
+pub returns-in-Err-ask_lists-clause-refused : goal.returns-in-Err-ask_lists-clause-refused
+returns-in-Err-ask_lists-clause-refused g c =
     let of = c.in-Ok.ensures in
-    rw c.refused-in_default.ensures.made (rw c.new-meter.ensures at (IsRefused-memory _ c.read_header.new.meter c.in-Ok.header of.fits of.finds of.books of.caused))
-
-pub returns-in_default-with_room-clause-refused : goal.returns-in_default-with_room-clause-refused
-returns-in_default-with_room-clause-refused g c =
-    let of = c.in-Ok.ensures in
-    rw c.refused-in_default-with_room.ensures.made (rw c.new-meter.ensures at (IsRefused-memory _ c.read_header.new.meter c.in-Ok.header of.fits of.finds of.books of.caused))
-
-pub returns-in_default-with_limit-clause-refused : goal.returns-in_default-with_limit-clause-refused
-returns-in_default-with_limit-clause-refused g c =
-    let of = c.in-Ok.ensures in
-    rw c.refused-in_default-with_limit.ensures.made (rw c.new-meter.ensures at (IsRefused-memory _ c.read_header.new.meter c.in-Ok.header of.fits of.finds of.books of.caused))
+    rw c.refused-in-Err-ask_lists.ensures.made (rw c.new-meter.ensures at (IsRefused-memory _ c.read_header.new.meter c.in-Ok.header of.fits of.finds of.books of.caused))
 
 pub returns-in-Err-read_directory-clause-refused : goal.returns-in-Err-read_directory-clause-refused
 returns-in-Err-read_directory-clause-refused g c =
     let of = c.in-Ok.ensures in
     let read = c.in-Err-read_directory in
     let n = c.in-Ok.header.number_of_streams in
-    let window = c.in-Ok-with_room.window in
-    let few = directory_fills n window.room (rw c.in-Ok-with_room.ensures c.args.limits.window_least) in
+    let window = c.in-Ok-ask_lists.lists.window in
+    let few = directory_fills n window.room (rw c.in-Ok-ask_lists.ensures.window c.args.limits.window_least) in
     let books = Books-within _ n (12 * n) (12 * n) c.read_header.new.meter c.read_directory.new.meter few (omega arith) read.ensures.reads.books in
     rw (c.refused-in-Err-read_directory.ensures.made, c.from.ensures)
     (rw c.new-meter.ensures at (IsRefused-directory _ c.read_header.new.meter c.read_directory.new.meter c.in-Ok.header read.fault of.fits of.finds of.books of.caused books read.ensures.reads.caused))
@@ -72,7 +61,7 @@ returns-in-Err-read_directory-clause-kept g c =
     let read = c.in-Err-read_directory in
     let limits = c.args.limits in
     let n = c.in-Ok.header.number_of_streams in
-    let window = c.in-Ok-with_room.window in
+    let window = c.in-Ok-ask_lists.lists.window in
     let began = opening-then limits c.args.source 0 1 32 c.new-meter.result c.read_header.new.meter (opening-begun limits c.args.source c.new-meter.result c.new-meter.ensures) of.books in
     let is = opening-then limits c.args.source (0 + 32) _ (12 * n) c.read_header.new.meter c.read_directory.new.meter began read.ensures.reads.books in
     let finds = rw c.new-meter.ensures at of.finds in
@@ -94,7 +83,7 @@ returns-in-Err-read_directory-clause-next g c =
     let limits = c.args.limits in
     let h = c.in-Ok.header in
     let n = h.number_of_streams in
-    let window = c.in-Ok-with_room.window in
+    let window = c.in-Ok-ask_lists.lists.window in
     let began = opening-then limits c.args.source 0 1 32 c.new-meter.result c.read_header.new.meter (opening-begun limits c.args.source c.new-meter.result c.new-meter.ensures) of.books in
     let is = opening-then limits c.args.source (0 + 32) _ (12 * n) c.read_header.new.meter c.read_directory.new.meter began read.ensures.reads.books in
     let room : window.room ≡ limits.window = search rules in
@@ -111,9 +100,9 @@ returns-clause-new g c =
     let h = c.in-Ok.header in
     let n = h.number_of_streams in
     let began = c.new-meter.ensures in
-    let read = c.in_default-read_directory.ensures in
-    let window = c.in-Ok-with_room.window in
-    let few = directory_fills n window.room (rw c.in-Ok-with_room.ensures c.args.limits.window_least) in
+    let read = c.in_default.ensures in
+    let window = c.in-Ok-ask_lists.lists.window in
+    let few = directory_fills n window.room (rw c.in-Ok-ask_lists.ensures.window c.args.limits.window_least) in
     let all : Books (1 + fills_of (12 * n) (window.room - 11)) (32 + 12 * n) c.new-meter.result c.read_directory.new.meter =
     Books-then 1 _ _ 32 (12 * n) (32 + 12 * n) c.new-meter.result c.read_header.new.meter c.read_directory.new.meter (omega arith) (omega arith) of.books read.reads.books in
     let books = rw began at all in
@@ -146,6 +135,7 @@ returns-clause-new g c =
       budget = books.same_budget;
       window = search rules;
       name = search rules;
+      unnamed = search rules;
       next = refl;
       stage = refl;
       memory = search rules;
@@ -171,3 +161,27 @@ returns-clause-new g c =
             omega (arith, first, read.tries, read.count);
       };
     }
+
+pub returns-in-Err-ask_lists-clause-lacks : goal.returns-in-Err-ask_lists-clause-lacks
+returns-in-Err-ask_lists-clause-lacks g c =
+    let of = c.in-Ok.ensures in
+    let n = c.in-Ok.header.number_of_streams in
+    let finds = rw c.new-meter.ensures at of.finds in
+    rw c.refused-in-Err-ask_lists.ensures.made (
+      n,
+      record {
+        allowed = search rules;
+        of_file = λ file known. ap (λ (h : Header). h.number_of_streams) (finds file known).1;
+        refused = search rules;
+      },
+    )
+
+pub returns-in-Err-clause-lacks : goal.returns-in-Err-clause-lacks
+returns-in-Err-clause-lacks g c =
+    rw c.refused.ensures.made
+    (header_lacking g.A.AskedAllocator.may_lack c.args.alloc c.args.limits c.args.choice c.args.source.store.content _ c.in-Err.fault c.in-Err.ensures.fits.refusal)
+
+pub returns-then-not-holds-clause-refused : goal.returns-then-not-holds-clause-refused
+returns-then-not-holds-clause-refused g c =
+    let of = c.in-Ok.ensures in
+    rw c.refused-then-not-holds.ensures.made (rw c.new-meter.ensures at (IsRefused-limit _ c.read_header.new.meter c.held-held.result c.in-Ok.header of.fits of.finds of.books of.caused))

@@ -24,6 +24,7 @@ returns-in-Ok-clause-new g c =
           count = search rules;
         };
         asked = record { choice_is = new.choice_is; limit_is = new.name; window_room = new.window; entry_room = new.reads.room };
+        whole = refl;
         memory = rw (new.window, new.name, new.reads.room) new.memory;
         given = record { left = search rules; stop = search rules; passed = new.next; standing = rw new.stage refl; unread = search rules; ranges = refl };
       };
