@@ -238,8 +238,24 @@ const COPY_OF_ZEROS: GrownRow<'static> = GrownRow {
     ..UNBOUNDED
 };
 
+/// The summary of `NAMED`, whose name is over the limit.
+const LONG_SUMMARY: &str = "a.dmp: no crash
+  program (name of 8 bytes)
+  written not set
+  streams 1 threads 0 modules 1 exceptions 0 ranges 0 memory 0
+  file good\n";
+
 /// The bytes of these growths are counted.
-const COUNTED: [GrownRow<'static>; 9] = [
+const COUNTED: [GrownRow<'static>; 10] = [
+    // A name over the limit takes no memory of its own.
+    GrownRow {
+        file: File::Numbers(1, &NAMED),
+        task: Task::Summary(LineForm::Text),
+        within: (168, 6, None, None, None),
+        written: File::Text(LONG_SUMMARY),
+        asked: Some(12 + 168 + 6),
+        ..BY_STORE
+    },
     GrownRow {
         file: BAD_TWICE,
         within: (168, 48, None, None, None),
