@@ -4,11 +4,11 @@ use crate::commands::{AddressSpan, CallWay, CommandRun, Task};
 use crate::runs::{PARTS, RunAnswer, run_bytes, run_within};
 use crate::same::assert_same_at;
 use crate::summary_objects::OBJECT;
+use mdmp_engines::{LineForm, ToolFault};
 use mdmp_test_support::{
     EMPTY_PART, HeapCounts, LONG_COMMENT, LONG_NAME, MANY_ENTRIES, MANY_RANGES, MANY_THREADS,
     OneStream, Room, one_stream_file,
 };
-use mdmp_tool::{LineForm, ToolFault};
 use std::alloc::Global;
 use std::process::Abort;
 
@@ -28,7 +28,7 @@ struct CommandHeapRow {
     before: (u64, u64),
 }
 
-const ROWS: [CommandHeapRow; 9] = [
+static ROWS: [CommandHeapRow; 9] = [
     // W + 12s + 24r + L.
     CommandHeapRow {
         file: MANY_ENTRIES,

@@ -8,8 +8,8 @@ use crate::growths::{
 use crate::over_budget;
 use crate::runs::{COPY_WAYS, FOUR, OF_CRASH};
 use crate::texts::{CUT_LINES, SYMBOL_LINES};
+use mdmp_engines::{LINE_ROOM, ToolFault};
 use mdmp_test_support::{MODULE_FILE_TEXT, WIDE_TEXT};
-use mdmp_tool::{LINE_ROOM, ToolFault};
 
 /// The ways of a list.
 const LIST_WAYS: [CallWay; 4] = [
@@ -57,7 +57,7 @@ const SYMBOLS_OF_MODULE: GrownRow<'static> = GrownRow {
 };
 
 /// Commands that print, at each limit and one byte under it.
-const LIMITED: [GrownRow<'static>; 12] = [
+static LIMITED: [GrownRow<'static>; 12] = [
     // The header, an entry, the head of the list, and the list. What is read at the addresses is not counted.
     GrownRow {
         within: (168, 16, Some(108), None, None),
@@ -145,7 +145,7 @@ const CHECK_OF_WIDE: GrownRow<'static> = GrownRow {
 };
 
 /// The same of the limit of memory.
-const MEMORY_LIMITS: [GrownRow<'static>; 12] = [
+static MEMORY_LIMITS: [GrownRow<'static>; 12] = [
     // A window of 168 bytes, an entry of 12, and a name of 4096.
     GrownRow {
         within: (168, 4096, None, Some(4276), None),
@@ -230,7 +230,7 @@ const COPY_OF_SIX: GrownRow<'static> = GrownRow {
 
 /// Copies at each limit and one byte under it, with the least window. Memory is taken up to what the budget refuses,
 /// and none over the limit of memory; the limits are tested in the order in which a copy reads.
-const COPIES: [GrownRow<'static>; 15] = [
+static COPIES: [GrownRow<'static>; 15] = [
     GrownRow {
         within: (168, 0, Some(NEEDED), None, None),
         answer: Ok(292),

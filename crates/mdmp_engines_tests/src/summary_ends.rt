@@ -1,14 +1,13 @@
 //! How the end of a summary is reported: its status, and the line of an error, which names the file.
 use crate::runs::{bytes_in, out_of};
 use crate::same::assert_same_at;
-use mdmp_engines::report_summary;
+use mdmp_engines::{OpenFault, ToolFault, report_summary};
 use mdmp_test_support::Room;
-use mdmp_tool::{OpenFault, ToolFault};
 
 /// What a summary of the file `a.dmp` answers, the status, and what is told of it.
 type SummaryEndRow<'a> = (Result<u64, ToolFault>, u8, &'a str);
 
-const ENDS: [SummaryEndRow<'static>; 4] = [
+static ENDS: [SummaryEndRow<'static>; 4] = [
     (Ok(0), 0, ""),
     (Ok(2), 1, ""),
     (

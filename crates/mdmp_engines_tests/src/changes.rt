@@ -4,9 +4,9 @@ use crate::copies::NEEDED;
 use crate::files::{File, bytes_of};
 use crate::runs::{OF_CRASH, RunOutcome, assert_wrote, run_bytes, run_over, run_within};
 use crate::same::assert_same_at;
+use mdmp_engines::ToolFault;
 use mdmp_source::TwoFaces;
 use mdmp_test_support::{CODEVIEW_RECORD, CRASH, SIX};
-use mdmp_tool::ToolFault;
 use std::alloc::Global;
 use std::process::Abort;
 

@@ -76,7 +76,7 @@ pub const NAMED: [u32; 18] = [
 type ListRow<'a> = (File<'a>, u32, &'a str);
 
 /// Headers, and names.
-const LISTED: [ListRow<'static>; 12] = [
+static LISTED: [ListRow<'static>; 12] = [
     (
         File::Bytes(EMPTY),
         0,
@@ -146,7 +146,7 @@ threadname 0 id 7 name none\n",
 ];
 
 /// Records.
-const RECORDS: [ListRow<'static>; 9] = [
+static RECORDS: [ListRow<'static>; 9] = [
     // Ranges of a memory list, of a 64-bit list one behind the other, and past any file.
     (
         File::Memory(2, ABCD_RANGE, WXYZ_RANGE),

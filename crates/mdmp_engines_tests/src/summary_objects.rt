@@ -4,8 +4,8 @@ use crate::files::{File, bytes_of};
 use crate::prints::{PrintRow, assert_rows};
 use crate::runs::{USUAL, assert_wrote, run_bytes, run_within};
 use crate::texts::{CRASH_OBJECT, NAMED, NAMED_OBJECT};
+use mdmp_engines::LineForm;
 use mdmp_test_support::{CODEVIEW_RECORD, CRASH, Room};
-use mdmp_tool::LineForm;
 use std::alloc::Global;
 use std::process::Abort;
 
@@ -56,7 +56,7 @@ const OF_NAMED: PrintRow<'static> = PrintRow {
     ..OF_MODULE
 };
 
-const OBJECTS: [PrintRow<'static>; 7] = [
+static OBJECTS: [PrintRow<'static>; 7] = [
     OF_NAMED,
     // A name limit above the size of the file gives the same object.
     PrintRow {

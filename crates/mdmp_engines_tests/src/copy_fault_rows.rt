@@ -1,9 +1,9 @@
 //! Faults of a copy and at limits, their status, and what is said of each.
 use crate::fault_rows::{EARLY, ENDED, FaultRow, HELD, UNMADE};
-use mdmp_tool::{FaultKind, LayoutFault, ListFault, OpenFault, PartName, ReadFault, ToolFault};
+use mdmp_engines::{FaultKind, LayoutFault, ListFault, OpenFault, PartName, ReadFault, ToolFault};
 
 /// Faults of copies, and those inside a reading, which are told as what they are.
-pub const COPIES: [FaultRow<'static>; 14] = [
+pub static COPIES: [FaultRow<'static>; 14] = [
     // Copies.
     (
         ToolFault::Reading(ReadFault::PartOutside {
@@ -99,7 +99,7 @@ pub const COPIES: [FaultRow<'static>; 14] = [
 ];
 
 /// Limits that are reached.
-pub const LIMITS: [FaultRow<'static>; 11] = [
+pub static LIMITS: [FaultRow<'static>; 11] = [
     (
         ToolFault::Budget {
             offset: 18446744073709551615,

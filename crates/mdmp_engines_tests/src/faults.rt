@@ -3,8 +3,8 @@ use crate::copy_fault_rows::{COPIES, LIMITS};
 use crate::fault_rows::{FaultRow, KINDS, ROWS};
 use crate::runs::{BAD_NAME, bytes_in, out_of, text_of};
 use crate::same::assert_same_at;
+use mdmp_engines::{OpenFault, ReadFault, ToolFault, fault_line, status};
 use mdmp_test_support::{FAULTY_TOLD, Room};
-use mdmp_tool::{OpenFault, ReadFault, ToolFault, fault_line, status};
 use std::alloc::Global;
 use std::process::Abort;
 

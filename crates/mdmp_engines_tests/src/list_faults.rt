@@ -24,7 +24,7 @@ stream 0 type 7 size 56 rva 44\n";
 /// A file, the longest name, what is listed of it, and the line of the fault that ends the list.
 type FaultyRow<'a> = (File<'a>, u32, &'a str, &'a str);
 
-const FAULTS: [FaultyRow<'static>; 9] = [
+static FAULTS: [FaultyRow<'static>; 9] = [
     (File::Numbers(3, &FAULTY), 0, FAULTY_TEXT, FAULTY_TOLD),
     (
         File::Numbers(1, &FAR_NAME),

@@ -4,8 +4,8 @@ use crate::files::File;
 use crate::hex_at;
 use crate::prints::{CHECK, PrintRow, SHORT, WIDE, assert_rows};
 use crate::runs::{FOUR, RunAnswer, USUAL};
+use mdmp_engines::{FaultKind, LINE_ROOM, ListFault, ToolFault};
 use mdmp_test_support::{ABCD_RANGE, ListedRange, NO_RANGE, WIDE_TEXT, WXYZ_RANGE};
-use mdmp_tool::{FaultKind, LINE_ROOM, ListFault, ToolFault};
 
 /// Four bytes at 0x1000, the first behind the ranges.
 const LOW: ListedRange = ListedRange {
@@ -81,7 +81,7 @@ const NO_BYTES: PrintRow<'static> = PrintRow {
 };
 
 /// Memory lists of all kinds.
-const MEMORY: [PrintRow<'static>; 7] = [
+static MEMORY: [PrintRow<'static>; 7] = [
     PrintRow { ..FOUR_OF_WIDE },
     PrintRow {
         task: hex_at!(0x2000, 2),
@@ -116,57 +116,57 @@ const MEMORY: [PrintRow<'static>; 7] = [
     },
 ];
 
-const MEMORY_LINES: [PrintRow<'static>; 8] = [
+static MEMORY_LINES: [PrintRow<'static>; 8] = [
     // Lines begin at the address.
     PrintRow {
-        file: File::TwoRanges([LOW, HIGH], b"ABCDwxyz"),
+        file: File::TwoRanges(&[LOW, HIGH], b"ABCDwxyz"),
         task: hex_at!(0xfff, 8),
         text: "0x0000000000000fff: ?? 41 42 43 44 79 7a ??\n",
         ..FOUR_OF_WIDE
     },
     PrintRow {
-        file: File::TwoRanges([HIGH, LOW], b"ABCDwxyz"),
+        file: File::TwoRanges(&[HIGH, LOW], b"ABCDwxyz"),
         task: hex_at!(0xfff, 8),
         text: "0x0000000000000fff: ?? 41 42 77 78 79 7a ??\n",
         ..FOUR_OF_WIDE
     },
     PrintRow {
-        file: File::TwoRanges([NO_RANGE, NO_RANGE], &[0; 17]),
+        file: File::TwoRanges(&[NO_RANGE, NO_RANGE], &[0; 17]),
         task: hex_at!(0x10, 17),
         text: "0x0000000000000010: ?? ?? ?? ?? ?? ?? ?? ?? ?? ?? ?? ?? ?? ?? ?? ??\n0x0000000000000020: ??\n",
         ..FOUR_OF_WIDE
     },
     PrintRow {
-        file: File::TwoRanges([NO_RANGE, NO_RANGE], b""),
+        file: File::TwoRanges(&[NO_RANGE, NO_RANGE], b""),
         ..NO_BYTES
     },
     PrintRow {
-        file: File::TwoRanges([FAR, NO_RANGE], &[0, 1, 0x0a, 0x10, 0xa0, 0xff]),
+        file: File::TwoRanges(&[FAR, NO_RANGE], &[0, 1, 0x0a, 0x10, 0xa0, 0xff]),
         task: hex_at!(0xfedcba9876543210, 6),
         text: "0xfedcba9876543210: 00 01 0a 10 a0 ff\n",
         ..FOUR_OF_WIDE
     },
     PrintRow {
-        file: File::TwoRanges([LINE, NO_RANGE], b"0123456789abcdef"),
+        file: File::TwoRanges(&[LINE, NO_RANGE], b"0123456789abcdef"),
         task: hex_at!(0x1009, 16),
         text: "0x0000000000001009: 30 31 32 33 34 35 36 37 38 39 61 62 63 64 65 66\n",
         ..FOUR_OF_WIDE
     },
     PrintRow {
-        file: File::TwoRanges(APART, b"\x00\xff\x10"),
+        file: File::TwoRanges(&APART, b"\x00\xff\x10"),
         task: hex_at!(10, 3),
         text: "0x000000000000000a: 00 ?? 10\n",
         ..FOUR_OF_WIDE
     },
     PrintRow {
-        file: File::TwoRanges([LAST, NO_RANGE], &[7; 24]),
+        file: File::TwoRanges(&[LAST, NO_RANGE], &[7; 24]),
         task: hex_at!(0xffffffffffffffe8, 24),
         text: "0xffffffffffffffe8: 07 07 07 07 07 07 07 07 07 07 07 07 07 07 07 07\n0xfffffffffffffff8: 07 07 07 07 07 07 07 07\n",
         ..FOUR_OF_WIDE
     },
 ];
 
-const MEMORY_WAYS: [PrintRow<'static>; 8] = [
+static MEMORY_WAYS: [PrintRow<'static>; 8] = [
     // A file at fault prints nothing, also of no bytes.
     PrintRow {
         file: File::Memory(3, ABCD_RANGE, WXYZ_RANGE),

@@ -3,7 +3,7 @@ use crate::commands::Task;
 use crate::files::File;
 use crate::growths::{GrownRow, UNBOUNDED, assert_rows};
 use crate::runs::EACH_WAY;
-use mdmp_tool::{OpenFault, ToolFault};
+use mdmp_engines::{OpenFault, ToolFault};
 
 const BAD_SIGNATURE: &[u8; 32] =
     b"PMDM\x93\xa7\0\0\0\0\0\0\xff\xff\xff\xff\0\0\0\0\0\0\0\0\0\0\0\0\0\0\0\0";
@@ -24,7 +24,7 @@ const UNOPENED: GrownRow<'static> = GrownRow {
 };
 
 /// Files that are refused before any growth. Of the last but one the directory lacks a byte.
-const REFUSED: [GrownRow<'static>; 6] = [
+static REFUSED: [GrownRow<'static>; 6] = [
     GrownRow {
         file: File::Bytes(&[0; 31]),
         answer: Err(ToolFault::Opening(OpenFault::TooShort { size: 31 })),

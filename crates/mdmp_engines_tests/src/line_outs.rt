@@ -36,7 +36,7 @@ const ABC: LinesStep = LinesStep::Print(b"abc", Ok(()));
 
 const FLUSH: LinesStep = LinesStep::Flush(Ok(()));
 
-const LINES: &[LinesRow] = &[
+static LINES: &[LinesRow] = &[
     // Lines stand one behind the other as long as there is room for the longest.
     (LINE_ROOM + 8, 100, None, &[ABC; 3], b"abcabcabc", b""),
     (LINE_ROOM + 8, 100, None, &[ABC; 4], b"abc", b"abcabcabc"),

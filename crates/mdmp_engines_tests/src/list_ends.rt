@@ -88,7 +88,7 @@ const ESCAPED: &[u8; 30] =
 /// A file, what is listed, the longest name, and with what its list ends.
 type EndRow<'a> = (File<'a>, Task<'a>, u32, &'a str);
 
-const ENDS: [EndRow<'static>; 11] = [
+static ENDS: [EndRow<'static>; 11] = [
     // A stack without bytes in the file, and a context that is one byte behind the list.
     (
         File::FirstOfNumbers(&ABSENT_STACK, 97),
@@ -167,7 +167,7 @@ const ENDS: [EndRow<'static>; 11] = [
 ];
 
 /// Records of CodeView.
-const SYMBOLS: [EndRow<'static>; 9] = [
+static SYMBOLS: [EndRow<'static>; 9] = [
     // A record outside the file, or of no bytes, has no line.
     (
         File::Module(31, CODEVIEW_RECORD),

@@ -1,4 +1,4 @@
-//! Tests of the commands over stores and outputs, by the public calls of `mdmp_tool`, and of what they print by.
+//! Tests of the commands over stores and outputs, by the public calls of `mdmp_engines`, and of what they print by.
 //!
 //! `commands` makes the calls whose contracts are long, in functions without one or with a short one; `runs` runs them,
 //! and gives plain values; and a test goes over the rows of a table.

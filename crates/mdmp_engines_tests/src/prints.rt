@@ -3,8 +3,8 @@ use crate::commands::{CallWay, Task};
 use crate::files::{EMPTY, File};
 use crate::runs::{BAD_NAME, FOUR, RunAnswer, USUAL, Within, assert_wrote, run_file, run_within};
 use crate::same::assert_same_at;
+use mdmp_engines::{LINE_ROOM, OpenFault, ToolFault};
 use mdmp_test_support::{FAULTY, FAULTY_TEXT, FAULTY_VERDICTS, MEMORY64, SYSTEM, SYSTEM_TEXT};
-use mdmp_tool::{LINE_ROOM, OpenFault, ToolFault};
 use std::alloc::Global;
 use std::process::Abort;
 
@@ -55,7 +55,7 @@ const CHECK_OF_BAD: PrintRow<'static> = PrintRow {
     ..CHECK
 };
 
-const CHECKS: [PrintRow<'static>; 9] = [
+static CHECKS: [PrintRow<'static>; 9] = [
     PrintRow { ..CHECK },
     PrintRow {
         file: BAD_TWICE,
@@ -111,7 +111,7 @@ const LIST_OF_BAD: PrintRow<'static> = PrintRow {
     ..LIST
 };
 
-const LISTS: [PrintRow<'static>; 10] = [
+static LISTS: [PrintRow<'static>; 10] = [
     PrintRow {
         way: CallWay::Blocks(LINE_ROOM),
         ..LIST

@@ -9,11 +9,11 @@ use crate::runs::{
 use crate::same::assert_same_at;
 use crate::summary_objects::OBJECT;
 use crate::texts::{CRASH_OBJECT, CRASH_SUMMARY, NAMED, NAMED_SUMMARY, SYMBOL_LINES};
+use mdmp_engines::{LINE_ROOM, LineForm, ToolFault};
 use mdmp_test_support::{
     CODEVIEW_RECORD, CRASH, FAULTY, FAULTY_TEXT, FAULTY_TOLD, FAULTY_VERDICTS, ListedRange,
     MEMORY64, Room, SIX, SYSTEM, SYSTEM_TEXT, WIDE_TEXT,
 };
-use mdmp_tool::{LINE_ROOM, LineForm, ToolFault};
 use std::alloc::Global;
 use std::process::Abort;
 
@@ -34,7 +34,7 @@ const LETTERS: [ListedRange; 2] = [
     },
 ];
 
-const SWEPT: [SweptRow<'static>; 10] = [
+static SWEPT: [SweptRow<'static>; 10] = [
     (
         &COPY_WAYS,
         Task::Summary(LineForm::Text),
@@ -97,7 +97,7 @@ const SWEPT: [SweptRow<'static>; 10] = [
             address: 0x10,
             length: 3,
         }),
-        File::TwoRanges(LETTERS, b"ABC"),
+        File::TwoRanges(&LETTERS, b"ABC"),
         Ok(0),
         File::Text("0x0000000000000010: 41 ?? 43\n"),
     ),
@@ -111,7 +111,7 @@ const SWEPT: [SweptRow<'static>; 10] = [
 ];
 
 /// An object, which is gathered in blocks.
-const SWEPT_OBJECT: [SweptRow<'static>; 1] = [(
+static SWEPT_OBJECT: [SweptRow<'static>; 1] = [(
     &[CallWay::Blocks(LINE_ROOM)],
     OBJECT,
     File::Numbers(2, &CRASH),
@@ -195,7 +195,7 @@ fn refused_last_block_is_told_in_place_of_the_fault(rt: HostRuntime) {
 }
 
 /// Faults, and the line of each.
-const TOLD: [(ToolFault, &str); 3] = [
+static TOLD: [(ToolFault, &str); 3] = [
     (BAD_NAME, FAULTY_TOLD),
     (ToolFault::Memory, "mdmp: out of memory\n"),
     (ToolFault::NotCopied(12), "mdmp: type 12 is not copied\n"),

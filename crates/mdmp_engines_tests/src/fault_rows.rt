@@ -1,7 +1,7 @@
 //! Faults of reading and of printing, their status, and what is said of each.
 use crate::runs::BAD_NAME;
+use mdmp_engines::{FaultKind, ListFault, OpenFault, PartName, ReadFault, ToolFault};
 use mdmp_source::SourceFault;
-use mdmp_tool::{FaultKind, ListFault, OpenFault, PartName, ReadFault, ToolFault};
 
 /// A fault, its status, and what is said of it.
 pub type FaultRow<'a> = (ToolFault, u8, &'a str);
@@ -59,7 +59,7 @@ pub const UNMADE: ListFault = ListFault {
     size: 5,
 };
 
-pub const ROWS: [FaultRow<'static>; 16] = [
+pub static ROWS: [FaultRow<'static>; 16] = [
     (
         ToolFault::Opening(OpenFault::TooShort { size: 0 }),
         1,
@@ -135,7 +135,7 @@ pub const ROWS: [FaultRow<'static>; 16] = [
 ];
 
 /// Kinds of faults of an entry, and parts.
-pub const KINDS: [FaultRow<'static>; 13] = [
+pub static KINDS: [FaultRow<'static>; 13] = [
     (
         ToolFault::List(ListFault {
             entry: 3,

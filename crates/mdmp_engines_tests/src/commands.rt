@@ -4,16 +4,15 @@
 //! nobody above it knows what the command did, and each proof stays short.
 ghost use Rattle.std.specs.Prelude.{◌+◌, ◌^◌, ◌≤◌, ◌≡◌, [], None};
 
-use mdmp_engines::{summary_json_source, summary_source};
-use mdmp_lister::{Choice, Lister, TypeSet};
-use mdmp_source::{Out, PatchyOut, Source, Store, write_all};
-use mdmp_test_support::Room;
-use mdmp_tool::{
+use mdmp_engines::{
     CheckEngine, EntryRows, HexEngine, LINE_ROOM, Limits, LineForm, LineOut, ListEngine, OpenFault,
     Outcome, PartRows, ToolFault, check_parts_source, check_source, copy_source, hex_source,
     list_next, list_source, print_dump, run_check, run_check_parts, run_copy, run_hex,
-    run_in_blocks, run_list,
+    run_in_blocks, run_list, summary_json_source, summary_source,
 };
+use mdmp_lister::{Choice, Lister, TypeSet};
+use mdmp_source::{Out, PatchyOut, Source, Store, write_all};
+use mdmp_test_support::Room;
 use std::alloc::{Allocator, Global};
 use std::process::Abort;
 

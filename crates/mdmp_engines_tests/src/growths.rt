@@ -11,11 +11,11 @@ use crate::summary_objects::OBJECT;
 use crate::texts::{
     CRASH_OBJECT, CRASH_SUMMARY, NAMED, NAMED_OBJECT, NAMED_SUMMARY, SIX_TEXT, SYMBOL_LINES,
 };
+use mdmp_engines::{LineForm, ToolFault};
 use mdmp_test_support::{
     CODEVIEW_RECORD, CRASH, FAULTY, FAULTY_TEXT, FAULTY_VERDICTS, MEMORY64, Room, SIX, SYSTEM,
     SYSTEM_TEXT, WIDE_TEXT,
 };
-use mdmp_tool::{LineForm, ToolFault};
 use std::alloc::Global;
 use std::process::Abort;
 
@@ -34,7 +34,7 @@ pub struct GrownRow<'a> {
 }
 
 /// A store in memory, one that gives a byte a call, and one whose content is not known.
-const EACH_STORE: [StoreWay<'static>; 3] = [
+static EACH_STORE: [StoreWay<'static>; 3] = [
     StoreWay::Whole,
     StoreWay::Patchy(&[1], None),
     StoreWay::Unknown,
@@ -137,7 +137,7 @@ pub const UNBOUNDED: GrownRow<'static> = GrownRow {
 
 /// Commands without limits: a directory, a window and a name; and where memory is printed, a map of the ranges, the
 /// bytes, and which of them are known; where streams are copied, a directory, a window, two lists and a buffer.
-const UNLIMITED: [GrownRow<'static>; 12] = [
+static UNLIMITED: [GrownRow<'static>; 12] = [
     GrownRow {
         file: File::Numbers(1, &NAMED),
         task: Task::Summary(LineForm::Text),
@@ -246,7 +246,7 @@ const LONG_SUMMARY: &str = "a.dmp: no crash
   file good\n";
 
 /// The bytes of these growths are counted.
-const COUNTED: [GrownRow<'static>; 10] = [
+static COUNTED: [GrownRow<'static>; 10] = [
     // A name over the limit takes no memory of its own.
     GrownRow {
         file: File::Numbers(1, &NAMED),

@@ -27,7 +27,7 @@ pub enum File<'a> {
     /// The file of `module_file`.
     Module(u32, &'a [u8]),
     /// The file of `two_ranges_file`.
-    TwoRanges([ListedRange; 2], &'a [u8]),
+    TwoRanges(&'a [ListedRange; 2], &'a [u8]),
     /// The file of `last_file`.
     Last,
     /// The file of `short_threads_file`.
@@ -109,7 +109,7 @@ fn made(rt: &impl Abort, alloc: Global, file: &File<'_>) -> Result<Vec<u8>, Allo
         }
         File::Memory(count, first, second) => memory_file(alloc, *count, *first, *second),
         File::Module(size, record) => module_file(alloc, *size, *record),
-        File::TwoRanges(ranges, bytes) => two_ranges_file(alloc, ranges, *bytes),
+        File::TwoRanges(ranges, bytes) => two_ranges_file(alloc, *ranges, *bytes),
         File::Last => last_file(alloc),
         File::ShortThreads => short_threads_file(alloc),
         File::EndlessRanges => endless_ranges_file(alloc),

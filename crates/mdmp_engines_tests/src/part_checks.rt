@@ -4,8 +4,8 @@ use crate::files::{EMPTY, File};
 use crate::over_budget;
 use crate::prints::{BAD_TWICE, CHECK, PrintRow, SHORT, WIDE, assert_rows};
 use crate::runs::{PARTS, USUAL, WIDE_PARTS};
+use mdmp_engines::{LINE_ROOM, LineForm, ToolFault};
 use mdmp_test_support::FAULTY_VERDICTS;
-use mdmp_tool::{LINE_ROOM, LineForm, ToolFault};
 
 /// A file of one thread, whose stack of four bytes begins at its end, at 96.
 const LOST_STACK: File<'static> = File::Numbers(
@@ -73,7 +73,7 @@ const PARTS_OF_WIDE: PrintRow<'static> = PrintRow {
     ..PART_CHECK
 };
 
-const PART_CHECKS: [PrintRow<'static>; 14] = [
+static PART_CHECKS: [PrintRow<'static>; 14] = [
     PrintRow { ..PART_CHECK },
     PrintRow {
         file: WHOLE_STACK,

@@ -8,12 +8,12 @@ use crate::runs::{
 };
 use crate::same::assert_same_at;
 use crate::texts::{NAMED, NAMED_SUMMARY, SYMBOL_LINES};
+use mdmp_engines::{LineForm, ToolFault};
 use mdmp_source::SourceFault;
 use mdmp_test_support::{
     CODEVIEW_RECORD, CRASH, FAULTY, FAULTY_TEXT, FAULTY_VERDICTS, MEMORY64, Room, SIX, SYSTEM,
     SYSTEM_TEXT, WIDE_TEXT,
 };
-use mdmp_tool::{LineForm, ToolFault};
 use std::alloc::Global;
 use std::process::Abort;
 
@@ -36,7 +36,7 @@ type StoreRow<'a> = (
 /// The header and the directory, before whose last byte nothing is written.
 const OPENING: ReadSpan = (0, 0, 0);
 
-const SWEPT: [StoreRow<'static>; 7] = [
+static SWEPT: [StoreRow<'static>; 7] = [
     // All is read before the first line is written: after the pass the name of the program once more.
     (
         &COPY_WAYS,
@@ -195,7 +195,7 @@ fn is_failed(answer: RunAnswer) -> bool {
 
 /// Calls of a copy, and how many bytes are written where they fail: before the view is opened none, and at the last
 /// one, where the buffer has gone out once.
-const COPIED: [(u64, usize); 9] = [
+static COPIED: [(u64, usize); 9] = [
     (0, 0),
     (31, 0),
     (32, 0),
@@ -215,7 +215,7 @@ fn each_call_of_a_store_that_is_copied_may_fail(rt: HostRuntime) {
 /// How many bytes the calls of a store give, in turn, what a list answers, and its text.
 type SlowRow<'a> = (File<'a>, &'a [usize], RunAnswer, &'a str);
 
-const SLOW: [SlowRow<'static>; 4] = [
+static SLOW: [SlowRow<'static>; 4] = [
     (File::Bytes(&SYSTEM), &[1], Ok(0), SYSTEM_TEXT),
     (File::Bytes(&SYSTEM), &[5, 2], Ok(0), SYSTEM_TEXT),
     (File::Numbers(3, &FAULTY), &[1], Err(BAD_NAME), FAULTY_TEXT),

@@ -4,8 +4,8 @@ use crate::files::{File, bytes_of, first_of};
 use crate::lists::{NAMED, NAMELESS};
 use crate::runs::{assert_wrote, run_bytes, run_within, text_of};
 use crate::same::assert_same_at;
+use mdmp_engines::ToolFault;
 use mdmp_test_support::{CRASH, Room};
-use mdmp_tool::ToolFault;
 use std::alloc::Global;
 use std::process::Abort;
 
@@ -42,7 +42,7 @@ abcdefghijklmnopqrstuvwxy\"\n";
 /// A file, the longest name, the last line of its list, and how many bytes of that line outputs take.
 type CutLine<'a> = (File<'a>, u32, &'a str, &'a [usize]);
 
-const CUT: [CutLine<'static>; 6] = [
+static CUT: [CutLine<'static>; 6] = [
     (
         File::Numbers(2, &CRASH),
         8,

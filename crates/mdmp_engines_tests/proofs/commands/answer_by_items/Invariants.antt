@@ -1,5 +1,5 @@
 use Rattle.std.proofs.Common.{◌≡◌, None}
-use Rattle.mdmp_tool_tests.proofs.commands.answer_by_items.Given as goal
+use Rattle.mdmp_engines_tests.proofs.commands.answer_by_items.Given as goal
 
 -- neither the end nor a fault was answered
 abbrev pub invariant-loop-pdb : goal.invariant-loop-pdb

@@ -7,9 +7,9 @@ use crate::runs::{
 };
 use crate::same::assert_same_at;
 use crate::watched::Watched;
+use mdmp_engines::{LayoutFault, PartName, ReadFault, ToolFault, copied, first_not_copied};
 use mdmp_source::MemoryStore;
 use mdmp_test_support::{ABSENT_STACK, CRASH, Room, SIX, SYSTEM, THREAD_NAME};
-use mdmp_tool::{LayoutFault, PartName, ReadFault, ToolFault, copied, first_not_copied};
 use std::alloc::Global;
 use std::cell::Cell;
 use std::process::Abort;
@@ -78,7 +78,7 @@ const NO_COPY: CopyRow<'static> = CopyRow {
     ..COPY
 };
 
-const ROWS: [CopyRow<'static>; 11] = [
+static ROWS: [CopyRow<'static>; 11] = [
     CopyRow { ..COPY },
     CopyRow {
         types: &[6, 200000, 3, 3],
@@ -155,7 +155,7 @@ const ROWS: [CopyRow<'static>; 11] = [
 ];
 
 /// Copies at their limits.
-const LIMITED: [CopyRow<'static>; 12] = [
+static LIMITED: [CopyRow<'static>; 12] = [
     // A copy past the greatest place. Its budget is tested first.
     CopyRow {
         file: File::Crowded,
