@@ -3,8 +3,6 @@ pub mod built;
 mod memory;
 mod placed;
 mod prefixes;
-mod read;
 mod refused;
-mod sizes;
 mod values;
 pub mod view;

@@ -1,7 +1,7 @@
 //! What large files take of a heap that are read into values, or opened as views: the bytes that docs/promises.md tells,
 //! each once, and with a limit that is a byte too small only what is taken before it is tested.
 use crate::dump::built::read_chosen;
-use crate::files::choice_of;
+use crate::files::{ALL, LEAST_ROW, RowLimits, choice_of, limits_of_row};
 use crate::same::assert_same_at;
 use crate::writer::{patchy_out, stored_size, write_view};
 use mdmp_dump::{FileView, MemoryRange, ReadFault, Stream, Thread};
@@ -22,6 +22,7 @@ type WrittenAnswer = Result<u64, ReadFault>;
 /// A file that is read into a value, without names.
 struct ValueRow {
     file: OneStream<'static>,
+    types: &'static [u32],
     window: u32,
     /// The most bytes of its parts.
     parts: u64,
@@ -37,9 +38,10 @@ struct ValueRow {
     written: Option<u64>,
 }
 
-const VALUES: [ValueRow; 9] = [
+static VALUES: [ValueRow; 10] = [
     ValueRow {
         file: MANY_ENTRIES,
+        types: ALL,
         window: 1 << 20,
         parts: 0,
         lister: ((1 << 20) + 12 * 5000, 2),
@@ -49,6 +51,7 @@ const VALUES: [ValueRow; 9] = [
     },
     ValueRow {
         file: MANY_RANGES,
+        types: ALL,
         window: 70_000,
         parts: 0,
         lister: (70_000 + 12 * 5000 + 24 * 10_000, 3),
@@ -58,6 +61,7 @@ const VALUES: [ValueRow; 9] = [
     },
     ValueRow {
         file: MANY_THREADS,
+        types: ALL,
         window: 168,
         parts: 0,
         lister: (168 + 12, 2),
@@ -67,6 +71,7 @@ const VALUES: [ValueRow; 9] = [
     },
     ValueRow {
         file: LARGE_PART,
+        types: ALL,
         window: 1 << 20,
         parts: LARGE as u64,
         lister: ((1 << 20) + 12 + 24, 3),
@@ -77,6 +82,7 @@ const VALUES: [ValueRow; 9] = [
     // Nothing of the part is taken, and no list of ranges, which comes behind it.
     ValueRow {
         file: LARGE_PART,
+        types: ALL,
         window: 168,
         parts: LARGE as u64 - 1,
         lister: (168 + 12 + 24, 3),
@@ -86,6 +92,7 @@ const VALUES: [ValueRow; 9] = [
     },
     ValueRow {
         file: EMPTY_PART,
+        types: ALL,
         window: 70_000,
         parts: 0,
         lister: (70_000 + 12 + 24, 3),
@@ -95,6 +102,7 @@ const VALUES: [ValueRow; 9] = [
     },
     ValueRow {
         file: LONG_COMMENT,
+        types: ALL,
         window: 168,
         parts: 1 << 21,
         lister: (168 + 12, 2),
@@ -104,6 +112,7 @@ const VALUES: [ValueRow; 9] = [
     },
     ValueRow {
         file: LONG_COMMENT,
+        types: ALL,
         window: 168,
         parts: (1 << 21) - 1,
         lister: (168 + 12, 2),
@@ -113,6 +122,7 @@ const VALUES: [ValueRow; 9] = [
     },
     ValueRow {
         file: EMPTY_COMMENT,
+        types: ALL,
         window: 168,
         parts: 0,
         lister: (168 + 12, 2),
@@ -120,29 +130,30 @@ const VALUES: [ValueRow; 9] = [
         growths: 1,
         written: Some(44),
     },
+    // Of 5,000 entries none is chosen. How many are is not known before they are listed, so a list of streams for all
+    // of them would be 5,000 too long.
+    ValueRow {
+        file: MANY_ENTRIES,
+        types: &[4],
+        window: 168,
+        parts: 0,
+        lister: (168 + 12 * 5000, 2),
+        lists: (0, 0, 0, 0),
+        growths: 0,
+        written: Some(32),
+    },
 ];
-
-/// How many bytes the value of a row takes.
-fn value_size(row: &ValueRow) -> u64 {
-    let (streams, ranges, threads, parts) = row.lists;
-    let streams = streams.saturating_mul(size_of::<Stream<Heap<'static>>>() as u64);
-    let ranges = ranges.saturating_mul(size_of::<MemoryRange<Heap<'static>>>() as u64);
-    let threads = threads.saturating_mul(size_of::<Thread<Heap<'static>>>() as u64);
-    streams
-        .saturating_add(ranges)
-        .saturating_add(threads)
-        .saturating_add(parts)
-}
 
 /// Reads a file into a value, and writes this into memory, if it is to have so many bytes there.
 fn read_within(
     alloc: Global,
     file: &[u8],
     limits: Limits,
+    choice: Choice,
     row: &ValueRow,
 ) -> (WrittenAnswer, HeapCounts) {
     let heap = MeteredHeap::new(alloc, Refusal::Never);
-    let written = match read_chosen(&heap, file, limits, Choice::All, row.parts) {
+    let written = match read_chosen(&heap, file, limits, choice, row.parts) {
         Ok(_) if row.written == Some(0) => Ok(0),
         Ok(dump) => match stored_size(&heap, &dump) {
             Ok(size) => Ok(size as u64),
@@ -153,23 +164,26 @@ fn read_within(
     (written, heap.counts())
 }
 
-/// Limits of so many bytes of memory and a window, without names.
-fn limits_of(rt: &impl Abort, window: u32, memory: u64) -> Limits {
-    Limits::new(window, 0)
-        .expect(rt, "limits")
-        .limit_memory(memory)
-}
-
 /// Asserts what a row takes at the limit of memory of its lister. The dump takes its own bytes behind the value, once
 /// the lister is dropped.
 fn assert_value(rt: &impl Abort, alloc: Global, number: usize, row: &ValueRow) {
     let file = one_stream_file(alloc, row.file).expect(rt, "memory for a file");
     let (lister, opening) = row.lister;
-    let value = value_size(row);
+    let (streams, ranges, threads, parts) = row.lists;
+    let streams = streams.saturating_mul(size_of::<Stream<Heap<'static>>>() as u64);
+    let ranges = ranges.saturating_mul(size_of::<MemoryRange<Heap<'static>>>() as u64);
+    let threads = threads.saturating_mul(size_of::<Thread<Heap<'static>>>() as u64);
+    let records = streams.saturating_add(ranges).saturating_add(threads);
+    let value = records.saturating_add(parts);
     let read = lister.saturating_add(value);
     let growths = opening.saturating_add(row.growths);
-    let limits = limits_of(rt, row.window, lister);
-    let found = read_within(alloc, &file, limits, row);
+    let within = RowLimits {
+        window: row.window,
+        memory: Some(lister),
+        ..LEAST_ROW
+    };
+    let choice = choice_of(rt, row.types);
+    let found = read_within(alloc, &file, limits_of_row(rt, &within), choice, row);
     let expected = match row.written {
         Some(0) => (Ok(0), HeapCounts::once(read, growths)),
         Some(size) => (
@@ -197,26 +211,11 @@ fn value_takes_its_lists_and_parts_and_what_its_lister_does(rt: HostRuntime) {
     }
 }
 
-/// Of 5,000 entries none is chosen. How many are is not known before they are listed, so a list of streams for all
-/// of them would be 5,000 too long.
-#[test]
-fn value_of_no_chosen_entry_takes_no_list_of_streams(rt: HostRuntime) {
-    let file = one_stream_file(rt.alloc(), MANY_ENTRIES).expect(&rt, "memory for a file");
-    let heap = MeteredHeap::new(rt.alloc(), Refusal::Never);
-    let limits = Limits::new(168, 0).expect(&rt, "limits");
-    let streams = match read_chosen(&heap, &file, limits, choice_of(&rt, &[4]), 0) {
-        Ok(dump) => Ok(dump.streams.as_slice().len() as u64),
-        Err(fault) => Err(fault),
-    };
-    let expected = (Ok(0), HeapCounts::once(168 + 12 * 5000, 2));
-    assert_same_at(&rt, &0usize, (streams, heap.counts()), expected);
-}
-
 /// A file of which a view is opened through a window of so many bytes, what it takes, W + 24s bytes, and how many bytes
 /// its dump has.
 type ViewHeapRow = (OneStream<'static>, u32, u64, u64);
 
-const VIEWS: [ViewHeapRow; 6] = [
+static VIEWS: [ViewHeapRow; 6] = [
     (MANY_ENTRIES, 1 << 20, (1 << 20) + 24 * 5000, 32 + 12 * 5000),
     (
         MANY_RANGES,
@@ -259,10 +258,15 @@ fn assert_view(rt: &impl Abort, alloc: Global, number: usize, row: &ViewHeapRow)
     let (file, window, held, size) = *row;
     let bytes = one_stream_file(alloc, file).expect(rt, "memory for a file");
     let most = held.saturating_add(u64::from(window));
-    let limits = limits_of(rt, window, most);
+    let within = RowLimits {
+        window,
+        memory: Some(most),
+        ..LEAST_ROW
+    };
+    let limits = limits_of_row(rt, &within);
     let found = viewed_within(rt, alloc, &bytes, limits, size);
     assert_same_at(rt, &number, found, (Ok(size), HeapCounts::once(held, 4)));
-    let limits = limits_of(rt, window, most.saturating_sub(1));
+    let limits = limits.limit_memory(most.saturating_sub(1));
     let found = viewed_within(rt, alloc, &bytes, limits, size);
     let held = u128::from(most);
     let over = Err(ReadFault::Opening(OpenFault::MemoryLimit { held }));

@@ -51,7 +51,7 @@ const OF_SIX: MemoryLimitRow = MemoryLimitRow {
     growths: 0,
 };
 
-const LIMITED: &[MemoryLimitRow] = &[
+static LIMITED: [MemoryLimitRow; 9] = [
     MemoryLimitRow {
         memory: LISTS + 48,
         held: None,
@@ -109,9 +109,7 @@ const LIMITED: &[MemoryLimitRow] = &[
 ];
 
 /// A window of 168 bytes and names of 32.
-fn limits_of(memory: Option<u64>) -> Limits {
-    limits!(168, 32, None, memory)
-}
+const AMPLE: Limits = limits!(168, 32);
 
 /// What came of a reading: its fault, how often the heap was asked for a block, how many blocks were not given
 /// back, and the fault of the source that came back, with ample memory and no limit.
@@ -127,13 +125,12 @@ fn assert_outcome<S: Store + Drop>(
     expected: ReadInHeap,
 ) {
     let heap = MeteredHeap::new(alloc, Refusal::Only(growth));
-    let limited = limits_of(Some(row.memory));
+    let limited = AMPLE.limit_memory(row.memory);
     let source = Source::new(store);
-    let types = row.types;
-    let (fault, source) = fault_into(&heap, row.into, source, limited, choice_of(rt, types), 18);
+    let (into, types) = (&row.into, row.types);
+    let (fault, source) = fault_into(&heap, into, source, limited, choice_of(rt, types), 18);
     let HeapCounts { growths, out, .. } = heap.counts();
-    let ample = limits_of(None);
-    let (again, _) = fault_into(alloc, row.into, source, ample, choice_of(rt, types), 18);
+    let (again, _) = fault_into(alloc, into, source, AMPLE, choice_of(rt, types), 18);
     let at = (row.memory, growth);
     assert_same_at(rt, &at, (fault, growths, out, again), expected);
 }
@@ -146,7 +143,7 @@ fn assert_over_each_store(
     growth: u64,
     expected: ReadInHeap,
 ) {
-    let file = file_of(rt, alloc, row.sample);
+    let file = file_of(rt, alloc, &row.sample);
     assert_outcome(rt, alloc, MemoryStore::new(&file), row, growth, expected);
     let slow = PatchyStore::new(&file, &[1], None);
     assert_outcome(rt, alloc, slow, row, growth, expected);
@@ -169,7 +166,7 @@ fn assert_limited(rt: &impl Abort, alloc: Global, row: &MemoryLimitRow) {
 
 #[test]
 fn file_is_read_within_the_limit_of_its_lister_or_of_a_copy(rt: HostRuntime) {
-    for row in LIMITED {
+    for row in &LIMITED {
         assert_limited(&rt, rt.alloc(), row);
     }
 }

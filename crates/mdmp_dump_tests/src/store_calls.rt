@@ -7,12 +7,10 @@ use crate::viewed::view_fault;
 use mdmp_dump::{Dump, ReadFault, read_dump};
 use mdmp_lister::{Choice, FaultKind, Limits, ListFault, OpenFault};
 use mdmp_source::{PatchyStore, Source, SourceFault, Store};
-use mdmp_test_support::thousand_entries_file;
 use std::alloc::{Allocator, Global};
 use std::process::Abort;
 
 /// What a source is read into.
-#[derive(Clone, Copy)]
 pub enum ReadInto {
     Value,
     View,
@@ -21,7 +19,7 @@ pub enum ReadInto {
 /// Why a source is not read into this, and the source that comes back.
 pub fn fault_into<S: Store + Drop, A: Allocator + Copy>(
     heap: A,
-    into: ReadInto,
+    into: &ReadInto,
     source: Source<S>,
     limits: Limits,
     choice: Choice,
@@ -34,7 +32,6 @@ pub fn fault_into<S: Store + Drop, A: Allocator + Copy>(
 }
 
 /// What a call of a store is made for.
-#[derive(Clone, Copy)]
 enum ReadFor {
     Opening,
     /// The records of an entry, and the names of a value's.
@@ -48,7 +45,6 @@ enum ReadFor {
 type ReadCalls = (u64, u64, ReadFor);
 
 /// A file, what it is read into, and all calls of its store that are made for that, how many they are.
-#[derive(Clone, Copy)]
 struct CallsRow {
     into: ReadInto,
     reading: DumpReading,
@@ -56,7 +52,7 @@ struct CallsRow {
     count: u64,
 }
 
-const CALLS: [CallsRow; 4] = [
+static CALLS: [CallsRow; 4] = [
     CallsRow {
         into: ReadInto::Value,
         reading: CRASH_READING,
@@ -114,30 +110,6 @@ const CALLS: [CallsRow; 4] = [
     },
 ];
 
-/// The fault of a call of a store of a byte at this place.
-fn told_of(read_for: ReadFor, at: u64) -> ReadFault {
-    let failed = SourceFault::Failed { at };
-    match read_for {
-        ReadFor::Opening => ReadFault::Opening(OpenFault::Source(failed)),
-        ReadFor::Entry(entry) => ReadFault::List(ListFault {
-            entry,
-            index: None,
-            kind: FaultKind::Source(failed),
-            offset: at,
-            size: 0,
-        }),
-        ReadFor::Bytes => ReadFault::Source(failed),
-    }
-}
-
-/// Whether a source is read as this value.
-fn is_read_as<S: Store + Drop>(alloc: Global, source: Source<S>, expected: &Dump<Global>) -> bool {
-    match read_dump(alloc, source, NAMED, Choice::All, 18) {
-        Ok(dump) => dump == *expected,
-        Err(_) => false,
-    }
-}
-
 /// What comes of a store: its fault, and whether the source that comes back is then read as the value.
 type StoreOutcome = (Option<ReadFault>, bool);
 
@@ -145,7 +117,7 @@ type StoreOutcome = (Option<ReadFault>, bool);
 fn assert_outcome(
     rt: &impl Abort,
     alloc: Global,
-    into: ReadInto,
+    into: &ReadInto,
     bytes: &[u8],
     fail_at: u64,
     value: &Dump<Global>,
@@ -153,7 +125,11 @@ fn assert_outcome(
 ) {
     let source = Source::new(PatchyStore::new(bytes, &[1], Some(fail_at)));
     let (fault, source) = fault_into(alloc, into, source, NAMED, Choice::All, 18);
-    let found = (fault, is_read_as(alloc, source, value));
+    let is_value = match read_dump(alloc, source, NAMED, Choice::All, 18) {
+        Ok(dump) => dump == *value,
+        Err(_) => false,
+    };
+    let found = (fault, is_value);
     assert_same_at(rt, &(bytes.len(), fail_at), found, expected);
 }
 
@@ -161,58 +137,72 @@ fn assert_outcome(
 fn assert_told(
     rt: &impl Abort,
     alloc: Global,
-    into: ReadInto,
+    into: &ReadInto,
     bytes: &[u8],
     first: u64,
     calls: &ReadCalls,
     value: &Dump<Global>,
 ) {
-    let (count, place, read_for) = *calls;
-    for call in 0..count {
+    let (count, place, read_for) = calls;
+    for call in 0..*count {
         let fail_at = first.saturating_add(call);
-        let fault = Some(told_of(read_for, place.saturating_add(call)));
-        assert_outcome(rt, alloc, into, bytes, fail_at, value, (fault, true));
+        let at = place.saturating_add(call);
+        let failed = SourceFault::Failed { at };
+        let fault = match read_for {
+            ReadFor::Opening => ReadFault::Opening(OpenFault::Source(failed)),
+            ReadFor::Entry(entry) => ReadFault::List(ListFault {
+                entry: *entry,
+                index: None,
+                kind: FaultKind::Source(failed),
+                offset: at,
+                size: 0,
+            }),
+            ReadFor::Bytes => ReadFault::Source(failed),
+        };
+        assert_outcome(rt, alloc, into, bytes, fail_at, value, (Some(fault), true));
     }
 }
 
 /// Asserts it of all calls by which a file is read or a view of it opened, and that a store is read well which fails at
 /// none of them, but at the next one.
 fn assert_all_told(rt: &impl Abort, alloc: Global, row: &CallsRow) {
-    let bytes = file_of(rt, alloc, row.reading.sample);
-    let value = value_of(rt, alloc, row.reading);
+    let bytes = file_of(rt, alloc, &row.reading.sample);
+    let value = value_of(rt, alloc, &row.reading);
     let mut first: u64 = 0;
     for some in row.calls {
-        assert_told(rt, alloc, row.into, &bytes, first, some, &value);
-        let (more, _, _) = *some;
-        first = first.saturating_add(more);
+        assert_told(rt, alloc, &row.into, &bytes, first, some, &value);
+        let (more, _, _) = some;
+        first = first.saturating_add(*more);
     }
     assert_same_at(rt, &row.reading.name, first, row.count);
-    assert_outcome(rt, alloc, row.into, &bytes, first, &value, (None, false));
+    assert_outcome(rt, alloc, &row.into, &bytes, first, &value, (None, false));
 }
 
 #[test]
 fn each_call_of_reading_may_fail(rt: HostRuntime) {
-    let rows = CALLS;
-    for row in &rows {
+    for row in &CALLS {
         assert_all_told(&rt, rt.alloc(), row);
     }
 }
 
-/// Asserts that a file whose calls give a byte, three, and none gives neither a value nor a view.
-fn assert_stops(rt: &impl Abort, alloc: Global, bytes: &[u8], into: ReadInto) {
-    let source = Source::new(PatchyStore::new(bytes, &[1, 3, 0], None));
-    let (found, _) = fault_into(alloc, into, source, NAMED, Choice::All, 18);
-    let short = ReadFault::Opening(OpenFault::Source(SourceFault::ShortRead { at: 4 }));
-    assert_same_at(rt, &bytes.len(), found, Some(short));
-}
+/// A directory of a thousand entries, which are unused.
+const UNUSED: Sample<'static> = Sample::Numbers(1000, &[0; 3000]);
+
+/// Files that give neither a value nor a view where the calls of a store give a byte, three, and none.
+static STOPPING: [(Sample<'static>, ReadInto); 4] = [
+    (UNUSED, ReadInto::Value),
+    (UNUSED, ReadInto::View),
+    (Sample::Thousand, ReadInto::Value),
+    (Sample::Thousand, ReadInto::View),
+];
 
 #[test]
 fn store_that_gives_nothing_is_told(rt: HostRuntime) {
-    // A directory of a thousand entries, which are unused, or name one list of threads.
-    let unused = file_of(&rt, rt.alloc(), Sample::Numbers(1000, &[0; 3000]));
-    assert_stops(&rt, rt.alloc(), &unused, ReadInto::Value);
-    assert_stops(&rt, rt.alloc(), &unused, ReadInto::View);
-    let threads = thousand_entries_file(rt.alloc()).expect(&rt, "memory for a file");
-    assert_stops(&rt, rt.alloc(), &threads, ReadInto::Value);
-    assert_stops(&rt, rt.alloc(), &threads, ReadInto::View);
+    for (sample, into) in &STOPPING {
+        let bytes = file_of(&rt, rt.alloc(), sample);
+        let source = Source::new(PatchyStore::new(&bytes, &[1, 3, 0], None));
+        let (found, _) = fault_into(rt.alloc(), into, source, NAMED, Choice::All, 18);
+        let short = ReadFault::Opening(OpenFault::Source(SourceFault::ShortRead { at: 4 }));
+        assert_same_at(&rt, &bytes.len(), found, Some(short));
+    }
 }

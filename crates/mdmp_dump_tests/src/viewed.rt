@@ -10,11 +10,11 @@ mod rows;
 mod stores;
 
 use crate::dump::view::{CallFault, Wanted, first_record, raw_bytes};
-use crate::files::{Sample, choice_of, file_of};
-use crate::writer::{open_out, size_of, write_view};
+use crate::files::choice_of;
+use crate::writer::{patchy_out, size_of, write_view};
 use mdmp_dump::{DumpView, FileView, ReadFault, ViewRefused};
 use mdmp_lister::{Choice, Limits};
-use mdmp_source::{MemoryStore, Source, Store, TwoFaces};
+use mdmp_source::{Source, Store, TwoFaces};
 use mdmp_writer::WriteFault;
 use std::alloc::{Allocator, Global};
 use std::process::Abort;
@@ -23,10 +23,11 @@ use std::process::Abort;
 /// alone did; or why the file gives no view.
 type ViewOutcome = Result<Result<u64, WriteFault>, ReadFault>;
 
-/// What a view counted, and `opened`, what it had fetched as it was opened.
+/// What a view counted, `needed`, what a copy needs, and `opened`, what it had fetched as it was opened.
 #[derive(Clone, Copy)]
 struct ViewCounts {
     held: u128,
+    needed: u128,
     opened: u128,
     fetched: u128,
     passed: u128,
@@ -36,6 +37,7 @@ struct ViewCounts {
 /// No view was opened.
 const NOTHING: ViewCounts = ViewCounts {
     held: 0,
+    needed: 0,
     opened: 0,
     fetched: 0,
     passed: 0,
@@ -50,13 +52,6 @@ struct Written {
     told: u64,
     bytes: Vec<u8, Global>,
     counts: ViewCounts,
-}
-
-/// A buffer of so many bytes through which a file is written, and the limits under which it is read.
-#[derive(Clone, Copy)]
-struct Through {
-    limits: Limits,
-    room: usize,
 }
 
 /// Why a source gives no view of all its entries.
@@ -101,6 +96,7 @@ fn counts_of<S: Store + Drop, A: Allocator + Copy>(
 ) -> ViewCounts {
     ViewCounts {
         held: view.held(),
+        needed: view.needed(),
         opened,
         fetched: view.fetched(),
         passed: view.passed(),
@@ -115,7 +111,7 @@ fn outcome_of<V: DumpView>(
     view: &mut V,
     room: usize,
 ) -> (ViewOutcome, Vec<u8, Global>) {
-    let mut out = open_out(rt, alloc);
+    let mut out = patchy_out(rt, alloc, 4096, 4096, None);
     let outcome = Ok(write_view(view, &mut out, room));
     let bytes = out.bytes().to_vec(alloc).expect(rt, "memory for bytes");
     (outcome, bytes)
@@ -146,9 +142,9 @@ fn write_over<S: Store + Drop>(
     alloc: Global,
     store: S,
     types: &[u32],
-    through: Through,
+    limits: Limits,
+    room: usize,
 ) -> Written {
-    let Through { limits, room } = through;
     match FileView::open(alloc, Source::new(store), limits, choice_of(rt, types)) {
         Ok(view) => write_opened(rt, alloc, view, room),
         Err(fault) => Written {
@@ -158,18 +154,6 @@ fn write_over<S: Store + Drop>(
             counts: NOTHING,
         },
     }
-}
-
-/// Writes the entries of these types of a sample through a view of it.
-fn write_sample(
-    rt: &impl Abort,
-    alloc: Global,
-    sample: Sample<'_>,
-    types: &[u32],
-    through: Through,
-) -> Written {
-    let file = file_of(rt, alloc, sample);
-    write_over(rt, alloc, MemoryStore::new(&file), types, through)
 }
 
 /// A file that becomes another one of the same length at this read.
@@ -187,20 +171,16 @@ pub fn two_faces<'a>(
 
 /// How many reads of a store it takes to open a view of all entries of this file, and how many to open one and to
 /// write them through a buffer.
-fn reads_of(rt: &impl Abort, alloc: Global, file: &[u8], through: Through) -> (u64, u64) {
-    let mut view = view_of(
-        rt,
-        alloc,
-        two_faces(rt, file, file, u64::MAX),
-        through.limits,
-    );
-    let opened = view_of(
-        rt,
-        alloc,
-        two_faces(rt, file, file, u64::MAX),
-        through.limits,
-    );
-    let (outcome, _) = outcome_of(rt, alloc, &mut view, through.room);
+fn reads_of(
+    rt: &impl Abort,
+    alloc: Global,
+    file: &[u8],
+    limits: Limits,
+    room: usize,
+) -> (u64, u64) {
+    let mut view = view_of(rt, alloc, two_faces(rt, file, file, u64::MAX), limits);
+    let opened = view_of(rt, alloc, two_faces(rt, file, file, u64::MAX), limits);
+    let (outcome, _) = outcome_of(rt, alloc, &mut view, room);
     let reads = opened.into_source().into_store().reads();
     match outcome {
         Ok(Ok(_)) => (reads, view.into_source().into_store().reads()),
@@ -212,7 +192,7 @@ fn reads_of(rt: &impl Abort, alloc: Global, file: &[u8], through: Through) -> (u
 type FourBytes = Result<[u8; 4], CallFault>;
 
 /// Asks for four bytes of a stream of raw bytes, or of the first record of one that has records.
-fn four_bytes<V: DumpView>(view: &mut V, wanted: Wanted) -> FourBytes {
+fn four_bytes<V: DumpView>(view: &mut V, wanted: &Wanted) -> FourBytes {
     let mut out = [0; 4];
     let found = match raw_bytes(view, wanted, &mut out) {
         Ok(true) => return Ok(out),
@@ -231,7 +211,7 @@ fn asked_thrice<S: Store + Drop>(
     alloc: Global,
     store: S,
     limits: Limits,
-    wanted: Wanted,
+    wanted: &Wanted,
 ) -> [FourBytes; 3] {
     let mut view = view_of(rt, alloc, store, limits);
     [

@@ -1,5 +1,4 @@
 //! Tests of `mdmp_writer`.
-mod layouts;
 mod outputs;
 mod refused;
 mod round_trip;
@@ -27,11 +26,6 @@ pub fn patchy_out(
     PatchyOut::with_room(alloc, room, cap, fail_at).expect(rt, "memory for an output")
 }
 
-/// An output in memory that takes all of a small dump.
-pub fn open_out(rt: &impl Abort, alloc: Global) -> PatchyOut<Global> {
-    patchy_out(rt, alloc, 4096, 4096, None)
-}
-
 /// How many bytes a dump has as it is written, or why it can't be.
 pub fn size_of<V: DumpView>(view: &mut V) -> Result<u64, LayoutFault> {
     written_size(view)
@@ -49,7 +43,7 @@ pub fn write_view<V: DumpView>(
 
 /// Writes a view to an output through a buffer of so many bytes, and asserts what is answered and what the
 /// output took.
-fn assert_wrote<V: DumpView>(
+pub fn assert_wrote<V: DumpView>(
     rt: &impl Abort,
     view: &mut V,
     out: PatchyOut<Global>,

@@ -1,11 +1,9 @@
 //! Values of dumps that are built by hand, and files that are read into values.
-use crate::files::{DumpReading, choice_of, file_of};
-use crate::same::assert_same_at;
+use crate::files::{DumpReading, choice_of, file_of, limits_of_row};
 use mdmp_dump::{Bytes, Dump, ReadAnswered, ReadFault, Records, Stream, read_dump, read_source};
 use mdmp_lister::{Choice, Limits};
 use mdmp_source::{MemoryStore, Source, Store};
 use std::alloc::{Allocator, Global};
-use std::fmt::Debug;
 use std::process::Abort;
 
 /// These bytes in memory of their own.
@@ -13,23 +11,19 @@ pub fn bytes(rt: &impl Abort, alloc: Global, bytes: &[u8]) -> Bytes<Global> {
     Bytes::new(bytes.to_vec(alloc).expect(rt, "memory for bytes"))
 }
 
-/// The streams, or the records, of this list.
-pub fn records<T: Drop, const N: usize>(
+/// A dump of these streams whose header says nothing more.
+pub fn dump_of<const N: usize>(
     rt: &impl Abort,
     alloc: Global,
-    list: [T; N],
-) -> Records<T, Global> {
-    Records::new(Vec::from_array(alloc, list).expect(rt, "memory for a list"))
-}
-
-/// A dump of these streams whose header says nothing more.
-pub fn dump_of(streams: Records<Stream<Global>, Global>) -> Dump<Global> {
+    streams: [Stream<Global>; N],
+) -> Dump<Global> {
+    let list = Vec::from_array(alloc, streams).expect(rt, "memory for a list");
     Dump {
         version_high: 0,
         checksum: 0,
         time: 0,
         flags: 0,
-        streams,
+        streams: Records::new(list),
     }
 }
 
@@ -51,24 +45,19 @@ pub fn read_chosen<A: Allocator + Copy>(
 }
 
 /// The value of a file that is read.
-pub fn value_of(rt: &impl Abort, alloc: Global, reading: DumpReading) -> Dump<Global> {
-    let DumpReading {
-        name,
-        sample,
-        types,
-        limits,
-        parts,
-    } = reading;
-    let file = file_of(rt, alloc, sample);
+pub fn value_of(rt: &impl Abort, alloc: Global, reading: &DumpReading) -> Dump<Global> {
+    let file = file_of(rt, alloc, &reading.sample);
     let source = Source::new(MemoryStore::new(&file));
+    let limits = limits_of_row(rt, &reading.limits);
+    let choice = choice_of(rt, reading.types);
     let ReadAnswered { answer, source: _ } = read_source(
         alloc,
         source,
         limits,
-        choice_of(rt, types),
-        parts,
+        choice,
+        reading.parts,
     );
-    answer.expect(rt, name)
+    answer.expect(rt, reading.name)
 }
 
 /// Why a file gives no value, whose parts have at most so many bytes.
@@ -95,16 +84,4 @@ pub fn value_fault<S: Store + Drop, A: Allocator + Copy>(
 ) -> (Option<ReadFault>, Source<S>) {
     let ReadAnswered { answer, source } = read_source(alloc, source, limits, choice, parts);
     (answer.err(), source)
-}
-
-/// Asserts that a value is printed so.
-pub fn assert_printed<T: Debug + Drop>(
-    rt: &impl Abort,
-    alloc: Global,
-    name: &str,
-    value: T,
-    text: &str,
-) {
-    let printed = format!(in alloc; "{value:?}").expect(rt, "memory for a text");
-    assert_same_at(rt, &name, printed.as_str(), text)
 }

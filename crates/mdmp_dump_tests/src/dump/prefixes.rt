@@ -9,36 +9,13 @@ use mdmp_source::{MemoryStore, Source};
 use std::alloc::Global;
 use std::process::Abort;
 
-/// Asserts that the first bytes of a file, as many as this, give neither a value with parts of at most 100
-/// bytes nor a view, for this reason, or both where there is none.
-fn assert_prefix(
-    rt: &impl Abort,
-    alloc: Global,
-    file: &[u8],
-    size: usize,
-    fault: Option<ReadFault>,
-) {
-    let first = file.get(..size).expect(rt, "a prefix");
-    let value = fault_of(alloc, first, NAMED, 100);
-    let view = view_fault_of(alloc, Source::new(MemoryStore::new(first)), NAMED);
-    assert_same_at(rt, &size, (value, view), (fault, fault));
-}
-
-#[test]
-fn header_that_is_cut_is_too_short(rt: HostRuntime) {
-    let file = file_of(&rt, rt.alloc(), CRASH_FILE);
-    for size in 0..32 {
-        let short = OpenFault::TooShort { size: size as u64 };
-        let fault = Some(ReadFault::Opening(short));
-        assert_prefix(&rt, rt.alloc(), &file, size, fault);
-    }
-}
-
 /// The fewest and the most bytes of some prefixes, and what comes of each of these.
 type PrefixSpan = (usize, usize, Option<ReadFault>);
 
-/// What is cut of the thread and the exception, from a whole header on.
-const SPANS: &[PrefixSpan] = &[
+/// What is cut of the thread and the exception.
+static SPANS: [PrefixSpan; 8] = [
+    // Too short for a header, by the size of each.
+    (0, 31, None),
     (
         32,
         55,
@@ -105,18 +82,27 @@ const SPANS: &[PrefixSpan] = &[
     (292, 292, None),
 ];
 
-/// Asserts it of each prefix of a span.
+/// Asserts that the first bytes of a file, as many as the span tells, give neither a value with parts of at most 100
+/// bytes nor a view, for this reason, or both where there is none.
 fn assert_span(rt: &impl Abort, alloc: Global, file: &[u8], span: &PrefixSpan) {
-    let (from, to, fault) = *span;
+    let (from, to, told) = *span;
     for size in from..to.saturating_add(1) {
-        assert_prefix(rt, alloc, file, size, fault);
+        let first = file.get(..size).expect(rt, "a prefix");
+        let value = fault_of(alloc, first, NAMED, 100);
+        let view = view_fault_of(alloc, Source::new(MemoryStore::new(first)), NAMED);
+        let fault = if size < 32 {
+            Some(ReadFault::Opening(OpenFault::TooShort { size: size as u64 }))
+        } else {
+            told
+        };
+        assert_same_at(rt, &size, (value, view), (fault, fault));
     }
 }
 
 #[test]
 fn each_prefix_of_a_dump_is_told_by_what_is_cut(rt: HostRuntime) {
-    let file = file_of(&rt, rt.alloc(), CRASH_FILE);
-    for span in SPANS {
+    let file = file_of(&rt, rt.alloc(), &CRASH_FILE);
+    for span in &SPANS {
         assert_span(&rt, rt.alloc(), &file, span);
     }
 }

@@ -1,49 +1,42 @@
 //! Dumps as values: built, looked at, given back and compared.
-use super::built::{bytes, dump_of, records, value_of};
-use crate::files::{ALL, DumpReading, NAMED, Sample};
-use crate::same::{assert_same, assert_same_at, assert_that};
-use mdmp_dump::{Dump, Memory64Range, Records, Stream};
-use std::alloc::Global;
-use std::process::Abort;
+use super::built::{bytes, dump_of, read_chosen};
+use crate::files::{NAMED, Sample, file_of};
+use crate::same::assert_same_at;
+use mdmp_dump::{Memory64Range, Records, Stream};
+use mdmp_lister::Choice;
 
-/// A list of one range of 64-bit memory.
-fn far_range(rt: &impl Abort, alloc: Global) -> Records<Memory64Range<Global>, Global> {
+#[test]
+fn dump_is_built_and_looked_at_and_its_lists_given_back(rt: HostRuntime) {
     let range = Memory64Range {
         start: 0x1000,
-        bytes: bytes(rt, alloc, b"ABCD"),
+        bytes: bytes(&rt, rt.alloc(), b"ABCD"),
     };
-    records(rt, alloc, [range])
-}
-
-/// Whether a range of a 64-bit memory list has these bytes.
-fn has_range(dump: &Dump<Global>, bytes: &[u8]) -> bool {
+    let ranges = Vec::from_array(rt.alloc(), [range]).expect(&rt, "memory for a list");
+    let stream = Stream::Memory64(Records::new(ranges));
+    let dump = dump_of(&rt, rt.alloc(), [stream]);
+    let mut seen: u32 = 0;
+    let mut others: u32 = 0;
     for stream in &dump.streams {
         if let Stream::Memory64(ranges) = stream {
             for range in ranges {
-                if range.bytes.as_slice() == bytes {
-                    return true;
+                if range.bytes.as_slice() == b"ABCD".as_slice() {
+                    seen = seen.saturating_add(1);
+                } else {
+                    others = others.saturating_add(1);
                 }
             }
         }
     }
-    false
-}
-
-#[test]
-fn dump_is_built_and_looked_at(rt: HostRuntime) {
-    let stream = Stream::Memory64(far_range(&rt, rt.alloc()));
-    let dump = dump_of(records(&rt, rt.alloc(), [stream]));
-    assert_that(&rt, has_range(&dump, b"ABCD"));
-    assert_that(&rt, !has_range(&dump, b"ABCE"));
-}
-
-#[test]
-fn lists_are_given_back(rt: HostRuntime) {
-    let list = far_range(&rt, rt.alloc()).into_vec();
-    assert_same(&rt, list.len(), 1);
-    for range in list {
-        let bytes = range.bytes.into_vec();
-        assert_same(&rt, bytes.as_slice(), b"ABCD".as_slice());
+    assert_same_at(&rt, &"looked at", (seen, others), (1, 0));
+    for stream in dump.streams.into_vec() {
+        if let Stream::Memory64(ranges) = stream {
+            let list = ranges.into_vec();
+            assert_same_at(&rt, &"given back", list.len(), 1);
+            for range in list {
+                let bytes = range.bytes.into_vec();
+                assert_same_at(&rt, &"bytes", bytes.as_slice(), b"ABCD".as_slice());
+            }
+        }
     }
 }
 
@@ -60,7 +53,7 @@ const NAME: Sample<'static> = Sample::Named(b"\x0a\0\0\0a\0.\0d\0l\0l\0");
 /// A range of memory of the bytes `AB`.
 const RANGE: Sample<'static> = Sample::Numbers(1, &[5, 20, 44, 1, 0x7000, 0, 2, 64, 0x4241]);
 
-const COMPARED: &[ComparedRow] = &[
+static COMPARED: [ComparedRow; 5] = [
     ComparedRow {
         one: NAME,
         other: NAME,
@@ -92,24 +85,16 @@ const COMPARED: &[ComparedRow] = &[
     },
 ];
 
-/// The value of a file.
-fn dump_in(rt: &impl Abort, alloc: Global, sample: Sample<'static>) -> Dump<Global> {
-    let reading = DumpReading {
-        name: "a file that is compared",
-        sample,
-        types: ALL,
-        limits: NAMED,
-        parts: 2,
-    };
-    value_of(rt, alloc, reading)
-}
-
 #[test]
 fn names_and_parts_are_compared(rt: HostRuntime) {
     let mut number: u32 = 0;
-    for row in COMPARED {
-        let one = dump_in(&rt, rt.alloc(), row.one);
-        let other = dump_in(&rt, rt.alloc(), row.other);
+    for row in &COMPARED {
+        let one_file = file_of(&rt, rt.alloc(), &row.one);
+        let one = read_chosen(rt.alloc(), &one_file, NAMED, Choice::All, 2).expect(&rt, "one");
+        let other_file = file_of(&rt, rt.alloc(), &row.other);
+        let other = read_chosen(rt.alloc(), &other_file, NAMED, Choice::All, 2).expect(
+            &rt, "other",
+        );
         let found = (one == other, one != other);
         assert_same_at(&rt, &number, found, (row.are_same, !row.are_same));
         number = number.saturating_add(1);

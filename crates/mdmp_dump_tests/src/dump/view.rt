@@ -6,8 +6,8 @@ use super::built::value_of;
 use crate::files::{
     ABSENT_STACK_READING, CRASH_READING, DumpReading, MEMORY64_READING, SIX_READING,
 };
-use crate::same::{assert_same, assert_same_at};
-use crate::vectors::VECTORS;
+use crate::same::assert_same_at;
+use crate::vectors::HEADER_READING;
 use mdmp_dump::{DumpView, Fields, HeaderFields, Kind, PartSize, ViewFault};
 use mdmp_source::Location;
 use mdmp_wire::{AnyRecord, Descriptor, Descriptor64, ThreadRecord};
@@ -82,10 +82,10 @@ pub struct Wanted {
 /// there are so many.
 pub fn first_record<V: DumpView>(
     view: &mut V,
-    wanted: Wanted,
+    wanted: &Wanted,
     out: &mut [u8],
 ) -> Result<Option<Fields>, CallFault> {
-    let Wanted { stream, which, at } = wanted;
+    let Wanted { stream, which, at } = *wanted;
     if stream >= view.streams() || !has_records(view, stream) {
         return Ok(None);
     }
@@ -109,10 +109,10 @@ pub fn first_record<V: DumpView>(
 /// Whether a stream is one of raw bytes, and of these those from a place on, if there are so many.
 pub fn raw_bytes<V: DumpView>(
     view: &mut V,
-    wanted: Wanted,
+    wanted: &Wanted,
     out: &mut [u8],
 ) -> Result<bool, CallFault> {
-    let Wanted { stream, at, .. } = wanted;
+    let Wanted { stream, at, .. } = *wanted;
     if stream >= view.streams() {
         return Ok(false);
     }
@@ -131,34 +131,59 @@ pub fn raw_bytes<V: DumpView>(
     Ok(true)
 }
 
-/// A part of the first record of a stream, a place in it, and the bytes from there on.
-type PartRow = (u64, usize, u64, &'static [u8]);
+/// A stream, the record that is given as its first one, if any, and the sizes of its name and parts.
+type RecordRow = (u64, Option<AnyRecord>, (PartSize, PartSize, PartSize));
 
-/// What one view of a dump gives, one after another: what is told of each of its streams, the first records of some,
-/// and parts of these.
-#[derive(Clone, Copy)]
+/// The sizes of no record.
+const NO_PARTS: (PartSize, PartSize, PartSize) = (
+    PartSize::NoPart,
+    PartSize::NoPart,
+    PartSize::NoPart,
+);
+
+/// Whether bytes of a record are asked for or raw ones, the stream, the part and the place of these, whether they are
+/// there, and the bytes that are given.
+type PieceRow = (bool, u64, usize, u64, bool, &'static [u8]);
+
+/// What one view of a dump gives, one after another: the numbers of its header, what is told of each of its streams, the
+/// first records of some, and pieces of these and of raw bytes.
 struct ViewRow {
     reading: DumpReading,
+    header: HeaderFields,
     told: &'static [StreamTold],
-    records: [(u64, Option<Fields>); 2],
-    parts: &'static [PartRow],
+    records: &'static [RecordRow],
+    pieces: &'static [PieceRow],
 }
 
-/// No stream has this number, so that there is no record.
-const NO_RECORD: (u64, Option<Fields>) = (6, None);
+/// The header of most dumps.
+const NO_NUMBERS: HeaderFields = HeaderFields {
+    version_high: 0,
+    checksum: 0,
+    time: 0,
+    flags: 0,
+};
 
 /// Where nothing is.
 const NOWHERE: Location = Location { size: 0, rva: 0 };
 
-/// The stack of a thread begins here, and stands nowhere.
-const STACK: Descriptor = Descriptor {
-    start_of_memory_range: 0x7000,
-    memory: NOWHERE,
+/// A thread without its locations, whose stack begins at 0x7000.
+const THREAD: ThreadRecord = ThreadRecord {
+    thread_id: 7,
+    suspend_count: 0,
+    priority_class: 0,
+    priority: 0,
+    teb: 0,
+    stack: Descriptor {
+        start_of_memory_range: 0x7000,
+        memory: NOWHERE,
+    },
+    thread_context: NOWHERE,
 };
 
-const VIEWS: [ViewRow; 4] = [
+static VIEWS: [ViewRow; 5] = [
     ViewRow {
         reading: SIX_READING,
+        header: NO_NUMBERS,
         told: &[
             (Kind::Known(7), 56, 36),
             (Kind::Known(3), 52, 12),
@@ -168,167 +193,150 @@ const VIEWS: [ViewRow; 4] = [
             (Kind::Raw(12), 4, 0),
         ],
         // A record without its locations, and a list without records.
-        records: [
+        records: &[
             (
                 1,
-                Some(Fields {
-                    wire: AnyRecord::Thread(ThreadRecord {
-                        thread_id: 7,
-                        suspend_count: 0,
-                        priority_class: 32,
-                        priority: 0,
-                        teb: 0x5000,
-                        stack: STACK,
-                        thread_context: NOWHERE,
-                    }),
-                    parts: [PartSize::Size(4), PartSize::Size(6), PartSize::NoPart],
-                }),
+                Some(AnyRecord::Thread(ThreadRecord {
+                    priority_class: 32,
+                    teb: 0x5000,
+                    ..THREAD
+                })),
+                (PartSize::Size(4), PartSize::Size(6), PartSize::NoPart),
             ),
-            (2, None),
+            (2, None, NO_PARTS),
+            (6, None, NO_PARTS),
         ],
         // By pieces.
-        parts: &[
-            (0, 0, 0, b"S\0e"),
-            (0, 0, 3, b"\0r\0v"),
-            (0, 0, 26, b"1\0"),
-            (1, 0, 0, b"STAK"),
-            (1, 1, 0, &[1, 2, 3, 4]),
-            (1, 1, 4, &[5, 6]),
-            (1, 1, 6, &[]),
-            (3, 0, 0, &[0xaa]),
-            (3, 0, 1, &[0xbb, 0xcc, 0xdd]),
+        pieces: &[
+            (true, 0, 0, 0, true, b"S\0e"),
+            (true, 0, 0, 3, true, b"\0r\0v"),
+            (true, 0, 0, 26, true, b"1\0"),
+            (true, 1, 0, 0, true, b"STAK"),
+            (true, 1, 1, 0, true, &[1, 2, 3, 4]),
+            (true, 1, 1, 4, true, &[5, 6]),
+            (true, 1, 1, 6, true, &[]),
+            (true, 3, 0, 0, true, &[0xaa]),
+            (true, 3, 0, 1, true, &[0xbb, 0xcc, 0xdd]),
+            (false, 5, 0, 1, true, &[2, 3]),
+            (false, 4, 0, 0, false, &[0, 0]),
         ],
     },
     ViewRow {
         reading: CRASH_READING,
+        header: NO_NUMBERS,
         told: &[(Kind::Known(3), 52, 12), (Kind::Known(6), 168, 4)],
-        records: [NO_RECORD, NO_RECORD],
-        parts: &[],
+        records: &[(6, None, NO_PARTS)],
+        pieces: &[],
     },
     ViewRow {
         reading: MEMORY64_READING,
+        header: NO_NUMBERS,
         told: &[(Kind::Known(9), 48, 8)],
-        records: [
+        records: &[
             (
                 0,
-                Some(Fields {
-                    wire: AnyRecord::Memory64(Descriptor64 {
-                        start_of_memory_range: 0x1000,
-                        data_size: 4,
-                    }),
-                    parts: [PartSize::Size(4), PartSize::NoPart, PartSize::NoPart],
-                }),
+                Some(AnyRecord::Memory64(Descriptor64 {
+                    start_of_memory_range: 0x1000,
+                    data_size: 4,
+                })),
+                (PartSize::Size(4), PartSize::NoPart, PartSize::NoPart),
             ),
-            NO_RECORD,
+            (6, None, NO_PARTS),
         ],
-        parts: &[(0, 0, 1, b"BCD")],
+        pieces: &[(true, 0, 0, 1, true, b"BCD")],
     },
     // An absent part is given as its size.
     ViewRow {
         reading: ABSENT_STACK_READING,
+        header: NO_NUMBERS,
         told: &[(Kind::Known(3), 52, 4)],
-        records: [
+        records: &[
             (
                 0,
-                Some(Fields {
-                    wire: AnyRecord::Thread(ThreadRecord {
-                        thread_id: 7,
-                        suspend_count: 0,
-                        priority_class: 0,
-                        priority: 0,
-                        teb: 0,
-                        stack: STACK,
-                        thread_context: NOWHERE,
-                    }),
-                    parts: [PartSize::Absent(256), PartSize::Size(1), PartSize::NoPart],
-                }),
+                Some(AnyRecord::Thread(THREAD)),
+                (PartSize::Absent(256), PartSize::Size(1), PartSize::NoPart),
             ),
-            NO_RECORD,
+            (6, None, NO_PARTS),
         ],
-        parts: &[],
+        pieces: &[],
+    },
+    ViewRow {
+        reading: HEADER_READING,
+        header: HeaderFields {
+            version_high: 0x12aa,
+            checksum: 1,
+            time: 2,
+            flags: 0x0400000000000003,
+        },
+        told: &[],
+        records: &[],
+        pieces: &[],
     },
 ];
 
-/// Asserts what is told of each stream of a view.
-fn assert_told<V: DumpView>(rt: &impl Abort, view: &mut V, streams: &[StreamTold]) {
+/// Asserts what is told of the header and of each stream of a view.
+fn assert_told<V: DumpView>(rt: &impl Abort, view: &mut V, row: &ViewRow) {
+    assert_same_at(rt, &row.reading.name, view.header(), row.header);
     let mut stream: u64 = 0;
-    for told in streams {
+    for told in row.told {
         assert_same_at(rt, &stream, told_of(view, stream), Some(*told));
         stream = stream.saturating_add(1);
     }
-    assert_same(rt, told_of(view, stream), None);
+    assert_same_at(rt, &stream, told_of(view, stream), None);
 }
 
-/// Asserts what is given as the first records of these streams.
-fn assert_records<V: DumpView>(rt: &impl Abort, view: &mut V, rows: &[(u64, Option<Fields>)]) {
-    for (stream, fields) in rows {
-        let wanted = Wanted {
-            stream: *stream,
-            which: 0,
-            at: 0,
-        };
-        let found = first_record(view, wanted, &mut []);
-        assert_same_at(rt, stream, found, Ok(*fields));
-    }
+/// Asserts what is given as the first record of a stream.
+fn assert_record<V: DumpView>(rt: &impl Abort, view: &mut V, row: &RecordRow) {
+    let (stream, record, (first, second, third)) = *row;
+    let wanted = Wanted {
+        stream,
+        which: 0,
+        at: 0,
+    };
+    let expected = match record {
+        Some(wire) => Some(Fields {
+            wire,
+            parts: [first, second, third],
+        }),
+        None => None,
+    };
+    let found = first_record(view, &wanted, &mut []);
+    assert_same_at(rt, &stream, found, Ok(expected));
 }
 
-/// Asserts that the first record of a stream is given, and these bytes of one of its parts.
-fn assert_part<V: DumpView>(rt: &impl Abort, view: &mut V, row: &PartRow) {
-    let (stream, which, at, expected) = *row;
+/// Asserts that the first record of a stream is given, or raw bytes are, and these bytes of it.
+fn assert_piece<V: DumpView>(rt: &impl Abort, view: &mut V, row: &PieceRow) {
+    let (of_record, stream, which, at, expected, bytes) = *row;
     let wanted = Wanted { stream, which, at };
     let mut buffer = [0; 8];
-    let out = buffer.get_mut(..expected.len()).expect(rt, "room");
-    let found = first_record(view, wanted, out);
-    let is_given = matches!(found, Ok(Some(_)));
-    let found = (is_given, buffer.get(..expected.len()));
-    assert_same_at(rt, row, found, (true, Some(expected)));
+    let out = buffer.get_mut(..bytes.len()).expect(rt, "room");
+    let is_there = if of_record {
+        match first_record(view, &wanted, out) {
+            Ok(fields) => Ok(fields.is_some()),
+            Err(fault) => Err(fault),
+        }
+    } else {
+        raw_bytes(view, &wanted, out)
+    };
+    let found = (is_there, buffer.get(..bytes.len()));
+    assert_same_at(rt, row, found, (Ok(expected), Some(bytes)));
 }
 
 /// Asserts what a view gives.
 fn assert_view<V: DumpView>(rt: &impl Abort, view: &mut V, row: &ViewRow) {
-    assert_told(rt, view, row.told);
-    assert_records(rt, view, &row.records);
-    for part in row.parts {
-        assert_part(rt, view, part);
+    assert_told(rt, view, row);
+    for record in row.records {
+        assert_record(rt, view, record);
+    }
+    for piece in row.pieces {
+        assert_piece(rt, view, piece);
     }
 }
 
 #[test]
 fn streams_records_and_parts_are_those_of_the_value(rt: HostRuntime) {
-    let views = VIEWS;
-    for row in &views {
-        let dump = value_of(&rt, rt.alloc(), row.reading);
+    for row in &VIEWS {
+        let dump = value_of(&rt, rt.alloc(), &row.reading);
         assert_view(&rt, &mut dump.view(), row);
-    }
-}
-
-#[test]
-fn numbers_of_the_header_are_given(rt: HostRuntime) {
-    let header = HeaderFields {
-        version_high: 0x12aa,
-        checksum: 1,
-        time: 2,
-        flags: 0x0400000000000003,
-    };
-    let vectors = VECTORS;
-    let dump = value_of(&rt, rt.alloc(), vectors[0].reading);
-    assert_same(&rt, dump.view().header(), header);
-}
-
-/// A stream of the six, a place in it, and whether it is one of raw bytes, with two of these from there on.
-const RAW: [(u64, u64, bool, [u8; 2]); 2] = [(5, 1, true, [2, 3]), (4, 0, false, [0, 0])];
-
-#[test]
-fn raw_bytes_are_given_by_pieces(rt: HostRuntime) {
-    let six = value_of(&rt, rt.alloc(), SIX_READING);
-    for (stream, at, is_raw, expected) in &RAW {
-        let wanted = Wanted {
-            stream: *stream,
-            which: 0,
-            at: *at,
-        };
-        let mut out = [0; 2];
-        let found = raw_bytes(&mut six.view(), wanted, &mut out);
-        assert_same_at(&rt, stream, (found, out), (Ok(*is_raw), *expected));
     }
 }

@@ -1,5 +1,5 @@
 //! The calls of a view over a store that gives one byte a call, each of whose calls fails in turn.
-use super::{FourBytes, asked_thrice};
+use super::asked_thrice;
 use crate::dump::view::{NEXT_RECORD, PART, REWIND, ViewCall, Wanted};
 use crate::files::{CRASH_FILE, NAMED, SIX_FILE, Sample, file_of};
 use crate::same::assert_same_at;
@@ -11,18 +11,6 @@ use std::process::Abort;
 /// Calls of a store, one behind the other: how many they are, where the byte of the first one stands, and
 /// the call of the view that makes them.
 type PassCalls = (u64, u64, ViewCall);
-
-/// What is answered where a call of the store fails for a call of a view: a stream that could not be read
-/// is never begun again, and a part is given when it is asked for again.
-fn expected_of(call: ViewCall, at: u64, bytes: [u8; 4]) -> [FourBytes; 3] {
-    let fault = ViewFault::Source(SourceFault::Failed { at });
-    let again = if call == PART {
-        Ok(bytes)
-    } else {
-        Err((REWIND, fault))
-    };
-    [Err((call, fault)), again, again]
-}
 
 /// Bytes of a file that a view is asked for.
 struct Asking {
@@ -45,7 +33,7 @@ const FAR_RECORD: [u32; 61] = [
     4, 0x00620061,
 ];
 
-const ASKINGS: &[Asking] = &[
+static ASKINGS: [Asking; 5] = [
     Asking {
         name: "a stack",
         sample: CRASH_FILE,
@@ -114,52 +102,50 @@ const ASKINGS: &[Asking] = &[
     },
 ];
 
-/// What a view answers over a store that gives one byte a call and fails at this one.
-fn asked_where(
-    rt: &impl Abort,
-    alloc: Global,
-    file: &[u8],
-    fail_at: u64,
-    wanted: Wanted,
-) -> [FourBytes; 3] {
-    let store = PatchyStore::new(file, &[1], Some(fail_at));
-    asked_thrice(rt, alloc, store, NAMED, wanted)
-}
-
-/// Asserts that the failure of each of these calls is told, which are numbered from `first` on.
+/// Asserts that the failure of each of these calls is told, which are numbered from `first` on. A stream that could not be
+/// read is never begun again, and a part is given when it is asked for again.
 fn assert_told(
     rt: &impl Abort,
     alloc: Global,
     file: &[u8],
     first: u64,
-    calls: PassCalls,
+    calls: &PassCalls,
     asking: &Asking,
 ) {
-    let (count, place, view_call) = calls;
+    let (count, place, view_call) = *calls;
     for call in 0..count {
         let fail_at = first.saturating_add(call);
-        let asked = asked_where(rt, alloc, file, fail_at, asking.wanted);
-        let expected = expected_of(view_call, place.saturating_add(call), asking.bytes);
+        let store = PatchyStore::new(file, &[1], Some(fail_at));
+        let asked = asked_thrice(rt, alloc, store, NAMED, &asking.wanted);
+        let at = place.saturating_add(call);
+        let fault = ViewFault::Source(SourceFault::Failed { at });
+        let again = if view_call == PART {
+            Ok(asking.bytes)
+        } else {
+            Err((REWIND, fault))
+        };
+        let expected = [Err((view_call, fault)), again, again];
         assert_same_at(rt, &(asking.name, fail_at), asked, expected);
     }
 }
 
 /// Asserts it of all these calls, and that the bytes are given where the call behind them fails.
 fn assert_all_told(rt: &impl Abort, alloc: Global, asking: &Asking) {
-    let file = file_of(rt, alloc, asking.sample);
+    let file = file_of(rt, alloc, &asking.sample);
     let mut first = asking.opening;
     for some in asking.calls {
-        assert_told(rt, alloc, &file, first, *some, asking);
+        assert_told(rt, alloc, &file, first, some, asking);
         let (count, _, _) = *some;
         first = first.saturating_add(count);
     }
-    let [asked, _, _] = asked_where(rt, alloc, &file, first, asking.wanted);
+    let store = PatchyStore::new(&file, &[1], Some(first));
+    let [asked, _, _] = asked_thrice(rt, alloc, store, NAMED, &asking.wanted);
     assert_same_at(rt, &asking.name, asked, Ok(asking.bytes));
 }
 
 #[test]
 fn each_call_for_bytes_may_fail(rt: HostRuntime) {
-    for asking in ASKINGS {
+    for asking in &ASKINGS {
         assert_all_told(&rt, rt.alloc(), asking);
     }
 }

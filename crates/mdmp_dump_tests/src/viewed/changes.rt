@@ -1,5 +1,5 @@
 //! Files that change while a view of them is opened or written.
-use super::{Through, Written, reads_of, two_faces, write_over};
+use super::{Written, reads_of, two_faces, write_over};
 use crate::files::{NAMED, SIX_FILE, file_of};
 use crate::same::assert_same_at;
 use mdmp_dump::ViewFault;
@@ -8,17 +8,11 @@ use mdmp_writer::WriteFault;
 use std::alloc::Global;
 use std::process::Abort;
 
-/// How the files are written.
-const BY_SEVEN: Through = Through {
-    limits: NAMED,
-    room: 7,
-};
-
 /// A byte of the file of six streams, another number in its place, and where the stream stands that is told as changed,
 /// where that is asked of each write behind the opening.
 type Change = (usize, u8, Option<u64>);
 
-const CHANGES: &[Change] = &[
+static CHANGES: [Change; 20] = [
     (8, 5, None), // the number of streams
     (32, 9, None), // the type of the first
     (36, 55, None), // its size
@@ -41,52 +35,52 @@ const CHANGES: &[Change] = &[
     (440, 9, None), // a byte of the last stream
 ];
 
-/// Asserts that what went out has the length that was told, or is shorter where the writing stopped.
-fn assert_length(rt: &impl Abort, at: &(usize, u64), written: &Written) {
+/// Asserts that what went out has the length that was told, or is shorter where the writing stopped; and where a place is
+/// told, that it is a first part of the six streams, and the file was told as changed there.
+fn assert_first_part(
+    rt: &impl Abort,
+    at: &(usize, u64),
+    six: &[u8],
+    written: &Written,
+    place: Option<u64>,
+) {
     let bytes = written.bytes.len() as u64;
     let told = written.told;
-    let found = match written.outcome {
+    let is_long = match written.outcome {
         Err(_) => bytes == 0,
         Ok(Ok(size)) => bytes == told && size == told,
         Ok(Err(_)) => bytes < told,
     };
-    assert_same_at(rt, at, found, true);
-}
-
-/// Asserts that a first part of the six streams was written, and where the writing stopped, that the file was told as
-/// changed at this place.
-fn assert_first_part(rt: &impl Abort, at: &(usize, u64), six: &[u8], written: &Written, rva: u64) {
-    let first = six.get(..written.bytes.len());
-    assert_same_at(rt, at, first, Some(written.bytes.as_slice()));
-    let changed = ViewFault::Source(SourceFault::Changed { at: rva });
-    if let Ok(Err(fault)) = written.outcome {
-        assert_same_at(rt, at, fault, WriteFault::View(changed));
+    assert_same_at(rt, at, is_long, true);
+    if let Some(rva) = place {
+        let first = six.get(..written.bytes.len());
+        assert_same_at(rt, at, first, Some(written.bytes.as_slice()));
+        if let Ok(Err(fault)) = written.outcome {
+            let changed = ViewFault::Source(SourceFault::Changed { at: rva });
+            assert_same_at(rt, at, fault, WriteFault::View(changed));
+        }
     }
 }
 
 /// Writes the six streams, a byte of which changes at each read in turn.
 fn assert_change(rt: &impl Abort, alloc: Global, six: &[u8], change: &Change) {
     let (place, byte, rva) = *change;
-    let mut other = file_of(rt, alloc, SIX_FILE);
+    let mut other = file_of(rt, alloc, &SIX_FILE);
     *other.get_mut(place).expect(rt, "a byte of the file") = byte;
-    let (opened, reads) = reads_of(rt, alloc, six, BY_SEVEN);
+    let (opened, reads) = reads_of(rt, alloc, six, NAMED, 7);
     for turn in 0..reads {
         let at = (place, turn);
         let store = two_faces(rt, six, &other, turn);
-        let written = write_over(rt, alloc, store, &[], BY_SEVEN);
-        assert_length(rt, &at, &written);
-        if let Some(rva) = rva {
-            if turn >= opened {
-                assert_first_part(rt, &at, six, &written, rva);
-            }
-        }
+        let written = write_over(rt, alloc, store, &[], NAMED, 7);
+        let place = if turn >= opened { rva } else { None };
+        assert_first_part(rt, &at, six, &written, place);
     }
 }
 
 #[test]
 fn file_that_changes_leaves_a_first_part_and_is_never_written_with_another_length(rt: HostRuntime) {
-    let six = file_of(&rt, rt.alloc(), SIX_FILE);
-    for change in CHANGES {
+    let six = file_of(&rt, rt.alloc(), &SIX_FILE);
+    for change in &CHANGES {
         assert_change(&rt, rt.alloc(), &six, change);
     }
 }

@@ -1,24 +1,23 @@
 //! What is written through a view is what is written of the value.
-use super::{Through, ViewOutcome, outcome_of, view_of, write_over, write_sample};
+use super::{ViewOutcome, outcome_of, view_of, write_over};
 use crate::dump::built::{read_chosen, value_of};
-use crate::dump::view::told_of;
+use crate::dump::view::{StreamTold, told_of};
 use crate::files::{
     ABSENT_STACK_FILE, CRASH_FILE, MEMORY64_FILE, NAMED, SIX_FILE, SIX_READING, SYSTEM_FILE,
     Sample, choice_of, file_of,
 };
-use crate::same::{assert_same, assert_same_at};
+use crate::same::assert_same_at;
 use crate::vectors::REGION;
-use mdmp_dump::{Dump, ReadFault};
+use mdmp_dump::{Dump, DumpView, ReadFault};
 use mdmp_source::MemoryStore;
 use mdmp_test_support::{
     ABSENT_STACK, COMMENT, FAR_NAME, FAULTY, MEMORY64, MODULE, OVERLAPPING, THREAD_NAME, THRICE,
-    endless_ranges_file, header_of, last_file,
 };
 use std::alloc::Global;
 use std::process::Abort;
 
 /// Each type of stream, by itself, and all.
-const CHOICES: [&[u32]; 14] = [
+static CHOICES: [&[u32]; 14] = [
     &[],
     &[0],
     &[3],
@@ -53,25 +52,22 @@ fn by_value(
 fn assert_same_bytes(rt: &impl Abort, alloc: Global, file: &[u8], types: &[u32], room: usize) {
     let value = read_chosen(alloc, file, NAMED, choice_of(rt, types), u64::MAX);
     let (outcome, bytes) = by_value(rt, alloc, value, room);
-    let through = Through {
-        limits: NAMED,
-        room,
-    };
-    let written = write_over(rt, alloc, MemoryStore::new(file), types, through);
+    let written = write_over(rt, alloc, MemoryStore::new(file), types, NAMED, room);
     let found = (written.outcome, written.bytes);
     assert_same_at(rt, &(file, types, room), found, (outcome, bytes));
 }
 
 /// Asserts it of each choice of one type, and of all.
-fn assert_same_copies(rt: &impl Abort, alloc: Global, file: &[u8]) {
+fn assert_same_copies(rt: &impl Abort, alloc: Global, sample: &Sample<'static>) {
+    let file = file_of(rt, alloc, sample);
     for types in &CHOICES {
-        assert_same_bytes(rt, alloc, file, *types, 1);
-        assert_same_bytes(rt, alloc, file, *types, 7);
-        assert_same_bytes(rt, alloc, file, *types, 4096);
+        assert_same_bytes(rt, alloc, &file, *types, 1);
+        assert_same_bytes(rt, alloc, &file, *types, 7);
+        assert_same_bytes(rt, alloc, &file, *types, 4096);
     }
 }
 
-const SAMPLES: [Sample<'static>; 28] = [
+static SAMPLES: [Sample<'static>; 30] = [
     SIX_FILE,
     // Threads and modules.
     CRASH_FILE,
@@ -139,44 +135,39 @@ const SAMPLES: [Sample<'static>; 28] = [
     Sample::Numbers(3, &FAULTY),
     // A part that is cut off.
     Sample::Cut(1, &ABSENT_STACK, 96),
+    // Ranges past every place.
+    Sample::Endless,
+    Sample::Last,
 ];
 
 #[test]
 fn each_kind_of_stream_is_written_as_its_value(rt: HostRuntime) {
     for sample in &SAMPLES {
-        assert_same_copies(&rt, rt.alloc(), &file_of(&rt, rt.alloc(), *sample));
+        assert_same_copies(&rt, rt.alloc(), sample);
     }
 }
 
-#[test]
-fn ranges_past_every_place_are_refused_as_by_the_value(rt: HostRuntime) {
-    let endless = endless_ranges_file(rt.alloc()).expect(&rt, "memory for a file");
-    assert_same_copies(&rt, rt.alloc(), &endless);
-    let last = last_file(rt.alloc()).expect(&rt, "memory for a file");
-    assert_same_copies(&rt, rt.alloc(), &last);
+/// What is told of streams of the six, of which each is told, and some again.
+fn told_of_six<V: DumpView>(view: &mut V) -> [Option<StreamTold>; 10] {
+    [
+        told_of(view, 0),
+        told_of(view, 1),
+        told_of(view, 2),
+        told_of(view, 3),
+        told_of(view, 4),
+        told_of(view, 5),
+        told_of(view, 6),
+        told_of(view, 2),
+        told_of(view, 5),
+        told_of(view, 0),
+    ]
 }
-
-#[test]
-fn type_that_has_no_place_is_not_written(rt: HostRuntime) {
-    let through = Through {
-        limits: NAMED,
-        room: 1,
-    };
-    let written = write_sample(&rt, rt.alloc(), SIX_FILE, &[200000], through);
-    assert_same(&rt, written.outcome, Ok(Ok(32)));
-    assert_same(&rt, written.bytes.as_slice(), header_of(0, 32).as_slice());
-}
-
-/// Streams of the six, of which each is told, and some again.
-const TOLD: &[u64] = &[0, 1, 2, 3, 4, 5, 6, 2, 5, 0];
 
 #[test]
 fn streams_are_told_as_by_the_view_of_the_value(rt: HostRuntime) {
-    let file = file_of(&rt, rt.alloc(), SIX_FILE);
-    let value = value_of(&rt, rt.alloc(), SIX_READING);
+    let file = file_of(&rt, rt.alloc(), &SIX_FILE);
+    let value = value_of(&rt, rt.alloc(), &SIX_READING);
+    let expected = told_of_six(&mut value.view());
     let mut view = view_of(&rt, rt.alloc(), MemoryStore::new(&file), NAMED);
-    for stream in TOLD {
-        let told = told_of(&mut view, *stream);
-        assert_same_at(&rt, stream, told, told_of(&mut value.view(), *stream));
-    }
+    assert_same_at(&rt, &"six", told_of_six(&mut view), expected);
 }

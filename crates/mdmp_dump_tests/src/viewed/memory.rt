@@ -1,8 +1,8 @@
 //! The memory that a view takes as it is opened.
-use super::{ViewOutcome, counts_of, outcome_of};
+use super::{counts_of, outcome_of};
 use crate::dump::view::{Wanted, first_record, raw_bytes, told_of};
 use crate::files::{CRASH_FILE, SIX_FILE, Sample, choice_of, file_of};
-use crate::same::{assert_same, assert_same_at};
+use crate::same::assert_same_at;
 use linked_list_allocator::LocalHeap;
 use mdmp_dump::{FileView, ReadFault, ViewRefused};
 use mdmp_lister::{Choice, Limits};
@@ -26,62 +26,44 @@ fn opened_in(rt: &impl Abort, heap: &LocalHeap, file: &[u8]) -> Opened {
     }
 }
 
-/// Asserts what comes of it in a heap of so many bytes, of which nothing is used in the end.
+/// Asserts what comes of it in a heap of so many bytes, of which nothing is used in the end. Six entries have 12 bytes, a
+/// window 176, and there are 4 and 8 bytes for each entry: blocks are multiples of 16.
 fn assert_opened(rt: &impl Abort, alloc: Global, size: usize, file: &[u8]) {
     let heap = LocalHeap::new(alloc, size).expect(rt, "a heap");
     let opened = opened_in(rt, &heap, file);
-    assert_same_at(rt, &size, (opened, heap.used()), (expected_in(size), 0));
-}
-
-/// What comes of it in a heap of so many bytes. Six entries have 12 bytes, a window 176, and there are 4 and 8
-/// bytes for each entry: blocks are multiples of 16.
-fn expected_in(size: usize) -> Opened {
-    if size < 80 + 176 {
-        return (Some(ReadFault::Memory), 32, 0, 0);
-    }
-    // The directory is read behind the first two lists.
-    if size < 80 + 176 + 32 + 48 {
-        return (Some(ReadFault::Memory), 32 + 72, 0, 0);
-    }
-    (None, 32 + 72 + 52 + 168, 176 + 24 * 6, 80 + 176 + 32 + 48)
+    let expected = if size < 80 + 176 {
+        (Some(ReadFault::Memory), 32, 0, 0)
+    } else if size < 80 + 176 + 32 + 48 {
+        // The directory is read behind the first two lists.
+        (Some(ReadFault::Memory), 32 + 72, 0, 0)
+    } else {
+        (None, 32 + 72 + 52 + 168, 176 + 24 * 6, 80 + 176 + 32 + 48)
+    };
+    assert_same_at(rt, &size, (opened, heap.used()), (expected, 0));
 }
 
 #[test]
-fn open_source_succeeds(rt: HostRuntime) {
-    let file = file_of(&rt, rt.alloc(), SIX_FILE);
+fn open_source_succeeds_where_the_heap_suffices(rt: HostRuntime) {
+    let file = file_of(&rt, rt.alloc(), &SIX_FILE);
+    for step in 0..24 {
+        assert_opened(&rt, rt.alloc(), 16 * step, &file);
+    }
     assert_opened(&rt, rt.alloc(), 1 << 16, &file);
 }
 
 #[test]
-fn want_of_memory_is_told_at_each_growth(rt: HostRuntime) {
-    let file = file_of(&rt, rt.alloc(), SIX_FILE);
-    for step in 0..24 {
-        assert_opened(&rt, rt.alloc(), 16 * step, &file);
-    }
-}
-
-/// How much of a heap is used behind the opening of a view, what comes of all that is written through it, and how much is
-/// used then.
-fn used_by_writing(
-    rt: &impl Abort,
-    alloc: Global,
-    heap: &LocalHeap,
-    file: &[u8],
-) -> (usize, ViewOutcome, usize) {
-    let source = Source::new(MemoryStore::new(file));
-    let mut view = FileView::open(heap, source, LIMITS, Choice::All).expect(rt, "a view");
-    let opened = heap.used();
-    let (outcome, _) = outcome_of(rt, alloc, &mut view, 7);
-    (opened, outcome, heap.used())
-}
-
-#[test]
 fn view_takes_no_memory_once_it_is_opened(rt: HostRuntime) {
-    let file = file_of(&rt, rt.alloc(), SIX_FILE);
+    let file = file_of(&rt, rt.alloc(), &SIX_FILE);
     let heap = LocalHeap::new(rt.alloc(), 80 + 176 + 32 + 48).expect(&rt, "a heap");
-    let used = used_by_writing(&rt, rt.alloc(), &heap, &file);
-    assert_same(&rt, used, (336, Ok(Ok(444)), 336));
-    assert_same(&rt, heap.used(), 0);
+    {
+        let source = Source::new(MemoryStore::new(&file));
+        let mut view = FileView::open(&heap, source, LIMITS, Choice::All).expect(&rt, "a view");
+        let opened = heap.used();
+        let (outcome, _) = outcome_of(&rt, rt.alloc(), &mut view, 7);
+        let used = (opened, outcome, heap.used());
+        assert_same_at(&rt, &"used", used, (336, Ok(Ok(444)), 336));
+    }
+    assert_same_at(&rt, &"given back", heap.used(), 0);
 }
 
 /// Makes each call of a view of one of its streams.
@@ -93,8 +75,8 @@ fn call_on<S: Store + Drop, A: Allocator + Copy>(view: &mut FileView<S, A>, stre
             which,
             at: 0,
         };
-        let _ = first_record(view, wanted, &mut [0; 2]);
-        let _ = raw_bytes(view, wanted, &mut [0; 2]);
+        let _ = first_record(view, &wanted, &mut [0; 2]);
+        let _ = raw_bytes(view, &wanted, &mut [0; 2]);
     }
 }
 
@@ -125,7 +107,7 @@ fn asked_by_view<S: Store + Drop>(rt: &impl Abort, alloc: Global, store: S) -> O
 const ASKED: Option<ViewGrowths> = Some((4, 0, 0));
 
 /// Files of which views are opened.
-const SAMPLES: [Sample<'static>; 4] = [
+static SAMPLES: [Sample<'static>; 4] = [
     Sample::Numbers(1, &OVERLAPPING),
     Sample::Numbers(1, &MODULE),
     CRASH_FILE,
@@ -135,12 +117,12 @@ const SAMPLES: [Sample<'static>; 4] = [
 #[test]
 fn view_asks_for_no_memory_once_it_is_opened(rt: HostRuntime) {
     for sample in &SAMPLES {
-        let file = file_of(&rt, rt.alloc(), *sample);
+        let file = file_of(&rt, rt.alloc(), sample);
         let asked = asked_by_view(&rt, rt.alloc(), MemoryStore::new(&file));
         assert_same_at(&rt, &file.len(), asked, ASKED);
     }
     // A call of the store may fail. The header, the directory and each stream are read as the view is opened.
-    let file = file_of(&rt, rt.alloc(), CRASH_FILE);
+    let file = file_of(&rt, rt.alloc(), &CRASH_FILE);
     for fail_at in 0..20 {
         let store = PatchyStore::new(&file, &[4096], Some(fail_at));
         let expected = if fail_at < 4 { None } else { ASKED };

@@ -1,12 +1,11 @@
 //! Names through a view.
-use super::{Through, ViewOutcome, write_sample};
+use super::write_over;
 use crate::dump::built::fault_of;
 use crate::files::{EIGHT, Sample, file_of};
 use crate::same::assert_same_at;
 use mdmp_dump::ReadFault;
 use mdmp_lister::{FaultKind, ListFault};
-use std::alloc::Global;
-use std::process::Abort;
+use mdmp_source::MemoryStore;
 
 /// An unloaded module, and the size of the file that it is written as, zeros behind what it is, or why it is refused, as
 /// it gives no value for the same reason.
@@ -16,7 +15,7 @@ struct NameRow {
     written: Result<usize, ReadFault>,
 }
 
-const NAMES: &[NameRow] = &[
+static NAMES: [NameRow; 12] = [
     // Behind the record its length, its units, the zero that ends it, and two bytes up to a multiple of 4.
     NameRow {
         name: "a name of the limit",
@@ -130,32 +129,19 @@ const NO_LENGTH: Result<usize, ReadFault> = Err(ReadFault::List(ListFault {
     size: 4,
 }));
 
-/// What comes of writing a file through a view, what is written, and why it gives no value.
-type WrittenName = (ViewOutcome, Vec<u8, Global>, Option<ReadFault>);
-
-/// What is expected of a row.
-fn expected_of(rt: &impl Abort, alloc: Global, row: &NameRow) -> WrittenName {
-    match row.written {
-        Ok(size) => {
-            let mut bytes = file_of(rt, alloc, row.sample);
-            bytes.resize(size, 0).expect(rt, "memory for zeros");
-            (Ok(Ok(size as u64)), bytes, None)
-        }
-        Err(fault) => (Err(fault), Vec::new(alloc), Some(fault)),
-    }
-}
-
 #[test]
 fn names_are_written_or_refused_for_their_first_fault(rt: HostRuntime) {
-    let through = Through {
-        limits: EIGHT,
-        room: 5,
-    };
-    for row in NAMES {
-        let written = write_sample(&rt, rt.alloc(), row.sample, &[14], through);
-        let file = file_of(&rt, rt.alloc(), row.sample);
+    for row in &NAMES {
+        let mut file = file_of(&rt, rt.alloc(), &row.sample);
+        let store = MemoryStore::new(&file);
+        let written = write_over(&rt, rt.alloc(), store, &[14], EIGHT, 5);
         let fault = fault_of(rt.alloc(), &file, EIGHT, 0);
+        let (outcome, size, expected) = match row.written {
+            Ok(size) => (Ok(Ok(size as u64)), size, None),
+            Err(fault) => (Err(fault), 0, Some(fault)),
+        };
+        file.resize(size, 0).expect(&rt, "memory for zeros");
         let found = (written.outcome, written.bytes, fault);
-        assert_same_at(&rt, &row.name, found, expected_of(&rt, rt.alloc(), row));
+        assert_same_at(&rt, &row.name, found, (outcome, file, expected));
     }
 }

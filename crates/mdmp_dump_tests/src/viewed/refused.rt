@@ -35,7 +35,7 @@ struct NoViewRow {
     fetched: u128,
 }
 
-const REFUSED: &[NoViewRow] = &[
+static REFUSED: [NoViewRow; 8] = [
     NoViewRow {
         name: "a file that is too short",
         sample: Sample::Parts(&[], 31),
@@ -104,8 +104,8 @@ const REFUSED: &[NoViewRow] = &[
 
 #[test]
 fn file_that_gives_no_view_gives_no_value_and_its_source_comes_back(rt: HostRuntime) {
-    for row in REFUSED {
-        let file = file_of(&rt, rt.alloc(), row.sample);
+    for row in &REFUSED {
+        let file = file_of(&rt, rt.alloc(), &row.sample);
         let view = refusal_of(rt.alloc(), MemoryStore::new(&file));
         let value = fault_of(rt.alloc(), &file, LEAST, u64::MAX);
         let fault = Some(row.fault);
@@ -115,7 +115,7 @@ fn file_that_gives_no_view_gives_no_value_and_its_source_comes_back(rt: HostRunt
 }
 
 /// Why the thread and the exception give no view over a store of which a call fails: this one of them, by their number.
-const FAILING: [Option<ReadFault>; 5] = [
+static FAILING: [Option<ReadFault>; 5] = [
     // The header, the directory, and both streams, each by one read.
     Some(HEADER_FAILS),
     Some(DIRECTORY_FAILS),
@@ -127,7 +127,7 @@ const FAILING: [Option<ReadFault>; 5] = [
 
 #[test]
 fn store_that_fails_once_is_handed_back_and_opened_then(rt: HostRuntime) {
-    let file = file_of(&rt, rt.alloc(), CRASH_FILE);
+    let file = file_of(&rt, rt.alloc(), &CRASH_FILE);
     let mut call: u64 = 0;
     for expected in &FAILING {
         let store = PatchyStore::new(&file, &[4096], Some(call));

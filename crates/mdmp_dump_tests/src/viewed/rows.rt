@@ -1,25 +1,29 @@
 //! What is written through a view of small files, and what it holds, fetches and counts.
-use super::{Through, ViewCounts, reads_of, two_faces, write_over, write_sample};
-use crate::files::{ALL, CRASH_FILE, LEAST, NAMED, SIX_FILE, Sample, file_of};
-use crate::same::{assert_same, assert_same_at};
-use mdmp_dump::ViewFault;
-use mdmp_source::SourceFault;
-use mdmp_writer::WriteFault;
-
-/// How most of the files are written.
-const BY_WINDOW: Through = Through {
-    limits: LEAST,
-    room: 168,
+use super::{ViewCounts, reads_of, two_faces, write_over};
+use crate::files::{
+    ALL, CRASH_FILE, LEAST, LEAST_ROW, NAMED_ROW, RowLimits, SIX_FILE, Sample, file_of,
+    limits_of_row,
 };
+use crate::same::assert_same_at;
+use mdmp_dump::ViewFault;
+use mdmp_source::{MemoryStore, SourceFault};
+use mdmp_test_support::COMMENT;
+use mdmp_writer::WriteFault;
+use std::alloc::Global;
+use std::process::Abort;
 
-/// Entries of a file, the file that they are written as, how much their view holds, fetches and passes at most, and how
-/// much is asked of it.
+/// Entries of a file, through which limits and buffer they are written, the file that this is, if it is told, and
+/// how much their view holds, fetches and passes at most, and how much is asked of it, if that is.
 struct CountedRow {
     name: &'static str,
     sample: Sample<'static>,
     types: &'static [u32],
-    written: Sample<'static>,
-    counts: ViewCounts,
+    limits: RowLimits,
+    room: usize,
+    written: Option<Sample<'static>>,
+    counts: Option<ViewCounts>,
+    /// Whether all that a copy needs is spent.
+    is_spent: bool,
 }
 
 /// A file of 372 bytes with a list of three modules without names and parts.
@@ -32,84 +36,135 @@ const MODULES: Sample<'static> = Sample::Parts(
     372,
 );
 
-const COUNTED: &[CountedRow] = &[
+/// Of the six streams those of some types, by seven bytes, of which only what is paid for them is told.
+const PAID: CountedRow = CountedRow {
+    name: "some of six streams",
+    sample: SIX_FILE,
+    types: &[3, 6],
+    limits: NAMED_ROW,
+    room: 7,
+    written: None,
+    counts: None,
+    is_spent: false,
+};
+
+static COUNTED: [CountedRow; 8] = [
     CountedRow {
         name: "three modules",
         sample: MODULES,
         types: &[4],
-        written: MODULES,
-        counts: ViewCounts {
+        limits: LEAST_ROW,
+        room: 168,
+        written: Some(MODULES),
+        counts: Some(ViewCounts {
             held: 168 + 24,
+            needed: u128::MAX,
             opened: 32 + 12 + 328 + 12,
             fetched: 1064,
             passed: 680,
             asked: 0,
-        },
+        }),
+        is_spent: false,
     },
     CountedRow {
         name: "streams chosen of the room of a directory",
         sample: SIX_FILE,
         types: &[3, 6],
-        written: CRASH_FILE,
-        counts: ViewCounts {
+        limits: LEAST_ROW,
+        room: 168,
+        written: Some(CRASH_FILE),
+        counts: Some(ViewCounts {
             held: 312,
+            needed: u128::MAX,
             opened: 32 + 72 + 52 + 168,
             fetched: 778,
             passed: 440,
             asked: 14,
-        },
+        }),
+        is_spent: false,
+    },
+    CountedRow {
+        name: "a type that has no place",
+        types: &[200000],
+        room: 1,
+        written: Some(Sample::Numbers(0, &[])),
+        ..PAID
+    },
+    PAID,
+    CountedRow {
+        name: "others of six streams",
+        types: &[7, 4, 5, 12],
+        ..PAID
+    },
+    CountedRow {
+        name: "six streams",
+        types: ALL,
+        ..PAID
+    },
+    CountedRow {
+        name: "six streams by a larger buffer",
+        types: ALL,
+        room: 168,
+        is_spent: true,
+        ..PAID
+    },
+    CountedRow {
+        name: "a comment",
+        sample: Sample::Numbers(1, &COMMENT),
+        types: ALL,
+        room: 168,
+        is_spent: true,
+        ..PAID
     },
 ];
 
-#[test]
-fn open_succeeds(rt: HostRuntime) {
-    for row in COUNTED {
-        let written = write_sample(&rt, rt.alloc(), row.sample, row.types, BY_WINDOW);
-        let file = file_of(&rt, rt.alloc(), row.written);
+/// Asserts what is written of a row, and that what is fetched is at most what a copy needs, and what the opening
+/// fetched with what was passed and asked.
+fn assert_counted(rt: &impl Abort, alloc: Global, row: &CountedRow) {
+    let limits = limits_of_row(rt, &row.limits);
+    let read = file_of(rt, alloc, &row.sample);
+    let store = MemoryStore::new(&read);
+    let written = write_over(rt, alloc, store, row.types, limits, row.room);
+    if let Some(sample) = &row.written {
+        let file = file_of(rt, alloc, sample);
         let wrote = Ok(Ok(file.len() as u64));
-        assert_same_at(
-            &rt,
-            &row.name,
-            (written.outcome, written.bytes),
-            (wrote, file),
-        );
-        let (counts, most) = (written.counts, row.counts);
+        let found = (written.outcome, written.bytes.as_slice());
+        assert_same_at(rt, &row.name, found, (wrote, file.as_slice()));
+    }
+    let counts = &written.counts;
+    if let Some(most) = &row.counts {
         let held = counts.held <= most.held && counts.opened <= most.opened;
         let fetched = counts.fetched <= most.fetched && counts.passed <= most.passed;
         let found = (held, fetched, counts.asked);
-        assert_same_at(&rt, &row.name, found, (true, true, most.asked));
+        assert_same_at(rt, &row.name, found, (true, true, most.asked));
     }
+    let paid = counts.passed.saturating_add(counts.asked);
+    let is_paid = counts.fetched <= counts.opened.saturating_add(paid);
+    let is_enough = counts.fetched <= counts.needed;
+    let is_spent = counts.fetched.saturating_add(paid) >= counts.needed;
+    let found = (is_paid, is_enough, is_spent || !row.is_spent);
+    assert_same_at(rt, &row.name, found, (true, true, true));
 }
 
-/// Types of streams of the six.
-const PAID: [&[u32]; 3] = [&[3, 6], &[7, 4, 5, 12], ALL];
-
 #[test]
-fn what_is_fetched_is_that_of_the_opening_what_was_passed_and_asked(rt: HostRuntime) {
-    let by_seven = Through {
-        limits: NAMED,
-        room: 7,
-    };
-    for types in &PAID {
-        let counts = write_sample(&rt, rt.alloc(), SIX_FILE, *types, by_seven).counts;
-        let paid = counts.opened.saturating_add(counts.passed);
-        let most = paid.saturating_add(counts.asked);
-        assert_same_at(&rt, types, counts.fetched <= most, true);
+fn open_succeeds(rt: HostRuntime) {
+    for row in &COUNTED {
+        assert_counted(&rt, rt.alloc(), row);
     }
 }
 
 #[test]
 fn list_that_has_become_shorter_is_told_as_changed(rt: HostRuntime) {
     // The thread and the exception, of which the number of threads becomes 0 as soon as their view is open.
-    let crash = file_of(&rt, rt.alloc(), CRASH_FILE);
-    let mut none = file_of(&rt, rt.alloc(), CRASH_FILE);
+    let crash = file_of(&rt, rt.alloc(), &CRASH_FILE);
+    let mut none = file_of(&rt, rt.alloc(), &CRASH_FILE);
     *none.get_mut(56).expect(&rt, "a byte of the file") = 0;
-    let (turn, _) = reads_of(&rt, rt.alloc(), &crash, BY_WINDOW);
+    let (turn, _) = reads_of(&rt, rt.alloc(), &crash, LEAST, 168);
     // The header, the directory, and two streams that the window holds.
-    assert_same(&rt, turn, 4);
+    assert_same_at(&rt, &"reads", turn, 4);
     let store = two_faces(&rt, &crash, &none, turn);
-    let written = write_over(&rt, rt.alloc(), store, ALL, BY_WINDOW);
+    let written = write_over(&rt, rt.alloc(), store, ALL, LEAST, 168);
     let changed = ViewFault::Source(SourceFault::Changed { at: 56 });
     let stopped = Ok(Err(WriteFault::View(changed)));
-    assert_same(&rt, written.outcome, stopped);
+    assert_same_at(&rt, &turn, written.outcome, stopped);
 }

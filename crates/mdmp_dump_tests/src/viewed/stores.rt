@@ -1,14 +1,12 @@
 //! Views over stores that fail, and outputs that refuse.
-use super::{
-    FourBytes, Through, ViewOutcome, Written, asked_thrice, four_bytes, view_of, write_over,
-};
+use super::{FourBytes, ViewOutcome, asked_thrice, four_bytes, view_of, write_over};
 use crate::dump::view::{PART, REWIND, Wanted};
 use crate::files::{ALL, CRASH_FILE, LEAST, NAMED, SIX_FILE, file_of};
-use crate::same::{assert_same, assert_same_at};
-use crate::writer::{patchy_out, write_view};
-use mdmp_dump::{DumpView, FileView, ReadFault, ViewFault};
+use crate::same::assert_same_at;
+use crate::writer::{assert_wrote, patchy_out};
+use mdmp_dump::{DumpView, ReadFault, ViewFault};
 use mdmp_lister::{FaultKind, ListFault, OpenFault};
-use mdmp_source::{MemoryStore, PatchyStore, SourceFault, Store};
+use mdmp_source::{MemoryStore, PatchyStore, SourceFault};
 use mdmp_writer::WriteFault;
 use std::alloc::Global;
 use std::process::Abort;
@@ -31,41 +29,25 @@ fn tells_failure(outcome: ViewOutcome) -> bool {
     matches!(fault, SourceFault::Failed { .. })
 }
 
-/// What comes of writing the thread and the exception of a file out of a store whose calls give a byte each,
-/// and of which this call fails.
-fn written_where(
-    rt: &impl Abort,
-    alloc: Global,
-    file: &[u8],
-    fail_at: u64,
-    room: usize,
-) -> Written {
-    let store = PatchyStore::new(file, &[1], Some(fail_at));
-    let through = Through {
-        limits: LEAST,
-        room,
-    };
-    write_over(rt, alloc, store, &[3, 6], through)
-}
-
 /// A buffer of so many bytes, and how many calls are made: 324 bytes to open, twice the two streams, and their parts.
-const CALLS: [(usize, u64); 2] = [(1, 324 + 2 * 220 + 14), (168, 778)];
+static CALLS: [(usize, u64); 2] = [(1, 324 + 2 * 220 + 14), (168, 778)];
 
-/// Asserts that each of so many calls that fails is told and leaves a first part, and that there are no more.
+/// Asserts that each of so many calls that fails is told as the thread and the exception of a file are written, and leaves
+/// a first part, and that there are no more. A call gives a byte.
 fn assert_calls(rt: &impl Abort, alloc: Global, room: usize, calls: u64) {
-    let file = file_of(rt, alloc, SIX_FILE);
-    let expected = file_of(rt, alloc, CRASH_FILE);
-    for fail_at in 0..calls {
-        let written = written_where(rt, alloc, &file, fail_at, room);
-        let first = expected.get(..written.bytes.len());
-        let found = (tells_failure(written.outcome), first);
-        let bytes = Some(written.bytes.as_slice());
-        assert_same_at(rt, &(room, fail_at), found, (true, bytes));
+    let file = file_of(rt, alloc, &SIX_FILE);
+    let expected = file_of(rt, alloc, &CRASH_FILE);
+    for fail_at in 0..calls.saturating_add(1) {
+        let store = PatchyStore::new(&file, &[1], Some(fail_at));
+        let written = write_over(rt, alloc, store, &[3, 6], LEAST, room);
+        let (is_told, size) = if fail_at < calls {
+            (tells_failure(written.outcome), written.bytes.len())
+        } else {
+            (written.outcome == Ok(Ok(292)), expected.len())
+        };
+        let found = (is_told, Some(written.bytes.as_slice()));
+        assert_same_at(rt, &(room, fail_at), found, (true, expected.get(..size)));
     }
-    let written = written_where(rt, alloc, &file, calls, room);
-    let wrote = Ok(Ok(expected.len() as u64));
-    let found = (written.outcome, written.bytes);
-    assert_same_at(rt, &room, found, (wrote, expected));
 }
 
 #[test]
@@ -76,60 +58,37 @@ fn store_that_fails_leaves_a_first_part(rt: HostRuntime) {
 }
 
 /// Buffers through which the six streams are written.
-const ROOMS: &[usize] = &[1, 7, 4096];
+static ROOMS: [usize; 3] = [1, 7, 4096];
 
 #[test]
 fn store_of_few_bytes_a_call_gives_the_same_bytes(rt: HostRuntime) {
-    let six = file_of(&rt, rt.alloc(), SIX_FILE);
-    for room in ROOMS {
-        let through = Through {
-            limits: NAMED,
-            room: *room,
-        };
+    let six = file_of(&rt, rt.alloc(), &SIX_FILE);
+    for room in &ROOMS {
         let store = PatchyStore::new(&six, &[1, 3], None);
-        let written = write_over(&rt, rt.alloc(), store, ALL, through);
+        let written = write_over(&rt, rt.alloc(), store, ALL, NAMED, *room);
         let found = (written.outcome, written.bytes.as_slice());
         let wrote = Ok(Ok(444));
         assert_same_at(&rt, room, found, (wrote, six.as_slice()));
     }
 }
 
-/// What came of writing a file to an output that takes a byte a call and fails at this one, and what it took.
-fn written_to(
-    rt: &impl Abort,
-    alloc: Global,
-    file: &[u8],
-    fail_at: u64,
-    room: usize,
-) -> (Result<u64, WriteFault>, Vec<u8, Global>) {
-    let mut view = view_of(rt, alloc, MemoryStore::new(file), NAMED);
-    let mut out = patchy_out(rt, alloc, 4096, 1, Some(fail_at));
-    let answer = write_view(&mut view, &mut out, room);
-    let bytes = out.bytes().to_vec(alloc).expect(rt, "memory for bytes");
-    (answer, bytes)
-}
-
-/// Asserts that an output that fails at this call has what it took of the six streams, through a buffer of so many
-/// bytes.
+/// Asserts that an output that takes a byte a call and fails at this one has what it took of the six streams, through a
+/// buffer of so many bytes.
 fn assert_taken(rt: &impl Abort, alloc: Global, six: &[u8], call: u64, room: usize) {
-    let (answer, bytes) = written_to(rt, alloc, six, call, room);
+    let mut view = view_of(rt, alloc, MemoryStore::new(six), NAMED);
+    let out = patchy_out(rt, alloc, 4096, 1, Some(call));
     let expected = if call < 444 {
         Err(WriteFault::Out)
     } else {
         Ok(444)
     };
-    let found = (answer, Some(bytes.as_slice()));
-    assert_same_at(
-        rt,
-        &(call, room),
-        found,
-        (expected, six.get(..call as usize)),
-    );
+    let first = six.get(..call as usize).expect(rt, "a first part");
+    assert_wrote(rt, &mut view, out, room, expected, first);
 }
 
 #[test]
 fn output_that_fails_has_what_it_took(rt: HostRuntime) {
-    let six = file_of(&rt, rt.alloc(), SIX_FILE);
+    let six = file_of(&rt, rt.alloc(), &SIX_FILE);
     for call in 0..445 {
         assert_taken(&rt, rt.alloc(), &six, call, 1);
         assert_taken(&rt, rt.alloc(), &six, call, 4096);
@@ -152,33 +111,29 @@ const UNREAD: FourBytes = Err((PART, ViewFault::Source(SourceFault::Failed { at:
 /// A call of the store that fails, and what is answered where the stack is asked for three times. Four calls open the
 /// view, the fifth begins the stream, and the sixth is for the stack: the fault of a pass is told for good, and behind
 /// the fault of a part the stream is begun again.
-const STACKS: [(u64, [FourBytes; 3]); 3] = [
-    (4, [BEGUN, BEGUN, BEGUN]),
-    (5, [UNREAD, Ok(*b"STAK"), Ok(*b"STAK")]),
-    (6, [Ok(*b"STAK"), BEGUN, BEGUN]),
+static STACKS: [(u64, &[FourBytes]); 3] = [
+    (4, &[BEGUN, BEGUN, BEGUN]),
+    (5, &[UNREAD, Ok(*b"STAK"), Ok(*b"STAK")]),
+    (6, &[Ok(*b"STAK"), BEGUN, BEGUN]),
 ];
 
 #[test]
 fn fault_of_a_pass_is_told_for_good_and_that_of_a_part_once(rt: HostRuntime) {
-    let crash = file_of(&rt, rt.alloc(), CRASH_FILE);
+    let crash = file_of(&rt, rt.alloc(), &CRASH_FILE);
     for (fail_at, expected) in &STACKS {
         let store = PatchyStore::new(&crash, &[4096], Some(*fail_at));
-        let found = asked_thrice(&rt, rt.alloc(), store, LEAST, STACK);
-        assert_same_at(&rt, fail_at, found, *expected);
+        let found = asked_thrice(&rt, rt.alloc(), store, LEAST, &STACK);
+        assert_same_at(&rt, fail_at, found.as_slice(), *expected);
     }
-}
-
-/// What a view has passed and was asked for.
-fn spent_of<S: Store + Drop>(view: &mut FileView<S, Global>) -> (u128, u128) {
-    (view.passed(), view.asked())
 }
 
 #[test]
 fn counts_of_a_view_stay_where_nothing_is_asked_of_it(rt: HostRuntime) {
-    let crash = file_of(&rt, rt.alloc(), CRASH_FILE);
+    let crash = file_of(&rt, rt.alloc(), &CRASH_FILE);
     let mut view = view_of(&rt, rt.alloc(), MemoryStore::new(&crash), LEAST);
-    assert_same(&rt, spent_of(&mut view), (0, 0));
-    assert_same(&rt, four_bytes(&mut view, STACK), Ok(*b"STAK"));
-    assert_same(&rt, spent_of(&mut view), (52, 4));
-    assert_same(&rt, view.fetched(), 276 + 52 + 4);
+    let before = (view.passed(), view.asked());
+    let stack = four_bytes(&mut view, &STACK);
+    let behind = (view.passed(), view.asked(), view.fetched());
+    let expected = ((0, 0), Ok(*b"STAK"), (52, 4, 276 + 52 + 4));
+    assert_same_at(&rt, &"stack", (before, stack, behind), expected);
 }

@@ -1,7 +1,7 @@
 //! Outputs that refuse, and what they have then.
 use super::{assert_wrote, patchy_out};
 use crate::dump::built::value_of;
-use crate::files::{CRASH_READING, SYSTEM_READING, file_of};
+use crate::files::{CRASH_FILE, CRASH_READING, SYSTEM_READING, file_of};
 use mdmp_dump::Dump;
 use mdmp_test_support::SYSTEM;
 use mdmp_writer::WriteFault;
@@ -30,7 +30,7 @@ fn assert_refused(
 }
 
 /// Outputs that are full, and one that fails at once.
-const TAKINGS: &[Taking] = &[
+static TAKINGS: [Taking; 4] = [
     (0, 4096, None, 0),
     (40, 4096, None, 40),
     (291, 4096, None, 291),
@@ -39,9 +39,9 @@ const TAKINGS: &[Taking] = &[
 
 #[test]
 fn output_that_fails_has_what_it_took(rt: HostRuntime) {
-    let crash = value_of(&rt, rt.alloc(), CRASH_READING);
-    let file = file_of(&rt, rt.alloc(), CRASH_READING.sample);
-    for taking in TAKINGS {
+    let crash = value_of(&rt, rt.alloc(), &CRASH_READING);
+    let file = file_of(&rt, rt.alloc(), &CRASH_FILE);
+    for taking in &TAKINGS {
         assert_refused(&rt, rt.alloc(), &crash, &file, taking);
     }
     // By a byte a call, each of which fails in turn.
@@ -54,7 +54,7 @@ fn output_that_fails_has_what_it_took(rt: HostRuntime) {
 #[test]
 fn dump_that_fits_the_buffer_goes_out_in_one_call(rt: HostRuntime) {
     // The output fails at the second call.
-    let system = value_of(&rt, rt.alloc(), SYSTEM_READING);
+    let system = value_of(&rt, rt.alloc(), &SYSTEM_READING);
     let out = patchy_out(&rt, rt.alloc(), 136, 4096, Some(1));
     assert_wrote(&rt, &mut system.view(), out, 4096, Ok(136), &SYSTEM);
 }

@@ -6,14 +6,17 @@ ghost use Rattle.mdmp_dump.specs.declared.view.Kind.TheVariants as kinds;
 ghost use Rattle.std.proofs.lemmas.Option.{none-some};
 ghost use Rattle.mdmp_dump_tests.specs.Sizes.{no_stray_parts};
 
-use super::{assert_wrote, open_out, size_of};
-use crate::dump::built::{bytes, dump_of, records};
+use super::{assert_wrote, patchy_out, size_of};
+use crate::dump::built::{bytes, dump_of};
 use crate::same::assert_same_at;
 use mdmp_dump::{DumpView, Fields, HeaderFields, Kind, Stream, ViewFault};
 use mdmp_source::SourceFault;
 use mdmp_writer::{LayoutFault, WriteFault};
 use std::alloc::Global;
 use std::process::Abort;
+
+/// Sizes alone are known.
+const NO_BYTES: ViewFault = ViewFault::Source(SourceFault::Failed { at: 0 });
 
 /// A view that only tells sizes: of a stream of raw bytes, and of one of 64-bit memory in one range.
 #[derive(Drop)]
@@ -74,15 +77,15 @@ impl DumpView for SizesView {
     }
 
     fn rewind(&mut self, _stream: u64) -> Result<(), ViewFault> {
-        Err(no_bytes())
+        Err(NO_BYTES)
     }
 
     fn next_record(&mut self) -> Result<Fields, ViewFault> {
-        Err(no_bytes())
+        Err(NO_BYTES)
     }
 
     fn part(&mut self, _which: usize, _at: u64, _out: &mut [u8]) -> Result<(), ViewFault> {
-        Err(no_bytes())
+        Err(NO_BYTES)
     }
 
     fn passed(&mut self) -> u128 {
@@ -104,34 +107,33 @@ impl DumpView for SizesView {
     ghost follows = { λ u v w p q. tt };
 }
 
-/// Sizes alone are known.
-fn no_bytes() -> ViewFault
-    ensures { result ≡ Source (Failed 0) }
-{
-    ViewFault::Source(SourceFault::Failed { at: 0 })
-}
-
 /// Asserts that a view can't be written for this reason, and that nothing of it is.
 fn assert_refused<V: DumpView>(rt: &impl Abort, alloc: Global, view: &mut V, fault: LayoutFault) {
     assert_same_at(rt, &fault, size_of(view), Err(fault));
     let refused = Err(WriteFault::Layout(fault));
-    assert_wrote(rt, view, open_out(rt, alloc), 1, refused, b"");
+    let out = patchy_out(rt, alloc, 4096, 4096, None);
+    assert_wrote(rt, view, out, 1, refused, b"");
 }
 
 /// Types whose records are known.
-const KNOWN: [u32; 10] = [0, 3, 4, 5, 6, 7, 9, 14, 16, 24];
+static KNOWN: [u32; 10] = [0, 3, 4, 5, 6, 7, 9, 14, 16, 24];
+
+/// Asserts that raw bytes of this known type are refused behind an unused entry, and told before those behind them.
+fn assert_known_refused(rt: &impl Abort, alloc: Global, stream_type: u32) {
+    let raw = Stream::Raw(stream_type, bytes(rt, alloc, &[1]));
+    let empty = Stream::Raw(3, bytes(rt, alloc, &[]));
+    let dump = dump_of(rt, alloc, [Stream::Unused, raw, empty]);
+    let fault = LayoutFault::RawKnownType { stream: 1 };
+    assert_refused(rt, alloc, &mut dump.view(), fault);
+}
 
 #[test]
 fn first_stream_of_raw_bytes_of_a_known_type_is_refused(rt: HostRuntime) {
     for stream_type in &KNOWN {
-        let raw = Stream::Raw(*stream_type, bytes(&rt, rt.alloc(), &[1]));
-        let empty = Stream::Raw(3, bytes(&rt, rt.alloc(), &[]));
-        let dump = dump_of(records(&rt, rt.alloc(), [Stream::Unused, raw, empty]));
-        let fault = LayoutFault::RawKnownType { stream: 1 };
-        assert_refused(&rt, rt.alloc(), &mut dump.view(), fault);
+        assert_known_refused(&rt, rt.alloc(), *stream_type);
     }
     let raw = Stream::Raw(3, bytes(&rt, rt.alloc(), &[]));
-    let dump = dump_of(records(&rt, rt.alloc(), [raw]));
+    let dump = dump_of(&rt, rt.alloc(), [raw]);
     let fault = LayoutFault::RawKnownType { stream: 0 };
     assert_refused(&rt, rt.alloc(), &mut dump.view(), fault);
 }
@@ -143,7 +145,7 @@ const END: u64 = 1 << 32;
 /// end 88 bytes behind these, up to a multiple of 4.
 type SizesRow = (u32, u64, u64, Result<u64, LayoutFault>);
 
-const SIZES: &[SizesRow] = &[
+static SIZES: [SizesRow; 13] = [
     // Streams end below 2^32,
     (10, END - 88, 0, Err(LayoutFault::TooLarge)),
     (10, END - 91, 0, Err(LayoutFault::TooLarge)),
@@ -169,7 +171,7 @@ const SIZES: &[SizesRow] = &[
 
 #[test]
 fn dump_that_is_too_large_is_not_begun(rt: HostRuntime) {
-    for row in SIZES {
+    for row in &SIZES {
         let (stream_type, raw, far, size) = *row;
         let mut view = SizesView {
             stream_type,
