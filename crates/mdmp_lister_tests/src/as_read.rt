@@ -1,7 +1,7 @@
 //! What `next_read` gives: the items of `next` as they were read, with their records and names.
-use crate::given::{Named, plain_name, spelled};
+use crate::given::{Named, SERVICE_PACK, plain_name};
 use crate::opening::{close, opened};
-use crate::same::assert_same;
+use crate::same::{assert_same, assert_same_at};
 use crate::script::{LEAST, NAMED};
 use mdmp_lister::{Choice, ItemRead, ListFault, Lister};
 use mdmp_source::MemoryStore;
@@ -31,48 +31,52 @@ fn next_of(
     }
 }
 
-/// A 64-bit range of four bytes.
-fn range(start: u64) -> AnyRecord {
-    AnyRecord::Memory64(Descriptor64 {
-        start_of_memory_range: start,
-        data_size: 4,
-    })
+/// A range of four bytes that begins here, whose bytes stand there.
+macro_rules! range {
+    ($index:expr, $start:expr, $offset:expr) => {
+        Ok(Some((
+            0,
+            $index,
+            Some(AnyRecord::Memory64(Descriptor64 {
+                start_of_memory_range: $start,
+                data_size: 4,
+            })),
+            $offset,
+            Named::None,
+        )))
+    };
 }
 
-/// Asserts what is read of two 64-bit ranges: their records, and where their bytes stand.
-fn assert_reads_ranges(rt: &impl Abort, alloc: Global) {
-    let mut lister = opened(rt, alloc, MemoryStore::new(&MEMORY64), LEAST, Choice::All);
-    let entry = (0, 0, None, 0, Named::None);
-    assert_same(rt, next_of(rt, alloc, &mut lister), Ok(Some(entry)));
-    let first = (0, 0, Some(range(0x1000)), 92, Named::None);
-    assert_same(rt, next_of(rt, alloc, &mut lister), Ok(Some(first)));
-    let second = (0, 1, Some(range(0x2000)), 96, Named::None);
-    assert_same(rt, next_of(rt, alloc, &mut lister), Ok(Some(second)));
-    assert_same(rt, next_of(rt, alloc, &mut lister), Ok(None));
-    close(lister);
-}
+/// What is read of two 64-bit ranges: their records, and where their bytes stand.
+static RANGES: [Result<Option<RecordAsRead>, ListFault>; 4] = [
+    Ok(Some((0, 0, None, 0, Named::None))),
+    range!(0, 0x1000, 92),
+    range!(1, 0x2000, 96),
+    Ok(None),
+];
 
 #[test]
 fn next_read_gives_ranges_as_they_were_read(rt: HostRuntime) {
-    assert_reads_ranges(&rt, rt.alloc());
-}
-
-/// Asserts that the name of a system is read with it.
-fn assert_reads_name(rt: &impl Abort, alloc: Global) {
-    let mut lister = opened(rt, alloc, MemoryStore::new(&SYSTEM), NAMED, Choice::All);
-    assert_same(rt, next_of(rt, alloc, &mut lister).is_ok(), true);
-    let name = match next_of(rt, alloc, &mut lister) {
-        Ok(Some((_, _, Some(AnyRecord::System(system)), _, name))) => {
-            assert_same(rt, system.build_number, 0x1db1);
-            name
-        }
-        _ => Named::None,
-    };
-    assert_same(rt, name, spelled("Service Pack 1"));
+    let store = MemoryStore::new(&MEMORY64);
+    let mut lister = opened(&rt, rt.alloc(), store, LEAST, Choice::All);
+    for i in 0..4 {
+        let found = next_of(&rt, rt.alloc(), &mut lister);
+        assert_same_at(&rt, &i, found, RANGES[i]);
+    }
     close(lister);
 }
 
 #[test]
 fn next_read_lends_the_name_of_a_record(rt: HostRuntime) {
-    assert_reads_name(&rt, rt.alloc());
+    let store = MemoryStore::new(&SYSTEM);
+    let mut lister = opened(&rt, rt.alloc(), store, NAMED, Choice::All);
+    assert_same(&rt, next_of(&rt, rt.alloc(), &mut lister).is_ok(), true);
+    let told = match next_of(&rt, rt.alloc(), &mut lister) {
+        Ok(Some((_, _, Some(AnyRecord::System(system)), _, name))) => {
+            Some((system.build_number, name))
+        }
+        _ => None,
+    };
+    assert_same(&rt, told, Some((0x1db1, SERVICE_PACK)));
+    close(lister);
 }

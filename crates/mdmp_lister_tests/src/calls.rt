@@ -1,94 +1,121 @@
 //! The lister's calls, one by one.
-use crate::given::{spelled, stream, system, thread};
+use crate::files::FileOf;
+use crate::given::{Named, SERVICE_PACK, stream, system, thread};
 use crate::opening::{FAULTY_NAME, FAULTY_STREAM, fault};
-use crate::playing::{assert_plays, assert_plays_chosen, assert_plays_numbers};
-use crate::script::{STANDARD, ends, entries, fails, gives, runs, runs_on, skips};
+use crate::playing::assert_scripts;
+use crate::script::{BY_LEAST, BY_STANDARD, Call, Script};
 use mdmp_lister::{FaultKind, RunFault};
-use mdmp_test_support::{FAULTY, SYSTEM, THRICE};
+use mdmp_test_support::{FAULTY, OVERLAPPING, SYSTEM, THRICE};
+
+static CALLS: [Script<'static>; 9] = [
+    Script {
+        shows: "a lister is fresh up to its first answer",
+        file: FileOf::Numbers(1, &OVERLAPPING),
+        calls: &[
+            Call::IsFresh(true),
+            Call::Gives(stream!(0, 5, 36, 44)),
+            Call::IsFresh(false),
+        ],
+        ..BY_LEAST
+    },
+    Script {
+        shows: "open succeeds and lists",
+        file: FileOf::Bytes(&SYSTEM),
+        calls: &[
+            Call::Entries(1),
+            Call::Gives(stream!(0, 7, 56, 44)),
+            Call::Gives(system!(4, 7601, SERVICE_PACK)),
+            Call::Ends,
+            Call::Ends,
+        ],
+        ..BY_STANDARD
+    },
+    Script {
+        shows: "types that are not chosen are not handed over",
+        file: FileOf::Numbers(3, &FAULTY),
+        types: &[7],
+        calls: &[Call::Runs(u64::MAX, None, 2)],
+        ..BY_STANDARD
+    },
+    Script {
+        shows: "a fault is answered until the entry is skipped",
+        file: FileOf::Numbers(1, &[14, 36, 44, 12, 23, 1, 0, 0, 0, 0, 0, 0]),
+        calls: &[
+            Call::Gives(stream!(0, 14, 36, 44)),
+            Call::Fails(fault!(None, FaultKind::BadEntrySize, 48, 23)),
+            Call::Fails(fault!(None, FaultKind::BadEntrySize, 48, 23)),
+            Call::Skips,
+            Call::Ends,
+        ],
+        ..BY_STANDARD
+    },
+    Script {
+        shows: "skipping an entry leaves the next one",
+        file: FileOf::Numbers(3, &THRICE),
+        calls: &[
+            Call::Gives(stream!(0, 3, 52, 68)),
+            Call::Skips,
+            Call::Gives(stream!(1, 3, 52, 68)),
+            Call::Gives(thread!(1, 7)),
+            Call::Skips,
+            Call::Skips,
+            Call::Gives(stream!(2, 3, 52, 68)),
+            Call::Skips,
+            Call::Ends,
+            Call::Skips,
+            Call::Ends,
+        ],
+        ..BY_STANDARD
+    },
+    Script {
+        shows: "skipping changes nothing before the first item",
+        file: FileOf::Numbers(3, &THRICE),
+        calls: &[
+            Call::Skips,
+            Call::Gives(stream!(0, 3, 52, 68)),
+            Call::Gives(thread!(0, 7)),
+        ],
+        ..BY_STANDARD
+    },
+    Script {
+        shows: "a sink that stops has the item",
+        file: FileOf::Numbers(3, &THRICE),
+        calls: &[
+            Call::Runs(1, Some(RunFault::Stopped), 2),
+            Call::Gives(stream!(1, 3, 52, 68)),
+            // It stops at that one call alone.
+            Call::RunsOn(None, 5),
+            Call::Ends,
+        ],
+        ..BY_STANDARD
+    },
+    Script {
+        shows: "a sink has the items before a fault",
+        file: FileOf::Numbers(3, &FAULTY),
+        calls: &[
+            Call::Runs(u64::MAX, Some(RunFault::At(FAULTY_NAME)), 3),
+            Call::RunsOn(Some(RunFault::At(FAULTY_NAME)), 3),
+            // The entry behind it has a fault of its own.
+            Call::Skips,
+            Call::Gives(stream!(2, 10, 5, 236)),
+            Call::Fails(FAULTY_STREAM),
+        ],
+        ..BY_STANDARD
+    },
+    Script {
+        shows: "nothing is listed behind the first fault",
+        file: FileOf::Numbers(3, &FAULTY),
+        calls: &[
+            Call::Gives(stream!(0, 7, 56, 68)),
+            Call::Gives(system!(0, 0, Named::None)),
+            Call::Gives(stream!(1, 4, 112, 124)),
+            Call::Fails(FAULTY_NAME),
+        ],
+        ..BY_LEAST
+    },
+];
 
 #[test]
-fn open_succeeds_and_lists(rt: HostRuntime) {
-    let script = [
-        entries(1),
-        gives(stream(0, 7, 56, 44)),
-        gives(system(4, 7601, spelled("Service Pack 1"))),
-        ends(),
-        ends(),
-    ];
-    assert_plays(&rt, rt.alloc(), STANDARD, &SYSTEM, &script);
-}
-
-#[test]
-fn types_that_are_not_chosen_are_not_handed_over(rt: HostRuntime) {
-    let script = [runs(u64::MAX, None, 2)];
-    assert_plays_chosen(&rt, rt.alloc(), STANDARD, 3, &FAULTY, &[7], &script);
-}
-
-#[test]
-fn fault_is_answered_until_the_entry_is_skipped(rt: HostRuntime) {
-    let fault = fault(None, FaultKind::BadEntrySize, 48, 23);
-    let script = [
-        gives(stream(0, 14, 36, 44)),
-        fails(fault),
-        fails(fault),
-        skips(),
-        ends(),
-    ];
-    assert_plays_numbers(
-        &rt,
-        rt.alloc(),
-        STANDARD,
-        1,
-        &[14, 36, 44, 12, 23, 1, 0, 0, 0, 0, 0, 0],
-        &script,
-    );
-}
-
-#[test]
-fn skip_entry_leaves_the_next_entry(rt: HostRuntime) {
-    let script = [
-        gives(stream(0, 3, 52, 68)),
-        skips(),
-        gives(stream(1, 3, 52, 68)),
-        gives(thread(1, 7)),
-        skips(),
-        skips(),
-        gives(stream(2, 3, 52, 68)),
-        skips(),
-        ends(),
-        skips(),
-        ends(),
-    ];
-    assert_plays_numbers(&rt, rt.alloc(), STANDARD, 3, &THRICE, &script);
-}
-
-#[test]
-fn skip_entry_changes_nothing_before_the_first_item(rt: HostRuntime) {
-    let script = [skips(), gives(stream(0, 3, 52, 68)), gives(thread(0, 7))];
-    assert_plays_numbers(&rt, rt.alloc(), STANDARD, 3, &THRICE, &script);
-}
-
-#[test]
-fn stopped_sink_has_the_item(rt: HostRuntime) {
-    let script = [
-        runs(1, Some(RunFault::Stopped), 2),
-        gives(stream(1, 3, 52, 68)),
-        // It stops at that one call alone.
-        runs_on(None, 5),
-        ends(),
-    ];
-    assert_plays_numbers(&rt, rt.alloc(), STANDARD, 3, &THRICE, &script);
-}
-
-#[test]
-fn sink_has_the_items_before_a_fault(rt: HostRuntime) {
-    let script = [
-        runs(u64::MAX, Some(RunFault::At(FAULTY_NAME)), 3),
-        runs_on(Some(RunFault::At(FAULTY_NAME)), 3),
-        // The entry behind it has a fault of its own.
-        skips(),
-        gives(stream(2, 10, 5, 236)),
-        fails(FAULTY_STREAM),
-    ];
-    assert_plays_numbers(&rt, rt.alloc(), STANDARD, 3, &FAULTY, &script);
+fn each_call_of_a_lister_is_answered(rt: HostRuntime) {
+    assert_scripts(&rt, rt.alloc(), &CALLS);
 }

@@ -1,9 +1,8 @@
 //! A lister and a walker over a store that changes while it is read.
 use crate::given::{range, stream};
 use crate::opening::{fault, open_and_close};
-use crate::playing::play;
-use crate::script::{Call, LEAST, counts, ends, fails, gives, has_room};
-use crate::walking::assert_walks;
+use crate::script::{Call, LEAST, ScriptReader};
+use crate::{playing, walking};
 use mdmp_lister::{Choice, FaultKind};
 use mdmp_source::{Extent, Source, SourceFault, TwoFaces};
 use mdmp_test_support::{ABCD_RANGE, WXYZ_RANGE, memory_file};
@@ -28,55 +27,85 @@ fn reads_of_open(rt: &impl Abort, alloc: Global, file: &[u8]) -> u64 {
     source.into_store().reads()
 }
 
-/// Asserts that a lister gives the answers of a script over a store whose list counts first `first` ranges,
-/// and `second` from the first call behind the opening on.
-fn assert_plays_changed(rt: &impl Abort, alloc: Global, first: u32, second: u32, script: &[Call]) {
-    let first = counting(rt, alloc, first);
-    let second = counting(rt, alloc, second);
-    let turn = reads_of_open(rt, alloc, &first);
-    let store = faces(rt, &first, &second, turn);
-    let _ = play(rt, alloc, store, LEAST, Choice::All, script);
+/// A list that counts so many ranges when it is opened, and so many behind that, and what is answered.
+struct CountChange {
+    shows: &'static str,
+    reader: ScriptReader,
+    first: u32,
+    second: u32,
+    calls: &'static [Call],
+}
+
+static CHANGES: [CountChange; 3] = [
+    CountChange {
+        shows: "a list that counts more ranges than before has changed",
+        reader: ScriptReader::Lister,
+        first: 1,
+        second: 2,
+        calls: &[
+            Call::HasRoom(0, 1),
+            Call::Gives(stream!(0, 5, 36, 44)),
+            Call::Fails(fault!(
+                None,
+                FaultKind::Source(SourceFault::Changed { at: 44 }),
+                44,
+                0
+            )),
+            Call::Fails(fault!(
+                None,
+                FaultKind::Source(SourceFault::Changed { at: 44 }),
+                44,
+                0
+            )),
+        ],
+    },
+    CountChange {
+        shows: "a list that counts fewer ranges than before is listed",
+        reader: ScriptReader::Lister,
+        first: 2,
+        second: 1,
+        calls: &[
+            Call::HasRoom(0, 2),
+            Call::Gives(stream!(0, 5, 36, 44)),
+            Call::Gives(range!(0, 0x1000, 4, Extent::Inside, 80)),
+            Call::Ends,
+        ],
+    },
+    CountChange {
+        shows: "a walker has no room to keep, and tells no change",
+        reader: ScriptReader::Walker,
+        first: 1,
+        second: 2,
+        calls: &[
+            Call::Gives(stream!(0, 5, 36, 44)),
+            Call::Counts(2),
+            Call::Gives(range!(0, 0x1000, 4, Extent::Inside, 80)),
+            Call::Gives(range!(1, 0x1002, 4, Extent::Inside, 84)),
+            Call::Ends,
+        ],
+    },
+];
+
+/// Asserts what is answered over a store that changes behind the opening, by which a walker reads the header and
+/// the directory.
+fn assert_change(rt: &impl Abort, alloc: Global, row: &CountChange) {
+    let first = counting(rt, alloc, row.first);
+    let second = counting(rt, alloc, row.second);
+    match row.reader {
+        ScriptReader::Lister => {
+            let store = faces(rt, &first, &second, reads_of_open(rt, alloc, &first));
+            let _ = playing::play(rt, alloc, row.shows, store, LEAST, Choice::All, row.calls);
+        }
+        ScriptReader::Walker => {
+            let store = faces(rt, &first, &second, 2);
+            let _ = walking::play(rt, alloc, row.shows, store, LEAST, Choice::All, row.calls);
+        }
+    }
 }
 
 #[test]
-fn list_that_counts_more_ranges_than_before_has_changed(rt: HostRuntime) {
-    let changed = FaultKind::Source(SourceFault::Changed { at: 44 });
-    let script = [
-        has_room(0, 1),
-        gives(stream(0, 5, 36, 44)),
-        fails(fault(None, changed, 44, 0)),
-        fails(fault(None, changed, 44, 0)),
-    ];
-    assert_plays_changed(&rt, rt.alloc(), 1, 2, &script);
-}
-
-#[test]
-fn list_that_counts_fewer_ranges_than_before_is_listed(rt: HostRuntime) {
-    let script = [
-        has_room(0, 2),
-        gives(stream(0, 5, 36, 44)),
-        gives(range(0, 0x1000, 4, Extent::Inside, 80)),
-        ends(),
-    ];
-    assert_plays_changed(&rt, rt.alloc(), 2, 1, &script);
-}
-
-/// Asserts that a walker gives the answers of a script over a store whose list counts one range, and two
-/// behind the opening: the header and the directory are read then, and no head.
-fn assert_walks_changed(rt: &impl Abort, alloc: Global, script: &[Call]) {
-    let first = counting(rt, alloc, 1);
-    let second = counting(rt, alloc, 2);
-    assert_walks(rt, alloc, LEAST, faces(rt, &first, &second, 2), script);
-}
-
-#[test]
-fn walker_has_no_room_to_keep_and_tells_no_change(rt: HostRuntime) {
-    let script = [
-        gives(stream(0, 5, 36, 44)),
-        counts(2),
-        gives(range(0, 0x1000, 4, Extent::Inside, 80)),
-        gives(range(1, 0x1002, 4, Extent::Inside, 84)),
-        ends(),
-    ];
-    assert_walks_changed(&rt, rt.alloc(), &script);
+fn lister_tells_a_list_that_counts_more_than_before_and_a_walker_does_not(rt: HostRuntime) {
+    for row in &CHANGES {
+        assert_change(&rt, rt.alloc(), row);
+    }
 }

@@ -1,131 +1,133 @@
 //! Limits, and which entries are listed.
 use crate::opening::chosen;
-use crate::same::{assert_same, assert_same_at, assert_that};
+use crate::same::{assert_same, assert_same_at};
 use mdmp_lister::{Choice, Form, Limits, StreamKind, TypeSet};
 
-/// Whether a window of so many bytes and names of at most so many are within the bounds.
-fn is_within(window: u32, name: u32) -> bool {
-    Limits::new(window, name).is_some()
-}
-
-/// The window and the room for a name that a caller has who says nothing.
-fn standard() -> (u32, u32) {
-    let limits = Limits::default();
-    (limits.window, limits.name)
-}
+/// A window, a name, and whether they are within the bounds.
+static WITHIN: [(u32, u32, bool); 5] = [
+    (167, 0, false),
+    ((1 << 30) + 1, 0, false),
+    (168, (1 << 30) + 1, false),
+    (168, 0, true),
+    (1 << 30, 1 << 30, true),
+];
 
 #[test]
 fn limits_have_bounds(rt: HostRuntime) {
-    assert_that(&rt, !is_within(167, 0));
-    assert_that(&rt, !is_within((1 << 30) + 1, 0));
-    assert_that(&rt, !is_within(168, (1 << 30) + 1));
-    assert_that(&rt, is_within(168, 0));
-    assert_that(&rt, is_within(1 << 30, 1 << 30));
-    assert_same(&rt, standard(), (65536, 4096));
+    for (window, name, expected) in &WITHIN {
+        let is_within = Limits::new(*window, *name).is_some();
+        assert_same_at(&rt, &(*window, *name), is_within, *expected);
+    }
+    let standard = Limits::default();
+    assert_same(&rt, (standard.window, standard.name), (65536, 4096));
 }
 
-/// Whether these types are a set, which has them in order; none where they are not a set.
-fn set_keeps(types: &[u32]) -> Option<bool> {
-    match TypeSet::new(types) {
-        Some(set) => Some(set.types() == types),
-        None => None,
-    }
-}
+/// Types, and whether they are a set, which has them in order; none where they are not a set.
+static SETS: [(&[u32], Option<bool>); 4] = [
+    (&[], None),
+    (&[3], Some(true)),
+    (
+        &[3, 4, 5, 6, 7, 9, 14, 16, 0, 10, 11, 12, 13, 15, 17, 3],
+        Some(true),
+    ),
+    (
+        &[3, 4, 5, 6, 7, 9, 14, 16, 0, 10, 11, 12, 13, 15, 17, 3, 24],
+        None,
+    ),
+];
 
 #[test]
 fn one_to_sixteen_types_are_a_set(rt: HostRuntime) {
-    assert_same(&rt, set_keeps(&[]), None);
-    assert_same(&rt, set_keeps(&[3]), Some(true));
-    let sixteen = [3, 4, 5, 6, 7, 9, 14, 16, 0, 10, 11, 12, 13, 15, 17, 3];
-    assert_same(&rt, set_keeps(&sixteen), Some(true));
-    let seventeen = [3, 4, 5, 6, 7, 9, 14, 16, 0, 10, 11, 12, 13, 15, 17, 3, 24];
-    assert_same(&rt, set_keeps(&seventeen), None);
-}
-
-/// Whether a choice has a type.
-fn has(choice: &Choice, stream_type: u32) -> bool {
-    choice.has(stream_type)
+    for (types, expected) in &SETS {
+        let found = match TypeSet::new(types) {
+            Some(set) => Some(set.types() == *types),
+            None => None,
+        };
+        assert_same_at(&rt, types, found, *expected);
+    }
 }
 
 #[test]
 fn choice_has_its_types(rt: HostRuntime) {
     let choice = chosen(&rt, &[7, 0, 7]);
-    assert_that(&rt, has(&choice, 7));
-    assert_that(&rt, has(&choice, 0));
-    assert_that(&rt, !has(&choice, 3));
-    assert_that(&rt, has(&Choice::All, u32::MAX));
+    let has = (choice.has(7), choice.has(0), choice.has(3));
+    assert_same(&rt, has, (true, true, false));
+    assert_same(&rt, Choice::All.has(u32::MAX), true);
 }
 
-/// The kind of a type, if it has one, and the type that this kind has.
-fn kind_of(stream_type: u32) -> Option<(StreamKind, u32)> {
-    match StreamKind::of_type(stream_type) {
-        Some(kind) => Some((kind, kind.stream_type())),
-        None => None,
+/// A stream type, its kind and form, the sizes of its head and record, whether it has names, and whether it is
+/// 64-bit memory.
+static KINDS: [(u32, StreamKind, Form, u32, u32, bool, bool); 9] = [
+    (3, StreamKind::Threads, Form::Counted, 4, 48, false, false),
+    (4, StreamKind::Modules, Form::Counted, 4, 108, true, false),
+    (5, StreamKind::Memory, Form::Counted, 4, 16, false, false),
+    (6, StreamKind::Exception, Form::Single, 0, 168, false, false),
+    (7, StreamKind::System, Form::Single, 0, 56, true, false),
+    (9, StreamKind::Memory64, Form::Ranges64, 16, 16, false, true),
+    (14, StreamKind::Unloaded, Form::Sized32, 12, 24, true, false),
+    (
+        16,
+        StreamKind::MemoryInfo,
+        Form::Sized64,
+        16,
+        48,
+        false,
+        false,
+    ),
+    (
+        24,
+        StreamKind::ThreadNames,
+        Form::Counted,
+        4,
+        12,
+        true,
+        false,
+    ),
+];
+
+/// What a kind tells of itself: its type, form, head, record, names, and whether it is 64-bit memory.
+fn told_of(kind: StreamKind) -> (u32, Form, u32, u32, bool, bool) {
+    let form = kind.form();
+    let (head, record) = (form.head_cost(), kind.record_size());
+    (
+        kind.stream_type(),
+        form,
+        head,
+        record,
+        kind.has_names(),
+        kind.is_memory64(),
+    )
+}
+
+#[test]
+fn kind_tells_its_type_its_head_its_records_and_its_names(rt: HostRuntime) {
+    for (stream_type, kind, form, head, record, has_names, is_memory64) in &KINDS {
+        let expected = (
+            *stream_type,
+            *form,
+            *head,
+            *record,
+            *has_names,
+            *is_memory64,
+        );
+        assert_same_at(&rt, stream_type, told_of(*kind), expected);
     }
 }
+
+/// Types that have no kind.
+static OTHERS: [u32; 8] = [0, 1, 8, 10, 15, 17, 0x10000, u32::MAX];
 
 #[test]
 fn nine_stream_types_have_a_kind(rt: HostRuntime) {
-    for (stream_type, kind) in [
-        (3, StreamKind::Threads),
-        (4, StreamKind::Modules),
-        (5, StreamKind::Memory),
-        (6, StreamKind::Exception),
-        (7, StreamKind::System),
-        (9, StreamKind::Memory64),
-        (14, StreamKind::Unloaded),
-        (16, StreamKind::MemoryInfo),
-        (24, StreamKind::ThreadNames),
-    ] {
-        let expected = Some((kind, stream_type));
-        assert_same_at(&rt, &stream_type, kind_of(stream_type), expected);
+    for (stream_type, kind, ..) in &KINDS {
+        assert_same_at(
+            &rt,
+            stream_type,
+            StreamKind::of_type(*stream_type),
+            Some(*kind),
+        );
     }
-    for stream_type in [0, 1, 8, 10, 15, 17, 0x10000, u32::MAX] {
-        assert_same_at(&rt, &stream_type, kind_of(stream_type), None);
-    }
-}
-
-/// The form of a kind, and the sizes of its head and of a record.
-fn sizes_of(kind: StreamKind) -> (Form, u32, u32) {
-    let form = kind.form();
-    (form, form.head_cost(), kind.record_size())
-}
-
-#[test]
-fn kind_tells_its_head_and_its_records(rt: HostRuntime) {
-    for (kind, form, head, record) in [
-        (StreamKind::Threads, Form::Counted, 4, 48),
-        (StreamKind::Modules, Form::Counted, 4, 108),
-        (StreamKind::Memory, Form::Counted, 4, 16),
-        (StreamKind::Exception, Form::Single, 0, 168),
-        (StreamKind::System, Form::Single, 0, 56),
-        (StreamKind::Memory64, Form::Ranges64, 16, 16),
-        (StreamKind::Unloaded, Form::Sized32, 12, 24),
-        (StreamKind::MemoryInfo, Form::Sized64, 16, 48),
-        (StreamKind::ThreadNames, Form::Counted, 4, 12),
-    ] {
-        assert_same(&rt, sizes_of(kind), (form, head, record));
-    }
-}
-
-/// Whether the records of a kind have names, and whether it is 64-bit memory.
-fn traits_of(kind: StreamKind) -> (bool, bool) {
-    (kind.has_names(), kind.is_memory64())
-}
-
-#[test]
-fn kind_tells_its_names_and_its_64_bit_memory(rt: HostRuntime) {
-    for (kind, has_names, is_memory64) in [
-        (StreamKind::Threads, false, false),
-        (StreamKind::Modules, true, false),
-        (StreamKind::Memory, false, false),
-        (StreamKind::Exception, false, false),
-        (StreamKind::System, true, false),
-        (StreamKind::Memory64, false, true),
-        (StreamKind::Unloaded, true, false),
-        (StreamKind::MemoryInfo, false, false),
-        (StreamKind::ThreadNames, true, false),
-    ] {
-        assert_same(&rt, traits_of(kind), (has_names, is_memory64));
+    for stream_type in &OTHERS {
+        assert_same_at(&rt, stream_type, StreamKind::of_type(*stream_type), None);
     }
 }

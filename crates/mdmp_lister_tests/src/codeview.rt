@@ -1,6 +1,6 @@
 //! The CodeView record of a module, read beside the listing.
 use crate::files::file_of;
-use crate::given::{Text, short_text};
+use crate::given::{Text, sixteen};
 use crate::opening::{close, counts_of, limits_of, opened, patchy};
 use crate::same::{assert_same, assert_same_at};
 use crate::script::STANDARD;
@@ -28,7 +28,13 @@ fn plain(record: CodeView<'_>) -> RecordTold {
             age,
             name,
             ended,
-        } => Ok((guid.into_bytes(), age, short_text(name), ended)),
+        } => {
+            let text = Text {
+                len: name.len(),
+                bytes: sixteen(name),
+            };
+            Ok((guid.into_bytes(), age, text, ended))
+        }
         CodeView::Other { signature, size } => Err((Some(signature), size)),
         CodeView::Short { size } => Err((None, size)),
     }
@@ -70,46 +76,48 @@ fn told_of(
     (told, fetched)
 }
 
-/// Asserts that of such a record.
-fn assert_told(
-    rt: &impl Abort,
-    alloc: Global,
-    signature: u32,
-    size: u32,
-    name: u32,
-    told: RecordTold,
-    fetched: u128,
-) {
-    let found = told_of(rt, alloc, signature, size, name);
-    assert_same(rt, found, (Some(Ok(told)), fetched));
+/// The signature of a record, its size, and the most bytes of a name; what it tells, and how many bytes are
+/// fetched.
+type ToldRow = (u32, u32, u32, RecordTold, u128);
+
+/// A symbol file whose name has so many bytes, and whether a zero byte ends it.
+macro_rules! symbol_file {
+    ($size:expr, $limit:expr, $len:expr, $name:expr, $ended:expr, $fetched:expr) => {
+        (
+            0x53445352,
+            $size,
+            $limit,
+            Ok((
+                *b"\x00\x11\x22\x33\x44\x55\x66\x77\x88\x99\xaa\xbb\xcc\xdd\xee\xff",
+                1,
+                Text {
+                    len: $len,
+                    bytes: $name,
+                },
+                $ended,
+            )),
+            $fetched,
+        )
+    };
 }
 
-const RSDS: u32 = 0x53445352;
-
-/// The symbol file with this name, and whether a zero byte ends it.
-fn symbol_file(name: &str, ended: bool) -> RecordTold {
-    let guid = *b"\x00\x11\x22\x33\x44\x55\x66\x77\x88\x99\xaa\xbb\xcc\xdd\xee\xff";
-    Ok((guid, 1, short_text(name.as_bytes()), ended))
-}
+static TOLD: [ToldRow; 6] = [
+    // A symbol file is named up to the limit.
+    symbol_file!(30, 4096, 5, *b"a.pdb\0\0\0\0\0\0\0\0\0\0\0", true, 30),
+    symbol_file!(30, 3, 3, *b"a.p\0\0\0\0\0\0\0\0\0\0\0\0\0", false, 27),
+    symbol_file!(30, 0, 0, [0; 16], false, 24),
+    symbol_file!(24, 4096, 0, [0; 16], false, 24),
+    // Short and other records name none.
+    (0x53445352, 23, 4096, Err((None, 23)), 23),
+    (0x5344534e, 30, 4096, Err((Some(*b"NSDS"), 30)), 24),
+];
 
 #[test]
-fn symbol_file_is_named_up_to_the_limit(rt: HostRuntime) {
-    for (size, limit, name, ended, fetched) in [
-        (30, 4096, "a.pdb", true, 30),
-        (30, 3, "a.p", false, 27),
-        (30, 0, "", false, 24),
-        (24, 4096, "", false, 24),
-    ] {
-        let told = symbol_file(name, ended);
-        assert_told(&rt, rt.alloc(), RSDS, size, limit, told, fetched);
+fn symbol_file_is_named_up_to_the_limit_and_other_records_name_none(rt: HostRuntime) {
+    for (signature, size, name, told, fetched) in &TOLD {
+        let found = told_of(&rt, rt.alloc(), *signature, *size, *name);
+        assert_same_at(&rt, &(*size, *name), found, (Some(Ok(*told)), *fetched));
     }
-}
-
-#[test]
-fn short_and_other_records_name_no_symbol_file(rt: HostRuntime) {
-    assert_told(&rt, rt.alloc(), RSDS, 23, 4096, Err((None, 23)), 23);
-    let other = Err((Some(*b"NSDS"), 30));
-    assert_told(&rt, rt.alloc(), 0x5344534e, 30, 4096, other, 24);
 }
 
 /// What a record tells of its symbol file in a store: a fault of the store, or the size of the name.

@@ -1,95 +1,98 @@
 //! Which ranges of memory are counted when a file is opened.
-use crate::files::crowded;
-use crate::given::{What, nameless, range, stream};
+use crate::files::{FileOf, crowded};
+use crate::given::{range, stream};
 use crate::opening::{chosen, fault, open_and_close};
-use crate::playing::{assert_plays_chosen, assert_plays_numbers};
+use crate::playing::assert_scripts;
 use crate::same::assert_same;
-use crate::script::{LEAST, ends, fails, finds, gives, has_room, runs, skips};
+use crate::script::{BY_LEAST, Call, LEAST, Script};
 use mdmp_lister::{Choice, FaultKind, OpenFault};
 use mdmp_source::{Extent, MemoryStore, Source};
 use mdmp_test_support::OVERLAPPING;
 use std::alloc::Global;
 use std::process::Abort;
 
-/// A range of four bytes inside the file.
-fn inside(start: u64, offset: u128) -> What {
-    What::Range {
-        start,
-        size: 4,
-        extent: Extent::Inside,
-        offset,
-    }
+/// What a lister of this type alone gives of two ranges, and how many of them it maps.
+macro_rules! chosen_alone {
+    ($stream_type:expr, $items:expr, $ranges:expr) => {
+        Script {
+            shows: "a list that is not chosen is not mapped",
+            file: FileOf::Numbers(1, &OVERLAPPING),
+            types: &[$stream_type],
+            calls: &[
+                Call::HasRoom(0, $ranges),
+                Call::Runs(u64::MAX, None, $items),
+                Call::HasRoom($ranges, 0),
+            ],
+            ..BY_LEAST
+        }
+    };
 }
+
+static COUNTED: [Script<'static>; 5] = [
+    Script {
+        shows: "each list adds its ranges, and a repeated one again",
+        // A memory list, one of 64 bits, and the first once more; ABCD and EFGH stand behind them.
+        file: FileOf::Numbers(
+            3,
+            &[
+                5, 20, 68, 9, 32, 88, 5, 20, 68, // the directory
+                1, 0x1000, 0, 4, 120, // at 68
+                1, 0, 124, 0, 0x2000, 0, 4, 0, // at 88
+                0x44434241, 0x48474645,
+            ],
+        ),
+        calls: &[
+            Call::HasRoom(0, 3),
+            Call::Gives(stream!(0, 5, 20, 68)),
+            Call::Gives(range!(0, 0x1000, 4, Extent::Inside, 120)),
+            Call::HasRoom(1, 2),
+            Call::Gives(stream!(1, 9, 32, 88)),
+            Call::Gives(range!(1, 0, 0x2000, 4, Extent::Inside, 124)),
+            Call::HasRoom(2, 1),
+            Call::Gives(stream!(2, 5, 20, 68)),
+            Call::Gives(range!(2, 0, 0x1000, 4, Extent::Inside, 120)),
+            Call::HasRoom(3, 0),
+            Call::Ends,
+            Call::Finds(0x1003, 123, 1),
+            Call::Finds(0x2000, 124, 4),
+        ],
+        ..BY_LEAST
+    },
+    chosen_alone!(3, 0, 0),
+    chosen_alone!(9, 0, 0),
+    chosen_alone!(5, 3, 2),
+    Script {
+        shows: "a list with a bad count is opened, and told later",
+        // A memory list of 20 bytes that counts two ranges, and one that counts one.
+        file: FileOf::Numbers(
+            2,
+            &[
+                5, 20, 56, 5, 20, 76, 2, 0x1000, 0, 4, 32, 1, 0x2000, 0, 4, 36,
+            ],
+        ),
+        calls: &[
+            Call::HasRoom(0, 1),
+            Call::Gives(stream!(0, 5, 20, 56)),
+            Call::Fails(fault!(None, FaultKind::BadCount, 56, 2)),
+            Call::HasRoom(0, 1),
+            Call::Skips,
+            Call::Gives(stream!(1, 5, 20, 76)),
+            Call::Gives(range!(1, 0, 0x2000, 4, Extent::Inside, 36)),
+            Call::Ends,
+            Call::HasRoom(1, 0),
+            Call::Finds(0x2000, 36, 4),
+        ],
+        ..BY_LEAST
+    },
+];
 
 #[test]
-fn each_list_adds_its_ranges_and_a_repeated_one_again(rt: HostRuntime) {
-    // A memory list, one of 64 bits, and the first once more; ABCD and EFGH stand behind them.
-    let numbers = [
-        5, 20, 68, 9, 32, 88, 5, 20, 68, // the directory
-        1, 0x1000, 0, 4, 120, // at 68
-        1, 0, 124, 0, 0x2000, 0, 4, 0, // at 88
-        0x44434241, 0x48474645,
-    ];
-    let script = [
-        has_room(0, 3),
-        gives(stream(0, 5, 20, 68)),
-        gives(range(0, 0x1000, 4, Extent::Inside, 120)),
-        has_room(1, 2),
-        gives(stream(1, 9, 32, 88)),
-        gives(nameless(1, 0, inside(0x2000, 124))),
-        has_room(2, 1),
-        gives(stream(2, 5, 20, 68)),
-        gives(nameless(2, 0, inside(0x1000, 120))),
-        has_room(3, 0),
-        ends(),
-        finds(0x1003, 123, 1),
-        finds(0x2000, 124, 4),
-    ];
-    assert_plays_numbers(&rt, rt.alloc(), LEAST, 3, &numbers, &script);
+fn ranges_of_each_chosen_list_are_counted(rt: HostRuntime) {
+    assert_scripts(&rt, rt.alloc(), &COUNTED);
 }
 
-/// Asserts that a lister of this type alone gives so many items of two ranges, and maps so many of them.
-fn assert_mapped(rt: &impl Abort, alloc: Global, stream_type: u32, items: u64, ranges: usize) {
-    let script = [
-        has_room(0, ranges),
-        runs(u64::MAX, None, items),
-        has_room(ranges, 0),
-    ];
-    let types = [stream_type];
-    assert_plays_chosen(rt, alloc, LEAST, 1, &OVERLAPPING, &types, &script);
-}
-
-#[test]
-fn list_that_is_not_chosen_is_not_mapped(rt: HostRuntime) {
-    assert_mapped(&rt, rt.alloc(), 3, 0, 0);
-    assert_mapped(&rt, rt.alloc(), 9, 0, 0);
-    assert_mapped(&rt, rt.alloc(), 5, 3, 2);
-}
-
-#[test]
-fn list_with_a_bad_count_is_opened_and_told_later(rt: HostRuntime) {
-    // A memory list of 20 bytes that counts two ranges, and one that counts one.
-    let numbers = [
-        5, 20, 56, 5, 20, 76, 2, 0x1000, 0, 4, 32, 1, 0x2000, 0, 4, 36,
-    ];
-    let script = [
-        has_room(0, 1),
-        gives(stream(0, 5, 20, 56)),
-        fails(fault(None, FaultKind::BadCount, 56, 2)),
-        has_room(0, 1),
-        skips(),
-        gives(stream(1, 5, 20, 76)),
-        gives(nameless(1, 0, inside(0x2000, 36))),
-        ends(),
-        has_room(1, 0),
-        finds(0x2000, 36, 4),
-    ];
-    assert_plays_numbers(&rt, rt.alloc(), LEAST, 2, &numbers, &script);
-}
-
-/// What comes of a file of so many ranges that 16,384 entries name: its fault, the size of the source that is
-/// handed back, whether more than the header, the directory and the counts was fetched, and the fault where
-/// the ranges are not chosen, over the same source.
+/// Why a file is refused whose ranges 16,384 entries name, its size, whether more than its counts was fetched, and
+/// why without the ranges.
 fn open_crowded(
     rt: &impl Abort,
     alloc: Global,

@@ -1,160 +1,247 @@
 //! Bad files: where a listing ends, and files that are not opened.
-use crate::files::{first_bytes, padded};
-use crate::given::{Named, stream, system};
-use crate::opening::{FAULTY_NAME, fault, open_and_close};
-use crate::playing::assert_plays_numbers;
+use crate::files::{FileOf, made};
+use crate::given::stream;
+use crate::opening::{fault, open_and_close};
+use crate::playing::assert_scripts;
 use crate::same::{assert_same, assert_same_at};
-use crate::script::{Call, LEAST, STANDARD, ends, fails, gives};
+use crate::script::{BY_LEAST, Call, STANDARD, Script};
 use mdmp_lister::{Choice, Fault, FaultKind, OpenFault};
 use mdmp_source::{MemoryStore, Source, SourceFault};
-use mdmp_test_support::{FAULTY, SYSTEM};
+use mdmp_test_support::SYSTEM;
 use std::alloc::Global;
 use std::process::Abort;
 
-#[test]
-fn nothing_is_listed_behind_the_first_fault(rt: HostRuntime) {
-    let script = [
-        gives(stream(0, 7, 56, 68)),
-        gives(system(0, 0, Named::None)),
-        gives(stream(1, 4, 112, 124)),
-        fails(FAULTY_NAME),
-    ];
-    assert_plays_numbers(&rt, rt.alloc(), LEAST, 3, &FAULTY, &script);
+/// What comes behind the entry of a stream at 44, or at another place.
+macro_rules! behind {
+    ($shows:expr, $file:expr, $stream_type:expr, $size:expr, $call:expr) => {
+        behind!($shows, $file, $stream_type, $size, 44, $call)
+    };
+    ($shows:expr, $file:expr, $stream_type:expr, $size:expr, $rva:expr, $call:expr) => {
+        Script {
+            shows: $shows,
+            file: $file,
+            calls: &[Call::Gives(stream!(0, $stream_type, $size, $rva)), $call],
+            ..BY_LEAST
+        }
+    };
 }
 
-/// Asserts that a list of one thread in so many bytes is told to have this fault, behind its entry.
-fn assert_too_short(rt: &impl Abort, alloc: Global, size: u32, kind: FaultKind, told: u64) {
-    let numbers = padded::<18>(&[3, size, 44, 1, 7], &[]);
-    let script = [
-        gives(stream(0, 3, size, 44)),
-        fails(fault(None, kind, 44, told)),
-    ];
-    assert_plays_numbers(rt, alloc, LEAST, 1, &numbers, &script);
+/// A list of one thread in so many bytes.
+macro_rules! short_list {
+    ($shows:expr, $size:expr, $kind:expr, $told:expr) => {
+        behind!(
+            $shows,
+            FileOf::Padded(1, 18, &[3, $size, 44, 1, 7], &[]),
+            3,
+            $size,
+            Call::Fails(fault!(None, $kind, 44, $told))
+        )
+    };
 }
+
+/// A list of no bytes that stands here.
+macro_rules! empty_list {
+    ($rva:expr) => {
+        behind!(
+            "a list of no bytes is too short wherever it stands",
+            FileOf::Numbers(1, &[3, 0, $rva]),
+            3,
+            0,
+            $rva,
+            Call::Fails(fault!(None, FaultKind::ShortStream, $rva as u64, 0))
+        )
+    };
+}
+
+/// An unloaded list of 36 bytes with this head.
+macro_rules! head {
+    ($shows:expr, $first:expr, $stride:expr, $count:expr, $call:expr) => {
+        behind!(
+            $shows,
+            FileOf::Numbers(1, &[14, 36, 44, $first, $stride, $count, 0, 0, 0, 0, 0, 0]),
+            14,
+            36,
+            $call
+        )
+    };
+}
+
+/// A count that may be any number.
+macro_rules! any_count {
+    ($shows:expr, $numbers:expr, $stream_type:expr, $size:expr, $offset:expr, $told:expr) => {
+        behind!(
+            $shows,
+            FileOf::Numbers(1, $numbers),
+            $stream_type,
+            $size,
+            Call::Fails(fault!(None, FaultKind::BadCount, $offset, $told))
+        )
+    };
+}
+
+static SHORT: [Script<'static>; 5] = [
+    short_list!("a thread's last byte", 51, FaultKind::BadCount, 1),
+    short_list!("a count's last byte", 3, FaultKind::ShortStream, 3),
+    empty_list!(0),
+    empty_list!(44),
+    empty_list!(4294967295),
+];
 
 #[test]
 fn list_that_is_too_short_is_told_behind_its_entry(rt: HostRuntime) {
-    assert_too_short(&rt, rt.alloc(), 51, FaultKind::BadCount, 1);
-    assert_too_short(&rt, rt.alloc(), 3, FaultKind::ShortStream, 3);
+    assert_scripts(&rt, rt.alloc(), &SHORT);
 }
 
-/// Asserts that a list of no bytes is too short where it stands here.
-fn assert_empty_is_short(rt: &impl Abort, alloc: Global, rva: u32) {
-    let short = fault(None, FaultKind::ShortStream, u64::from(rva), 0);
-    let script = [gives(stream(0, 3, 0, rva)), fails(short)];
-    assert_plays_numbers(rt, alloc, LEAST, 1, &[3, 0, rva], &script);
-}
+static HEADS: [Script<'static>; 8] = [
+    head!(
+        "a short head",
+        11,
+        24,
+        1,
+        Call::Fails(fault!(None, FaultKind::BadHeaderSize, 44, 11))
+    ),
+    head!(
+        "a long head",
+        37,
+        24,
+        0,
+        Call::Fails(fault!(None, FaultKind::BadHeaderSize, 44, 37))
+    ),
+    head!(
+        "a short entry",
+        12,
+        23,
+        1,
+        Call::Fails(fault!(None, FaultKind::BadEntrySize, 48, 23))
+    ),
+    head!(
+        "two records",
+        12,
+        24,
+        2,
+        Call::Fails(fault!(None, FaultKind::BadCount, 52, 2))
+    ),
+    head!("no record of a short entry", 12, 23, 0, Call::Ends),
+    any_count!(
+        "a count of regions",
+        &[16, 16, 44, 16, u32::MAX, u32::MAX, u32::MAX],
+        16,
+        16,
+        52,
+        u64::MAX
+    ),
+    any_count!(
+        "a count of 64-bit ranges whose bytes begin at 0, a head alone",
+        &[9, 16, 44, u32::MAX, u32::MAX, 0, 0],
+        9,
+        16,
+        44,
+        u64::MAX
+    ),
+    any_count!(
+        "a count of threads",
+        &[3, 4, 44, u32::MAX],
+        3,
+        4,
+        44,
+        4294967295
+    ),
+];
 
 #[test]
-fn list_of_no_bytes_is_too_short_wherever_it_stands(rt: HostRuntime) {
-    assert_empty_is_short(&rt, rt.alloc(), 0);
-    assert_empty_is_short(&rt, rt.alloc(), 44);
-    assert_empty_is_short(&rt, rt.alloc(), u32::MAX);
+fn bad_heads_and_counts_are_told_behind_their_entry(rt: HostRuntime) {
+    assert_scripts(&rt, rt.alloc(), &HEADS);
 }
 
-/// Asserts what comes behind the entry of an unloaded list of 36 bytes at 44, with this head.
-fn assert_head(rt: &impl Abort, alloc: Global, head: [u32; 3], end: Call) {
-    let [first, stride, count] = head;
-    let numbers = [14, 36, 44, first, stride, count, 0, 0, 0, 0, 0, 0];
-    let script = [gives(stream(0, 14, 36, 44)), end];
-    assert_plays_numbers(rt, alloc, LEAST, 1, &numbers, &script);
+/// The first bytes of `SYSTEM`, so many, with others at this place, and why they are not opened.
+struct RefusedRow {
+    shows: &'static str,
+    size: usize,
+    at: usize,
+    bytes: &'static [u8],
+    fault: Option<OpenFault>,
 }
 
-#[test]
-fn bad_heads_are_told_behind_their_entry(rt: HostRuntime) {
-    let (header, entry) = (FaultKind::BadHeaderSize, FaultKind::BadEntrySize);
-    let count = FaultKind::BadCount;
-    for (head, end) in [
-        ([11, 24, 1], fails(fault(None, header, 44, 11))),
-        ([37, 24, 0], fails(fault(None, header, 44, 37))),
-        ([12, 23, 1], fails(fault(None, entry, 48, 23))),
-        ([12, 24, 2], fails(fault(None, count, 52, 2))),
-        ([12, 23, 0], ends()),
-    ] {
-        assert_head(&rt, rt.alloc(), head, end);
+static REFUSED: [RefusedRow; 7] = [
+    RefusedRow {
+        shows: "too short",
+        size: 31,
+        at: 0,
+        bytes: b"",
+        fault: Some(OpenFault::TooShort { size: 31 }),
+    },
+    RefusedRow {
+        shows: "another signature",
+        size: 136,
+        at: 0,
+        bytes: b"P",
+        fault: Some(OpenFault::BadSignature),
+    },
+    RefusedRow {
+        shows: "the signature is told before the version",
+        size: 136,
+        at: 0,
+        bytes: b"PDMP\x94",
+        fault: Some(OpenFault::BadSignature),
+    },
+    RefusedRow {
+        shows: "another version",
+        size: 136,
+        at: 4,
+        bytes: b"\x94",
+        fault: Some(OpenFault::BadVersion { low: 0xa794 }),
+    },
+    RefusedRow {
+        shows: "a directory that is cut",
+        size: 43,
+        at: 0,
+        bytes: b"",
+        fault: Some(OpenFault::DirectoryOutside {
+            offset: 32,
+            size: 12,
+        }),
+    },
+    RefusedRow {
+        shows: "a directory of the most entries",
+        size: 44,
+        at: 8,
+        bytes: b"\xff\xff\xff\xff",
+        fault: Some(OpenFault::DirectoryOutside {
+            offset: 32,
+            size: 51539607540,
+        }),
+    },
+    RefusedRow {
+        shows: "the whole file is opened",
+        size: 136,
+        at: 0,
+        bytes: b"",
+        fault: None,
+    },
+];
+
+/// Asserts why the file of a row is not opened, that its header alone was fetched then, and that its size is handed
+/// back.
+fn assert_refused(rt: &impl Abort, alloc: Global, row: &RefusedRow) {
+    let mut file = made(rt, alloc, &FileOf::First(row.size, &SYSTEM));
+    for i in 0..row.bytes.len() {
+        let place = row.at.saturating_add(i);
+        assert!(rt; place < file.len());
+        file[place] = row.bytes[i];
     }
-}
-
-#[test]
-fn count_of_a_region_list_may_be_any_number(rt: HostRuntime) {
-    let most = u32::MAX;
-    let numbers = [16, 16, 44, 16, most, most, most];
-    let fault = fault(None, FaultKind::BadCount, 52, u64::MAX);
-    let script = [gives(stream(0, 16, 16, 44)), fails(fault)];
-    assert_plays_numbers(&rt, rt.alloc(), LEAST, 1, &numbers, &script);
-}
-
-#[test]
-fn count_of_a_list_without_records_may_be_any_number(rt: HostRuntime) {
-    let most = u32::MAX;
-    // A list of 64-bit memory whose bytes begin at 0: a head alone.
-    let numbers = [9, 16, 44, most, most, 0, 0];
-    let fault_of_ranges = fault(None, FaultKind::BadCount, 44, u64::MAX);
-    let script = [gives(stream(0, 9, 16, 44)), fails(fault_of_ranges)];
-    assert_plays_numbers(&rt, rt.alloc(), LEAST, 1, &numbers, &script);
-
-    // And a list of threads.
-    let fault_of_threads = fault(None, FaultKind::BadCount, 44, u64::from(most));
-    let script = [gives(stream(0, 3, 4, 44)), fails(fault_of_threads)];
-    assert_plays_numbers(&rt, rt.alloc(), LEAST, 1, &[3, 4, 44, most], &script);
-}
-
-/// Why a file is not opened, the size of the source that is handed back, and what it has fetched.
-fn refusal(alloc: Global, file: &[u8]) -> (Option<OpenFault>, u64, u128) {
-    let source = Source::new(MemoryStore::new(file));
+    let source = Source::new(MemoryStore::new(&file));
     let (fault, source) = open_and_close(alloc, source, STANDARD, Choice::All);
-    (fault, source.size(), source.fetched())
-}
-
-/// Asserts that a file is refused for this, that its header alone was fetched, and that its size is handed back.
-fn assert_refused(rt: &impl Abort, alloc: Global, file: &[u8], expected: OpenFault) {
-    let (fault, size, fetched) = refusal(alloc, file);
-    assert_same(rt, fault, Some(expected));
-    assert_same(rt, size, file.len() as u64);
-    assert_same_at(rt, &fetched, fetched <= 32, true);
-}
-
-/// The file of one system, but for these bytes from this place on.
-fn changed<const N: usize>(at: usize, bytes: [u8; N]) -> [u8; 136] {
-    let mut file = SYSTEM;
-    for i in 0..N {
-        let place = at.saturating_add(i);
-        if place < 136 {
-            file[place] = bytes[i];
-        }
-    }
-    file
+    assert_same_at(rt, &row.shows, fault, row.fault);
+    assert_same_at(rt, &row.shows, source.size(), row.size as u64);
+    let is_header = fault.is_none() || source.fetched() <= 32;
+    assert_same_at(rt, &row.shows, is_header, true);
 }
 
 #[test]
 fn file_that_cannot_be_listed_is_refused(rt: HostRuntime) {
-    let short = OpenFault::TooShort { size: 31 };
-    assert_refused(&rt, rt.alloc(), first_bytes(&rt, &SYSTEM, 31), short);
-    let signature = changed(0, *b"P");
-    assert_refused(&rt, rt.alloc(), &signature, OpenFault::BadSignature);
-    // The signature is told before the version.
-    let both = changed(0, *b"PDMP\x94");
-    assert_refused(&rt, rt.alloc(), &both, OpenFault::BadSignature);
-    let version = OpenFault::BadVersion { low: 0xa794 };
-    assert_refused(&rt, rt.alloc(), &changed(4, [0x94]), version);
-    let cut = OpenFault::DirectoryOutside {
-        offset: 32,
-        size: 12,
-    };
-    assert_refused(&rt, rt.alloc(), first_bytes(&rt, &SYSTEM, 43), cut);
-    let most = changed(8, [0xff; 4]);
-    let outside = OpenFault::DirectoryOutside {
-        offset: 32,
-        size: 51539607540,
-    };
-    assert_refused(&rt, rt.alloc(), first_bytes(&rt, &most, 44), outside);
-    let (fault, ..) = refusal(rt.alloc(), &SYSTEM);
-    assert_same(&rt, fault, None);
-}
-
-/// A fault of the store, as a fault of a file.
-fn told_of(fault: SourceFault) -> Fault {
-    Fault::from(fault)
+    for row in &REFUSED {
+        assert_refused(&rt, rt.alloc(), row);
+    }
 }
 
 #[test]
@@ -165,5 +252,5 @@ fn fault_of_the_store_names_its_place(rt: HostRuntime) {
         offset: 7,
         size: 0,
     };
-    assert_same(&rt, told_of(short), told);
+    assert_same(&rt, Fault::from(short), told);
 }

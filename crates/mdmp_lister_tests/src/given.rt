@@ -71,91 +71,166 @@ pub struct GivenItem {
     pub name: Named,
 }
 
-/// These bytes as a short text.
-pub fn short_text(from: &[u8]) -> Text {
+/// The name of no units.
+pub const EMPTY_NAME: Named = Named::Text(Text {
+    len: 0,
+    bytes: [0; 16],
+});
+
+/// The name `abcd`.
+pub const ABCD: Named = Named::Text(Text {
+    len: 4,
+    bytes: *b"abcd\0\0\0\0\0\0\0\0\0\0\0\0",
+});
+
+/// The name `abcde`.
+pub const ABCDE: Named = Named::Text(Text {
+    len: 5,
+    bytes: *b"abcde\0\0\0\0\0\0\0\0\0\0\0",
+});
+
+/// The name of the system's service pack.
+pub const SERVICE_PACK: Named = Named::Text(Text {
+    len: 14,
+    bytes: *b"Service Pack 1\0\0",
+});
+
+/// An item with a name, by a macro as those below are, since no static calls a function.
+macro_rules! named_item {
+    ($entry:expr, $index:expr, $what:expr, $name:expr) => {
+        $crate::given::GivenItem {
+            entry: $entry,
+            index: $index,
+            what: $what,
+            name: $name,
+        }
+    };
+}
+
+pub(crate) use named_item;
+
+/// An item of a kind that has no name.
+macro_rules! nameless {
+    ($entry:expr, $index:expr, $what:expr) => {
+        $crate::given::named_item!($entry, $index, $what, $crate::given::Named::None)
+    };
+}
+
+pub(crate) use nameless;
+
+/// The entry of the directory with this number, and the three numbers that stand there.
+macro_rules! stream {
+    ($entry:expr, $stream_type:expr, $size:expr, $rva:expr) => {
+        $crate::given::nameless!(
+            $entry,
+            0,
+            $crate::given::What::Stream {
+                stream_type: $stream_type,
+                size: $size,
+                rva: $rva,
+            }
+        )
+    };
+}
+
+pub(crate) use stream;
+
+/// A thread without a stack and a context: the first of its list, or one of this index.
+macro_rules! thread {
+    ($entry:expr, $id:expr) => {
+        $crate::given::thread!($entry, 0, $id)
+    };
+    ($entry:expr, $index:expr, $id:expr) => {
+        $crate::given::nameless!(
+            $entry,
+            $index,
+            $crate::given::What::Thread {
+                id: $id,
+                stack: mdmp_source::Extent::Empty,
+                context: mdmp_source::Extent::Empty,
+            }
+        )
+    };
+}
+
+pub(crate) use thread;
+
+/// A module of the first entry without a name and without parts.
+macro_rules! module {
+    ($index:expr, $base:expr) => {
+        $crate::given::nameless!(
+            0,
+            $index,
+            $crate::given::What::Module {
+                base: $base,
+                codeview: mdmp_source::Extent::Empty,
+                misc: mdmp_source::Extent::Empty,
+            }
+        )
+    };
+}
+
+pub(crate) use module;
+
+/// A range of the first entry, or one of this entry.
+macro_rules! range {
+    ($index:expr, $start:expr, $size:expr, $extent:expr, $offset:expr) => {
+        $crate::given::range!(0, $index, $start, $size, $extent, $offset)
+    };
+    ($entry:expr, $index:expr, $start:expr, $size:expr, $extent:expr, $offset:expr) => {
+        $crate::given::nameless!(
+            $entry,
+            $index,
+            $crate::given::What::Range {
+                start: $start,
+                size: $size,
+                extent: $extent,
+                offset: $offset,
+            }
+        )
+    };
+}
+
+pub(crate) use range;
+
+/// An unloaded module of the first entry.
+macro_rules! unloaded {
+    ($index:expr, $base:expr, $name:expr) => {
+        $crate::given::named_item!(
+            0,
+            $index,
+            $crate::given::What::Unloaded { base: $base },
+            $name
+        )
+    };
+}
+
+pub(crate) use unloaded;
+
+/// The system of the first entry.
+macro_rules! system {
+    ($processors:expr, $build:expr, $name:expr) => {
+        $crate::given::named_item!(
+            0,
+            0,
+            $crate::given::What::System {
+                processors: $processors,
+                build: $build,
+            },
+            $name
+        )
+    };
+}
+
+pub(crate) use system;
+
+/// The first sixteen of these bytes, with zeros behind them.
+pub fn sixteen(from: &[u8]) -> [u8; 16] {
     let mut bytes = [0; 16];
     for i in 0..from.len().min(16) {
         bytes[i] = from[i];
     }
-    Text {
-        len: from.len(),
-        bytes,
-    }
-}
-
-/// A text as a name.
-pub fn spelled(name: &str) -> Named {
-    Named::Text(short_text(name.as_bytes()))
-}
-
-/// The entry of the directory with this number, and the three numbers that stand there.
-pub fn stream(entry: u32, stream_type: u32, size: u32, rva: u32) -> GivenItem {
-    let what = What::Stream {
-        stream_type,
-        size,
-        rva,
-    };
-    nameless(entry, 0, what)
-}
-
-/// A thread without a stack and a context.
-pub fn thread(entry: u32, id: u32) -> GivenItem {
-    let what = What::Thread {
-        id,
-        stack: Extent::Empty,
-        context: Extent::Empty,
-    };
-    nameless(entry, 0, what)
-}
-
-/// A module of the first entry without a name and without parts.
-pub fn module(index: u64, base: u64) -> GivenItem {
-    let what = What::Module {
-        base,
-        codeview: Extent::Empty,
-        misc: Extent::Empty,
-    };
-    nameless(0, index, what)
-}
-
-/// A range of the first entry.
-pub fn range(index: u64, start: u64, size: u64, extent: Extent, offset: u128) -> GivenItem {
-    let what = What::Range {
-        start,
-        size,
-        extent,
-        offset,
-    };
-    nameless(0, index, what)
-}
-
-/// An unloaded module of the first entry.
-pub fn unloaded(index: u64, base: u64, name: Named) -> GivenItem {
-    with_name(0, index, What::Unloaded { base }, name)
-}
-
-/// The first name of a thread, of the first entry.
-pub fn thread_name(id: u32, name: Named) -> GivenItem {
-    with_name(0, 0, What::ThreadName { id }, name)
-}
-
-/// The system of the first entry.
-pub fn system(processors: u8, build: u32, name: Named) -> GivenItem {
-    with_name(0, 0, What::System { processors, build }, name)
-}
-
-/// An item of a kind that has no name.
-pub fn nameless(entry: u32, index: u64, what: What) -> GivenItem {
-    with_name(entry, index, what, Named::None)
-}
-
-fn with_name(entry: u32, index: u64, what: What, name: Named) -> GivenItem {
-    GivenItem {
-        entry,
-        index,
-        what,
-        name,
-    }
+    bytes
 }
 
 /// A name as a plain value.
@@ -164,7 +239,11 @@ pub fn plain_name(rt: &impl Abort, alloc: Global, name: &Name<'_>) -> Named {
         Name::None => Named::None,
         Name::Units(units) => {
             let utf8 = units.to_utf8(alloc).expect(rt, "memory for a name");
-            spelled(utf8.as_str())
+            let spelled = utf8.as_str().as_bytes();
+            Named::Text(Text {
+                len: spelled.len(),
+                bytes: sixteen(spelled),
+            })
         }
         Name::Long(bytes) => Named::Long(*bytes),
     }
@@ -172,8 +251,12 @@ pub fn plain_name(rt: &impl Abort, alloc: Global, name: &Name<'_>) -> Named {
 
 /// An item as a plain value.
 pub fn plain(rt: &impl Abort, alloc: Global, item: &Item<'_>) -> GivenItem {
-    let name = plain_name(rt, alloc, item.name());
-    with_name(item.entry(), item.index(), what_of(item), name)
+    GivenItem {
+        entry: item.entry(),
+        index: item.index(),
+        what: what_of(item),
+        name: plain_name(rt, alloc, item.name()),
+    }
 }
 
 /// The telling numbers of an item.

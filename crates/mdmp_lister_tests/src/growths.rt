@@ -1,9 +1,9 @@
 //! What listers and walkers ask of a heap: nothing, once they are opened.
 use crate::codeview::told_at;
-use crate::files::file_of;
+use crate::files::{FileOf, made};
 use crate::opening::{counts_of, patchy};
 use crate::playing::answer_of;
-use crate::same::{assert_same, assert_same_at};
+use crate::same::assert_same_at;
 use crate::script::{NAMED, ScriptStep};
 use crate::walking;
 use mdmp_lister::{Choice, Lister, StopAt, Walker};
@@ -31,7 +31,7 @@ fn growths_of(heap: &MeteredHeap<Global>, opening: u64) -> Growths {
 }
 
 /// Calls between two items, which change none of them.
-const ASIDE: [ScriptStep; 8] = [
+static ASIDE: [ScriptStep; 8] = [
     ScriptStep::Entries,
     ScriptStep::Room,
     ScriptStep::Find(0x1000),
@@ -43,10 +43,10 @@ const ASIDE: [ScriptStep; 8] = [
 ];
 
 /// All items up to the end, with a call behind it.
-const ITEMS: [ScriptStep; 12] = [ScriptStep::Next; 12];
+static ITEMS: [ScriptStep; 12] = [ScriptStep::Next; 12];
 
 /// Verdicts, and what is left behind them.
-const VERDICTS: [ScriptStep; 5] = [
+static VERDICTS: [ScriptStep; 5] = [
     ScriptStep::Check(2),
     ScriptStep::SameSink,
     ScriptStep::Skip,
@@ -55,7 +55,7 @@ const VERDICTS: [ScriptStep; 5] = [
 ];
 
 /// Runs into sinks, of which the first wants one item, and entries that are skipped.
-const RUNS: [ScriptStep; 6] = [
+static RUNS: [ScriptStep; 6] = [
     ScriptStep::NewSink(1),
     ScriptStep::Skip,
     ScriptStep::NewSink(2),
@@ -71,8 +71,8 @@ fn call_aside<S: Store + Drop, A: Allocator + Copy>(
     lister: &mut Lister<S, A>,
     sink: &mut StopAt,
 ) {
-    for step in ASIDE {
-        let _ = answer_of(rt, alloc, lister, sink, step);
+    for step in &ASIDE {
+        let _ = answer_of(rt, alloc, lister, sink, *step);
     }
     let _ = told_at(lister, Location { size: 30, rva: 4 });
     let _ = counts_of(lister);
@@ -122,7 +122,7 @@ fn asked_by_lister<S: Store + Drop>(
 }
 
 /// Items and entries that a walker goes to.
-const WALKS: [ScriptStep; 14] = [
+static WALKS: [ScriptStep; 14] = [
     ScriptStep::Entries,
     ScriptStep::Next,
     ScriptStep::Records,
@@ -178,69 +178,48 @@ fn asked_by_walker<S: Store + Drop>(
     growths_of(&heap, opening)
 }
 
-/// Asserts that a lister of a file in memory asks for nothing but by so many growths of its opening, if it makes
-/// these calls.
-fn assert_asked(rt: &impl Abort, alloc: Global, file: &[u8], steps: &[ScriptStep], opening: u64) {
-    let store = MemoryStore::new(file);
-    let asked = asked_by_lister(rt, alloc, store, steps);
-    assert_same(rt, asked, opened_by(opening));
-}
+/// Files, and by how many growths a lister of each is opened: a directory, a window, a name, and a map where memory is
+/// listed.
+static FILES: [(FileOf, u64); 9] = [
+    (FileOf::Bytes(&SYSTEM), 3),
+    (FileOf::Bytes(&MEMORY64), 4),
+    (FileOf::Numbers(3, &FAULTY), 3),
+    (FileOf::Numbers(3, &THRICE), 3),
+    (FileOf::Numbers(1, &OVERLAPPING), 4),
+    (FileOf::Numbers(2, &CRASH), 3),
+    (FileOf::Numbers(6, &SIX), 3),
+    (FileOf::Numbers(1, &MODULE), 3),
+    (FileOf::Numbers(1, &COMMENT), 3),
+];
 
-/// The same of listers that make all these calls.
-fn assert_asked_by_listers(rt: &impl Abort, alloc: Global, file: &[u8], opening: u64) {
-    assert_asked(rt, alloc, file, &ITEMS, opening);
-    assert_asked(rt, alloc, file, &VERDICTS, opening);
-    assert_asked(rt, alloc, file, &RUNS, opening);
-}
-
-/// The same of a file with so many entries and these numbers.
-fn assert_asked_of_numbers(
-    rt: &impl Abort,
-    alloc: Global,
-    entries: u32,
-    numbers: &[u32],
-    opening: u64,
-) {
-    let file = file_of(rt, alloc, entries, numbers);
-    assert_asked_by_listers(rt, alloc, &file, opening);
+/// Asserts that a lister of a file asks for nothing but by so many growths of its opening, whatever calls it makes.
+fn assert_asked(rt: &impl Abort, alloc: Global, number: usize, file: &[u8], opening: u64) {
+    let items = asked_by_lister(rt, alloc, MemoryStore::new(file), &ITEMS);
+    let verdicts = asked_by_lister(rt, alloc, MemoryStore::new(file), &VERDICTS);
+    let runs = asked_by_lister(rt, alloc, MemoryStore::new(file), &RUNS);
+    assert_same_at(
+        rt,
+        &number,
+        [items, verdicts, runs],
+        [opened_by(opening); 3],
+    );
 }
 
 #[test]
 fn lister_asks_for_no_memory_once_it_is_opened(rt: HostRuntime) {
-    // A directory, a window, a name, and a map where memory is listed.
-    assert_asked_by_listers(&rt, rt.alloc(), &SYSTEM, 3);
-    assert_asked_by_listers(&rt, rt.alloc(), &MEMORY64, 4);
-    assert_asked_of_numbers(&rt, rt.alloc(), 3, &FAULTY, 3);
-    assert_asked_of_numbers(&rt, rt.alloc(), 3, &THRICE, 3);
-    assert_asked_of_numbers(&rt, rt.alloc(), 1, &OVERLAPPING, 4);
-    assert_asked_of_numbers(&rt, rt.alloc(), 2, &CRASH, 3);
-    assert_asked_of_numbers(&rt, rt.alloc(), 6, &SIX, 3);
-    assert_asked_of_numbers(&rt, rt.alloc(), 1, &MODULE, 3);
-    assert_asked_of_numbers(&rt, rt.alloc(), 1, &COMMENT, 3);
-}
-
-/// Asserts that a walker of a file in memory asks for nothing but by three growths of its opening.
-fn assert_asked_by_walker(rt: &impl Abort, alloc: Global, file: &[u8]) {
-    let asked = asked_by_walker(rt, alloc, MemoryStore::new(file), &WALKS);
-    assert_same(rt, asked, opened_by(3));
-}
-
-/// The same of a file with so many entries and these numbers.
-fn assert_walked_numbers(rt: &impl Abort, alloc: Global, entries: u32, numbers: &[u32]) {
-    let file = file_of(rt, alloc, entries, numbers);
-    assert_asked_by_walker(rt, alloc, &file);
+    for (number, (file, opening)) in FILES.iter().enumerate() {
+        let file = made(&rt, rt.alloc(), file);
+        assert_asked(&rt, rt.alloc(), number, &file, *opening);
+    }
 }
 
 #[test]
 fn walker_asks_for_no_memory_once_it_is_opened(rt: HostRuntime) {
-    assert_walked_numbers(&rt, rt.alloc(), 3, &FAULTY);
-    assert_walked_numbers(&rt, rt.alloc(), 3, &THRICE);
-    assert_walked_numbers(&rt, rt.alloc(), 1, &OVERLAPPING);
-    assert_walked_numbers(&rt, rt.alloc(), 2, &CRASH);
-    assert_walked_numbers(&rt, rt.alloc(), 6, &SIX);
-    assert_walked_numbers(&rt, rt.alloc(), 1, &MODULE);
-    assert_asked_by_walker(&rt, rt.alloc(), &SYSTEM);
-    assert_asked_by_walker(&rt, rt.alloc(), &MEMORY64);
+    for (number, (file, _)) in FILES.iter().enumerate() {
+        let file = made(&rt, rt.alloc(), file);
+        let asked = asked_by_walker(&rt, rt.alloc(), MemoryStore::new(&file), &WALKS);
+        assert_same_at(&rt, &number, asked, opened_by(3));
+    }
 }
 
 /// Asserts what a lister and a walker ask for over a store of 64-bit memory that fails at this call.

@@ -44,7 +44,7 @@ const ENTRIES: HeapRow = HeapRow {
     growths: (3, 0),
 };
 
-const ROWS: [HeapRow; 8] = [
+static ROWS: [HeapRow; 8] = [
     HeapRow {
         opener: Opener::Lister,
         file: MANY_ENTRIES,

@@ -31,8 +31,6 @@ mod faults;
 #[cfg(test)]
 mod files;
 #[cfg(test)]
-mod fresh;
-#[cfg(test)]
 mod given;
 #[cfg(test)]
 mod growths;
@@ -62,8 +60,6 @@ mod ranges;
 mod record_counts;
 #[cfg(test)]
 mod records;
-#[cfg(test)]
-mod records_left;
 #[cfg(test)]
 mod refusals;
 #[cfg(test)]

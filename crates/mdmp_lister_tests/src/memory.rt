@@ -1,8 +1,10 @@
 //! The memory that a lister takes.
-use crate::files::{FOUR, crowded, file_of};
-use crate::opening::{ListOutcome, all, chosen, close, list_all, open_and_close, opened, run_over};
+use crate::files::{FOUR, FileOf, crowded, file_of, made};
+use crate::opening::{
+    ListOutcome, all, chosen, close, limits_of, list_all, open_and_close, opened, run_over,
+};
 use crate::same::{assert_same, assert_same_at};
-use crate::script::{LEAST, STANDARD, WHOLE_BLOCKS};
+use crate::script::{LEAST, WHOLE_BLOCKS};
 use linked_list_allocator::LocalHeap;
 use mdmp_lister::{Choice, Limits, OpenFault};
 use mdmp_source::{MemoryStore, Source};
@@ -15,42 +17,72 @@ fn heap_of(rt: &impl Abort, alloc: Global, size: usize) -> LocalHeap {
     LocalHeap::new(alloc, size).expect(rt, "a heap")
 }
 
-/// What comes of listing a file in a heap.
-#[derive(Clone, Copy)]
-struct Report {
+/// A file that is listed in heaps of these sizes, in steps of 16 bytes.
+struct MemoryRow {
+    file: FileOf,
+    limits: (u32, u32),
+    /// The first size and the last.
+    heaps: (usize, usize),
     outcome: ListOutcome,
-    /// Of the source that is handed back.
-    size: u64,
-    fetched: u128,
-    /// Why that source is not opened with ample memory.
-    ample: Option<OpenFault>,
-    /// How much of the heap is used behind it all.
-    left: usize,
+    /// What is fetched, if that is to be known.
+    fetched: Option<u128>,
+    /// How much a lister uses as it is opened and behind all its items, if it is to be known.
+    used: Option<usize>,
 }
 
-/// That of a file with so many entries and these numbers, in a heap of so many bytes.
-fn report_of(
-    rt: &impl Abort,
-    alloc: Global,
-    heap_size: usize,
-    limits: Limits,
-    entries: u32,
-    numbers: &[u32],
-) -> Report {
-    let file = file_of(rt, alloc, entries, numbers);
-    let heap = heap_of(rt, alloc, heap_size);
-    let source = Source::new(MemoryStore::new(&file));
-    let (outcome, source) = run_over(&heap, source, limits, Choice::All);
-    let (size, fetched) = (source.size(), source.fetched());
-    let (ample, _) = open_and_close(alloc, source, limits, Choice::All);
-    Report {
-        outcome,
-        size,
-        fetched,
-        ample,
-        left: heap.used(),
-    }
+/// Such a row, of a heap that gives too little.
+macro_rules! refused {
+    ($file:expr, $limits:expr, $heaps:expr, $fetched:expr) => {
+        MemoryRow {
+            file: $file,
+            limits: $limits,
+            heaps: $heaps,
+            outcome: ListOutcome::Refused(OpenFault::Memory),
+            fetched: $fetched,
+            used: None,
+        }
+    };
 }
+
+/// One of a heap that gives enough.
+macro_rules! listed {
+    ($file:expr, $limits:expr, $heaps:expr, $items:expr, $mapped:expr, $used:expr) => {
+        MemoryRow {
+            file: $file,
+            limits: $limits,
+            heaps: $heaps,
+            outcome: ListOutcome::Listed {
+                fault: None,
+                items: $items,
+                mapped: $mapped,
+            },
+            fetched: None,
+            used: $used,
+        }
+    };
+}
+
+/// Two ranges: in blocks of multiples of 16 a directory of 16 bytes, a window of 176, and a map of 48.
+const RANGES: FileOf = FileOf::Numbers(1, &OVERLAPPING);
+
+/// A directory of 48 bytes.
+const UNUSED: FileOf = FileOf::Numbers(4, &[0; 12]);
+
+/// A directory of 48 bytes, and a map of two ranges of 24.
+const FOUR_LISTS: FileOf = FileOf::Numbers(4, &FOUR);
+
+static ROWS: [MemoryRow; 9] = [
+    refused!(RANGES, (168, 0), (0, 176), Some(32)),
+    // The directory and the count are read before there is a map.
+    refused!(RANGES, (168, 0), (192, 224), Some(48)),
+    listed!(RANGES, (168, 0), (240, 304), 3, 2, None),
+    refused!(UNUSED, (176, 16), (0, 0), Some(32)),
+    refused!(UNUSED, (176, 16), (48, 48), Some(32)),
+    refused!(UNUSED, (176, 16), (224, 224), Some(32)),
+    listed!(UNUSED, (176, 16), (240, 240), 4, 0, Some(240)),
+    refused!(FOUR_LISTS, (176, 16), (272, 272), None),
+    listed!(FOUR_LISTS, (176, 16), (288, 288), 6, 0, Some(288)),
+];
 
 /// How much of a heap a lister of a file uses once it is opened, and behind all its items.
 fn used_by(rt: &impl Abort, heap: &LocalHeap, file: &[u8], limits: Limits) -> (usize, usize) {
@@ -62,138 +94,79 @@ fn used_by(rt: &impl Abort, heap: &LocalHeap, file: &[u8], limits: Limits) -> (u
     (opened, listed)
 }
 
-/// The same of a file with so many entries and these numbers, in a heap of so many bytes.
-fn used_in(
-    rt: &impl Abort,
-    alloc: Global,
-    heap_size: usize,
-    limits: Limits,
-    entries: u32,
-    numbers: &[u32],
-) -> (usize, usize) {
-    let file = file_of(rt, alloc, entries, numbers);
-    let heap = heap_of(rt, alloc, heap_size);
-    used_by(rt, &heap, &file, limits)
-}
-
-#[test]
-fn open_succeeds_with_ample_memory(rt: HostRuntime) {
-    let report = report_of(&rt, rt.alloc(), 1 << 20, STANDARD, 1, &OVERLAPPING);
-    assert_same(&rt, report.outcome, all(3, 2));
-    // What is listed takes no more.
-    let (opened, listed) = used_in(&rt, rt.alloc(), 1 << 20, STANDARD, 1, &OVERLAPPING);
-    assert_same(&rt, opened, listed);
-}
-
-/// Asserts what comes of a list of two ranges in a heap of so many bytes, and what is fetched there, if that is
-/// to be known.
-fn assert_ranges_in(
-    rt: &impl Abort,
-    alloc: Global,
-    size: usize,
-    outcome: ListOutcome,
-    fetched: Option<u128>,
-) {
-    let report = report_of(rt, alloc, size, LEAST, 1, &OVERLAPPING);
-    if let Some(fetched) = fetched {
-        assert_same_at(rt, &size, report.fetched, fetched);
+/// Asserts what comes of a row in a heap of so many bytes, and that its source may be opened with ample memory.
+fn assert_row_in(rt: &impl Abort, alloc: Global, row: &MemoryRow, size: usize) {
+    let file = made(rt, alloc, &row.file);
+    let (window, name) = row.limits;
+    let limits = limits_of(rt, window, name);
+    let heap = heap_of(rt, alloc, size);
+    let source = Source::new(MemoryStore::new(&file));
+    let (outcome, source) = run_over(&heap, source, limits, Choice::All);
+    let (len, fetched) = (source.size(), source.fetched());
+    let (ample, _) = open_and_close(alloc, source, limits, Choice::All);
+    assert_same_at(rt, &size, outcome, row.outcome);
+    assert_same_at(rt, &size, fetched, row.fetched.unwrap_or(fetched));
+    let told = (len, ample, heap.used());
+    assert_same_at(rt, &size, told, (file.len() as u64, None, 0));
+    if let Some(used) = row.used {
+        let found = used_by(rt, &heap, &file, limits);
+        assert_same_at(rt, &size, found, (used, used));
     }
-    assert_same_at(rt, &size, report.outcome, outcome);
-    assert_same_at(rt, &size, (report.ample, report.left), (None, 0));
 }
 
 #[test]
 fn want_of_memory_hands_the_source_back_until_there_is_enough(rt: HostRuntime) {
-    // Blocks are multiples of 16: a directory of 16 bytes, a window of 176, and a map of 48.
-    let refused = ListOutcome::Refused(OpenFault::Memory);
-    for blocks in 0..12 {
-        assert_ranges_in(&rt, rt.alloc(), 16 * blocks, refused, Some(32));
+    for row in &ROWS {
+        let (first, last) = row.heaps;
+        for block in first / 16..last / 16 + 1 {
+            assert_row_in(&rt, rt.alloc(), row, 16 * block);
+        }
     }
-    // The directory and the count are read before there is a map.
-    for blocks in 12..15 {
-        assert_ranges_in(&rt, rt.alloc(), 16 * blocks, refused, Some(48));
-    }
-    for blocks in 15..20 {
-        assert_ranges_in(&rt, rt.alloc(), 16 * blocks, all(3, 2), None);
-    }
-}
-
-/// Asserts that a directory of 48 bytes is refused in a heap of so many bytes, by which nothing is lost.
-fn assert_refused_in(rt: &impl Abort, alloc: Global, size: usize) {
-    let report = report_of(rt, alloc, size, WHOLE_BLOCKS, 4, &[0; 12]);
-    let refused = ListOutcome::Refused(OpenFault::Memory);
-    assert_same_at(rt, &size, report.outcome, refused);
-    assert_same_at(rt, &size, (report.size, report.fetched), (80, 32));
-    assert_same_at(rt, &size, (report.ample, report.left), (None, 0));
 }
 
 #[test]
-fn want_of_memory_hands_the_source_back(rt: HostRuntime) {
-    assert_refused_in(&rt, rt.alloc(), 0);
-    assert_refused_in(&rt, rt.alloc(), 48);
-    assert_refused_in(&rt, rt.alloc(), 224);
-    let report = report_of(&rt, rt.alloc(), 240, WHOLE_BLOCKS, 4, &[0; 12]);
-    assert_same(&rt, report.outcome, all(4, 0));
-    let used = used_in(&rt, rt.alloc(), 240, WHOLE_BLOCKS, 4, &[0; 12]);
-    assert_same(&rt, used, (240, 240));
-}
-
-/// Why a file of four entries whose threads alone are chosen is not opened in a heap of so many bytes.
-fn fault_of_threads(rt: &impl Abort, alloc: Global, heap_size: usize) -> Option<OpenFault> {
-    let file = file_of(rt, alloc, 4, &FOUR);
-    let heap = heap_of(rt, alloc, heap_size);
+fn open_succeeds_with_ample_memory(rt: HostRuntime) {
+    let file = file_of(&rt, rt.alloc(), 1, &OVERLAPPING);
+    let heap = heap_of(&rt, rt.alloc(), 1 << 20);
+    let limits = limits_of(&rt, 65536, 4096);
     let source = Source::new(MemoryStore::new(&file));
-    let (fault, _) = open_and_close(&heap, source, WHOLE_BLOCKS, chosen(rt, &[3]));
-    fault
+    let (outcome, _) = run_over(&heap, source, limits, Choice::All);
+    assert_same(&rt, outcome, all(3, 2));
+    // What is listed takes no more.
+    let (opened, listed) = used_by(&rt, &heap, &file, limits);
+    assert_same(&rt, opened, listed);
 }
 
 #[test]
-fn memory_is_that_of_four_lists(rt: HostRuntime) {
-    // A directory of 48 bytes, and a map of two ranges of 24.
-    let report = report_of(&rt, rt.alloc(), 272, WHOLE_BLOCKS, 4, &FOUR);
-    assert_same(&rt, report.outcome, ListOutcome::Refused(OpenFault::Memory));
-    assert_same(&rt, (report.size, report.ample), (116, None));
-    let report = report_of(&rt, rt.alloc(), 288, WHOLE_BLOCKS, 4, &FOUR);
-    assert_same(&rt, report.outcome, all(6, 0));
-    let used = used_in(&rt, rt.alloc(), 288, WHOLE_BLOCKS, 4, &FOUR);
-    assert_same(&rt, used, (288, 288));
-    // A list that is not chosen takes none.
-    assert_same(&rt, fault_of_threads(&rt, rt.alloc(), 240), None);
-}
-
-/// Why 2^28 ranges are not opened in a heap of so many bytes, and what is fetched.
-fn fault_of_most_ranges(
-    rt: &impl Abort,
-    alloc: Global,
-    heap_size: usize,
-) -> (Option<OpenFault>, u128) {
-    let crowded = crowded(rt, alloc, 16384);
-    let heap = heap_of(rt, alloc, heap_size);
-    let source = Source::new(MemoryStore::new(&crowded));
-    let (fault, source) = open_and_close(&heap, source, WHOLE_BLOCKS, Choice::All);
-    (fault, source.fetched())
+fn list_that_is_not_chosen_takes_no_memory(rt: HostRuntime) {
+    let file = file_of(&rt, rt.alloc(), 4, &FOUR);
+    let heap = heap_of(&rt, rt.alloc(), 240);
+    let source = Source::new(MemoryStore::new(&file));
+    let (fault, _) = open_and_close(&heap, source, WHOLE_BLOCKS, chosen(&rt, &[3]));
+    assert_same(&rt, fault, None);
 }
 
 #[test]
 fn most_ranges_are_not_too_many(rt: HostRuntime) {
+    let crowded = crowded(&rt, rt.alloc(), 16384);
     // There is memory for all but the map.
-    let found = fault_of_most_ranges(&rt, rt.alloc(), 12 * 16384 + 192);
+    let heap = heap_of(&rt, rt.alloc(), 12 * 16384 + 192);
+    let source = Source::new(MemoryStore::new(&crowded));
+    let (fault, source) = open_and_close(&heap, source, WHOLE_BLOCKS, Choice::All);
     let fetched = 32 + 16 * 16384;
-    assert_same(&rt, found, (Some(OpenFault::Memory), fetched));
-}
-
-/// What comes of listing so many unused entries.
-fn outcome_of_unused(rt: &impl Abort, alloc: Global, entries: u32) -> ListOutcome {
-    let mut numbers = Vec::new(alloc);
-    numbers.resize(3 * entries as usize, 0).expect(rt, "memory");
-    let unused = file_of(rt, alloc, entries, &numbers);
-    let source = Source::new(MemoryStore::new(&unused));
-    let (outcome, _) = run_over(alloc, source, LEAST, Choice::All);
-    outcome
+    assert_same(
+        &rt,
+        (fault, source.fetched()),
+        (Some(OpenFault::Memory), fetched),
+    );
 }
 
 #[test]
 fn directory_of_many_entries_is_opened(rt: HostRuntime) {
-    let outcome = outcome_of_unused(&rt, rt.alloc(), 100_000);
+    let mut numbers = Vec::new(rt.alloc());
+    numbers.resize(3 * 100_000, 0).expect(&rt, "memory");
+    let unused = file_of(&rt, rt.alloc(), 100_000, &numbers);
+    let source = Source::new(MemoryStore::new(&unused));
+    let (outcome, _) = run_over(rt.alloc(), source, LEAST, Choice::All);
     assert_same(&rt, outcome, all(100_000, 0));
 }

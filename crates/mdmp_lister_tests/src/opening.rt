@@ -3,7 +3,7 @@ use mdmp_lister::{
     Choice, Counts, FaultKind, Limits, ListFault, Lister, OpenFault, OpenRefused, RunFault, StopAt,
     TypeSet,
 };
-use mdmp_source::{PatchyStore, Source, SourceFault, Store};
+use mdmp_source::{PatchyStore, Source, Store};
 use std::alloc::{Allocator, Global};
 use std::process::Abort;
 
@@ -56,16 +56,38 @@ pub fn patchy<'a>(
     PatchyStore::new(bytes, caps, fail_at)
 }
 
-/// A fault of the first entry.
-pub fn fault(index: Option<u64>, kind: FaultKind, offset: u64, size: u64) -> ListFault {
-    ListFault {
-        entry: 0,
-        index,
-        kind,
-        offset,
-        size,
-    }
+/// A fault of the first entry, or of this one, by a macro since no static calls a function.
+macro_rules! fault {
+    ($index:expr, $kind:expr, $offset:expr, $size:expr) => {
+        $crate::opening::fault!(0, $index, $kind, $offset, $size)
+    };
+    ($entry:expr, $index:expr, $kind:expr, $offset:expr, $size:expr) => {
+        mdmp_lister::ListFault {
+            entry: $entry,
+            index: $index,
+            kind: $kind,
+            offset: $offset,
+            size: $size,
+        }
+    };
 }
+
+pub(crate) use fault;
+
+/// The fault of an entry whose byte at this place is not obtained.
+macro_rules! store_fault {
+    ($entry:expr, $at:expr) => {
+        $crate::opening::fault!(
+            $entry,
+            None,
+            mdmp_lister::FaultKind::Source(mdmp_source::SourceFault::Failed { at: $at }),
+            $at,
+            0
+        )
+    };
+}
+
+pub(crate) use store_fault;
 
 /// The fault of the second entry of `FAULTY`, in the name of its module.
 pub const FAULTY_NAME: ListFault = ListFault {
@@ -172,15 +194,4 @@ pub fn listed_ranges<S: Store + Drop>(
     };
     let ended = lister.list_ranges();
     Some((ended, lister.map().len()))
-}
-
-/// The fault of an entry whose byte at this place is not obtained.
-pub fn store_fault(entry: u32, at: u64) -> ListFault {
-    ListFault {
-        entry,
-        index: None,
-        kind: FaultKind::Source(SourceFault::Failed { at }),
-        offset: at,
-        size: 0,
-    }
 }

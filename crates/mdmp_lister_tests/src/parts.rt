@@ -1,70 +1,75 @@
 //! Bytes of the file that are read beside the listing.
-use crate::files::file_of;
+use crate::files::FileOf;
 use crate::given::{range, stream};
-use crate::playing::{assert_plays, assert_plays_patchy};
-use crate::script::{
-    LEAST, ends, gives, has_numbers, has_part, has_room, part_fails, part_outside,
-};
+use crate::playing::assert_scripts;
+use crate::script::{BY_LEAST, Call, Script};
 use mdmp_source::{Extent, SourceFault};
 use mdmp_test_support::{MEMORY64, OVERLAPPING};
-use std::alloc::Global;
-use std::process::Abort;
 
-#[test]
-fn part_is_read_between_items_and_counted_aside(rt: HostRuntime) {
-    let script = [
-        has_numbers(98, 0),
-        has_part(92, *b"ABCDEF"),
-        has_numbers(98, 6),
-        gives(stream(0, 9, 48, 44)),
-        has_part(0, *b"MDMP"),
-        gives(range(0, 0x1000, 4, Extent::Inside, 92)),
-        has_part(97, *b"F"),
-        has_part(98, []),
-        gives(range(1, 0x2000, 4, Extent::Outside, 96)),
-        ends(),
-        has_part(44, [2, 0, 0, 0, 0, 0, 0, 0, 0x5c, 0, 0, 0, 0, 0, 0, 0]),
-        ends(),
-        has_numbers(98, 27),
-    ];
-    assert_plays(&rt, rt.alloc(), LEAST, &MEMORY64, &script);
+/// What a lister answers while a part of the first range fails: calls 0 to 3 read header, entry, count and stream.
+macro_rules! part_fails {
+    ($fail_at:expr, $at:expr) => {
+        Script {
+            shows: "a fault of the store in a part changes no item",
+            file: FileOf::Numbers(1, &OVERLAPPING),
+            caps: &[4096, 4096, 4096, 4096, 1, 2, 4096],
+            fail_at: Some($fail_at),
+            calls: &[
+                Call::Gives(stream!(0, 5, 36, 44)),
+                Call::Gives(range!(0, 0x1000, 4, Extent::Inside, 80)),
+                Call::PartFails(80, 4, SourceFault::Failed { at: $at }),
+                Call::HasNumbers(88, 4),
+                Call::HasRoom(1, 1),
+                Call::Gives(range!(1, 0x1002, 4, Extent::Inside, 84)),
+                Call::HasPart(80, b"ABCDwxyz"),
+                Call::Ends,
+                Call::HasRoom(2, 0),
+                Call::HasNumbers(88, 12),
+            ],
+            ..BY_LEAST
+        }
+    };
 }
 
-#[test]
-fn size_tells_what_lies_inside(rt: HostRuntime) {
-    let script = [
-        part_outside(98, 1),
-        part_outside(97, 2),
-        part_outside(u64::MAX, 1),
-        has_part(u64::MAX, []),
-        has_numbers(98, 0),
-    ];
-    assert_plays(&rt, rt.alloc(), LEAST, &MEMORY64, &script);
-}
+static PARTS: [Script<'static>; 5] = [
+    Script {
+        shows: "a part is read between items and counted aside",
+        file: FileOf::Bytes(&MEMORY64),
+        calls: &[
+            Call::HasNumbers(98, 0),
+            Call::HasPart(92, b"ABCDEF"),
+            Call::HasNumbers(98, 6),
+            Call::Gives(stream!(0, 9, 48, 44)),
+            Call::HasPart(0, b"MDMP"),
+            Call::Gives(range!(0, 0x1000, 4, Extent::Inside, 92)),
+            Call::HasPart(97, b"F"),
+            Call::HasPart(98, b""),
+            Call::Gives(range!(1, 0x2000, 4, Extent::Outside, 96)),
+            Call::Ends,
+            Call::HasPart(44, &[2, 0, 0, 0, 0, 0, 0, 0, 0x5c, 0, 0, 0, 0, 0, 0, 0]),
+            Call::Ends,
+            Call::HasNumbers(98, 27),
+        ],
+        ..BY_LEAST
+    },
+    Script {
+        shows: "the size tells what lies inside",
+        file: FileOf::Bytes(&MEMORY64),
+        calls: &[
+            Call::PartOutside(98, 1),
+            Call::PartOutside(97, 2),
+            Call::PartOutside(u64::MAX, 1),
+            Call::HasPart(u64::MAX, b""),
+            Call::HasNumbers(98, 0),
+        ],
+        ..BY_LEAST
+    },
+    part_fails!(4, 80),
+    part_fails!(5, 81),
+    part_fails!(6, 83),
+];
 
-/// Asserts what a lister of two ranges answers where a call of their store fails, while it reads the first.
-fn assert_part_fails(rt: &impl Abort, alloc: Global, fail_at: u64, at: u64) {
-    let script = [
-        gives(stream(0, 5, 36, 44)),
-        gives(range(0, 0x1000, 4, Extent::Inside, 80)),
-        part_fails(80, 4, SourceFault::Failed { at }),
-        has_numbers(88, 4),
-        has_room(1, 1),
-        gives(range(1, 0x1002, 4, Extent::Inside, 84)),
-        has_part(80, *b"ABCDwxyz"),
-        ends(),
-        has_room(2, 0),
-        has_numbers(88, 12),
-    ];
-    let file = file_of(rt, alloc, 1, &OVERLAPPING);
-    let caps = [4096, 4096, 4096, 4096, 1, 2, 4096];
-    assert_plays_patchy(rt, alloc, LEAST, &file, &caps, Some(fail_at), &script);
-}
-
 #[test]
-fn store_fault_of_a_part_changes_no_item(rt: HostRuntime) {
-    // Header, entry and count are read by calls 0 to 2, and the stream by call 3.
-    assert_part_fails(&rt, rt.alloc(), 4, 80);
-    assert_part_fails(&rt, rt.alloc(), 5, 81);
-    assert_part_fails(&rt, rt.alloc(), 6, 83);
+fn parts_are_read_between_items(rt: HostRuntime) {
+    assert_scripts(&rt, rt.alloc(), &PARTS);
 }

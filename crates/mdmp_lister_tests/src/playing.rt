@@ -1,9 +1,10 @@
-//! Plays a script over a lister, and asserts each answer.
-use crate::files::file_of;
+//! Plays a script over a lister or a walker, and asserts each answer.
+use crate::files::made;
 use crate::given::plain;
-use crate::opening::{chosen, opened, patchy};
-use crate::same::{assert_same, assert_same_at};
-use crate::script::{Answer, Call, ScriptStep};
+use crate::opening::{chosen, limits_of, opened, patchy};
+use crate::same::assert_same_at;
+use crate::script::{Answer, Call, Script, ScriptReader, ScriptStep, parts_of};
+use crate::walking;
 use mdmp_lister::{Choice, Item, Limits, ListFault, Lister, StopAt};
 use mdmp_source::{MemoryStore, Store, inside};
 use std::alloc::{Allocator, Global};
@@ -22,6 +23,7 @@ pub fn answer_by(
     }
 }
 
+/// Hands what is left to a sink.
 fn run<S: Store + Drop, A: Allocator + Copy>(
     lister: &mut Lister<S, A>,
     sink: &mut StopAt,
@@ -30,6 +32,7 @@ fn run<S: Store + Drop, A: Allocator + Copy>(
     Answer::Ran(fault, sink.calls())
 }
 
+/// Hands all verdicts to a sink, if nothing was given yet.
 fn check<S: Store + Drop, A: Allocator + Copy>(
     lister: &mut Lister<S, A>,
     sink: &mut StopAt,
@@ -41,38 +44,35 @@ fn check<S: Store + Drop, A: Allocator + Copy>(
     Answer::Ran(fault, sink.calls())
 }
 
-/// So many bytes that are no answer, with zeros behind them.
-fn unread(len: usize) -> [u8; 16] {
-    let mut bytes = [0; 16];
-    for i in 0..len.min(16) {
-        bytes[i] = 0xee;
+/// Which of these are true, a bit each, from the lowest on.
+pub fn bits_of(known: &[bool]) -> u16 {
+    let mut bits: u16 = 0;
+    for i in 0..known.len().min(16) {
+        if known[i] {
+            bits |= 1u16.wrapping_shl(i as u32);
+        }
     }
-    bytes
+    bits
 }
 
-/// The same of what is known of memory at an address.
-fn unknown(address: u64, len: usize) -> [bool; 16] {
-    let mut known = [false; 16];
-    for i in 0..len.min(16) {
-        known[i] = address % 2 == 0;
-    }
-    known
-}
-
+/// Reads memory into bytes that are no answer, of which none is known at an odd address, and all are at an even one.
 fn read<S: Store + Drop, A: Allocator + Copy>(
     lister: &mut Lister<S, A>,
     address: u64,
     len: usize,
 ) -> Answer {
     let len = len.min(16);
-    let mut out = unread(len);
-    let mut known = unknown(address, len);
+    let mut out = [0; 16];
+    let mut known = [false; 16];
+    out[..len].fill(0xee);
+    known[..len].fill(address % 2 == 0);
     match lister.read_address(address, &mut out[..len], &mut known[..len]) {
-        Ok(()) => Answer::Memory(out, known),
+        Ok(()) => Answer::Memory(out, bits_of(&known)),
         Err(fault) => Answer::Failed(fault),
     }
 }
 
+/// Reads a part of the file into bytes that are no answer, if it lies inside.
 fn read_part<S: Store + Drop, A: Allocator + Copy>(
     lister: &mut Lister<S, A>,
     at: u64,
@@ -82,7 +82,8 @@ fn read_part<S: Store + Drop, A: Allocator + Copy>(
     if !inside(at, len as u64, lister.size()) {
         return Answer::Outside;
     }
-    let mut out = unread(len);
+    let mut out = [0; 16];
+    out[..len].fill(0xee);
     match lister.read_part(at, &mut out[..len]) {
         Ok(()) => Answer::Bytes(out),
         Err(fault) => Answer::Failed(fault),
@@ -130,84 +131,60 @@ pub fn answer_of<S: Store + Drop, A: Allocator + Copy>(
     }
 }
 
-/// Asserts that a lister gives the answers of a script.
-fn assert_answers<S: Store + Drop>(
-    rt: &impl Abort,
-    alloc: Global,
-    lister: &mut Lister<S, Global>,
-    script: &[Call],
-) {
-    let mut sink = StopAt::new(u64::MAX);
-    for i in 0..script.len() {
-        let call = script[i];
-        let answer = answer_of(rt, alloc, lister, &mut sink, call.step);
-        assert_same_at(rt, &i, answer, call.answer);
-    }
-}
-
-/// Plays a script over a lister of a store, each of whose answers has to be that of the script: the size
-/// of the source that it hands back.
+/// Asserts that a lister of a store gives the answers of a script, and gives the size of the source that it hands
+/// back.
 pub fn play<S: Store + Drop>(
     rt: &impl Abort,
     alloc: Global,
+    shows: &str,
     store: S,
     limits: Limits,
     choice: Choice,
-    script: &[Call],
+    calls: &[Call],
 ) -> u64 {
     let mut lister = opened(rt, alloc, store, limits, choice);
-    assert_answers(rt, alloc, &mut lister, script);
+    let mut sink = StopAt::new(u64::MAX);
+    for i in 0..calls.len() {
+        let (step, answer) = parts_of(&calls[i]);
+        let found = answer_of(rt, alloc, &mut lister, &mut sink, step);
+        assert_same_at(rt, &(shows, i), found, answer);
+    }
     lister.into_source().size()
 }
 
-/// Asserts that a lister of each entry of a file gives the answers of a script.
-pub fn assert_plays(rt: &impl Abort, alloc: Global, limits: Limits, file: &[u8], script: &[Call]) {
-    let store = MemoryStore::new(file);
-    let size = play(rt, alloc, store, limits, Choice::All, script);
-    assert_same(rt, size, file.len() as u64);
-}
-
-/// The same of a file with so many entries and these numbers.
-pub fn assert_plays_numbers(
+/// Plays a script over a store: the size of the source that is handed back.
+fn play_over<S: Store + Drop>(
     rt: &impl Abort,
     alloc: Global,
-    limits: Limits,
-    entries: u32,
-    numbers: &[u32],
-    script: &[Call],
-) {
-    let file = file_of(rt, alloc, entries, numbers);
-    assert_plays(rt, alloc, limits, &file, script);
+    script: &Script<'_>,
+    store: S,
+) -> u64 {
+    let (window, name) = script.limits;
+    let limits = limits_of(rt, window, name);
+    let choice = chosen(rt, script.types);
+    match script.reader {
+        ScriptReader::Lister => play(rt, alloc, script.shows, store, limits, choice, script.calls),
+        ScriptReader::Walker => {
+            walking::play(rt, alloc, script.shows, store, limits, choice, script.calls)
+        }
+    }
 }
 
-/// The same of the entries of these types alone.
-pub fn assert_plays_chosen(
-    rt: &impl Abort,
-    alloc: Global,
-    limits: Limits,
-    entries: u32,
-    numbers: &[u32],
-    types: &[u32],
-    script: &[Call],
-) {
-    let file = file_of(rt, alloc, entries, numbers);
-    let store = MemoryStore::new(&file);
-    let size = play(rt, alloc, store, limits, chosen(rt, types), script);
-    assert_same(rt, size, file.len() as u64);
+/// Asserts that the reader of a script gives its answers, and hands a source of the file's size back.
+pub fn assert_script(rt: &impl Abort, alloc: Global, script: &Script<'_>) {
+    let file = made(rt, alloc, &script.file);
+    let size = if script.caps.is_empty() {
+        play_over(rt, alloc, script, MemoryStore::new(&file))
+    } else {
+        let store = patchy(rt, &file, script.caps, script.fail_at);
+        play_over(rt, alloc, script, store)
+    };
+    assert_same_at(rt, &script.shows, size, file.len() as u64);
 }
 
-/// The same of each entry of a file in a store that gives as many bytes a call as the caps say, in turn,
-/// and fails at this call, if at one.
-pub fn assert_plays_patchy(
-    rt: &impl Abort,
-    alloc: Global,
-    limits: Limits,
-    file: &[u8],
-    caps: &[usize],
-    fail_at: Option<u64>,
-    script: &[Call],
-) {
-    let store = patchy(rt, file, caps, fail_at);
-    let size = play(rt, alloc, store, limits, Choice::All, script);
-    assert_same(rt, size, file.len() as u64);
+/// Asserts that of each of these scripts.
+pub fn assert_scripts(rt: &impl Abort, alloc: Global, scripts: &[Script<'_>]) {
+    for script in scripts {
+        assert_script(rt, alloc, script);
+    }
 }

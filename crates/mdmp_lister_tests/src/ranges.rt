@@ -1,94 +1,163 @@
-//! Which ranges of memory are mapped as they are given.
-use crate::given::{GivenItem, range, stream};
-use crate::playing::{assert_plays, assert_plays_numbers};
-use crate::script::{LEAST, ends, finds, finds_nothing, gives, has_room, runs, runs_on, skips};
+//! Which ranges of memory are mapped as they are given, and how many records are left then.
+use crate::files::FileOf;
+use crate::given::{range, stream};
+use crate::playing::assert_scripts;
+use crate::script::{BY_LEAST, Call, Script};
 use mdmp_lister::RunFault;
 use mdmp_source::Extent;
 use mdmp_test_support::{MEMORY64, OVERLAPPING};
 
-/// The two ranges of `OVERLAPPING`.
-fn overlapping() -> [GivenItem; 2] {
-    [
-        range(0, 0x1000, 4, Extent::Inside, 80),
-        range(1, 0x1002, 4, Extent::Inside, 84),
-    ]
-}
+/// The Stream item of `OVERLAPPING`.
+const ENTRY: Call = Call::Gives(stream!(0, 5, 36, 44));
+
+/// Its first range.
+const FIRST: Call = Call::Gives(range!(0, 0x1000, 4, Extent::Inside, 80));
+
+/// Its second range.
+const SECOND: Call = Call::Gives(range!(1, 0x1002, 4, Extent::Inside, 84));
+
+static MAPPED: [Script<'static>; 7] = [
+    Script {
+        shows: "ranges are mapped as they are given",
+        file: FileOf::Numbers(1, &OVERLAPPING),
+        calls: &[
+            Call::HasRoom(0, 2),
+            ENTRY,
+            Call::HasRoom(0, 2),
+            FIRST,
+            Call::HasRoom(1, 1),
+            Call::FindsNothing(0x1004),
+            SECOND,
+            Call::Ends,
+            Call::HasRoom(2, 0),
+            Call::Finds(0x1000, 80, 4),
+            Call::Finds(0x1004, 86, 2),
+        ],
+        ..BY_LEAST
+    },
+    Script {
+        shows: "of a range inside, one outside, one cut, an empty one and an absent one the first is mapped",
+        file: FileOf::Numbers(
+            1,
+            &[
+                5, 84, 44, 5, 0x1000, 0, 4, 128, 0x2000, 0, 4, 400, 0x3000, 0, 8, 128, 0x4000, 0,
+                0, 128, 0x5000, 0, 4, 0, 0xaaaaaaaa,
+            ],
+        ),
+        calls: &[
+            Call::HasRoom(0, 5),
+            Call::Runs(u64::MAX, None, 6),
+            Call::HasRoom(1, 4),
+            Call::Finds(0x1001, 129, 3),
+            Call::FindsNothing(0x2000),
+            Call::FindsNothing(0x3000),
+            Call::FindsNothing(0x4000),
+            Call::FindsNothing(0x5000),
+        ],
+        ..BY_LEAST
+    },
+    Script {
+        shows: "a 64-bit range without bytes in the file is not mapped",
+        file: FileOf::Bytes(&MEMORY64),
+        calls: &[
+            Call::Runs(u64::MAX, None, 3),
+            Call::HasRoom(1, 1),
+            Call::Finds(0x1000, 92, 4),
+            Call::FindsNothing(0x2000),
+        ],
+        ..BY_LEAST
+    },
+    Script {
+        shows: "a run maps what it hands over",
+        file: FileOf::Numbers(1, &OVERLAPPING),
+        calls: &[
+            Call::Runs(1, Some(RunFault::Stopped), 2),
+            Call::HasRoom(1, 1),
+            Call::Finds(0x1002, 82, 2),
+            Call::RunsOn(None, 3),
+            Call::HasRoom(2, 0),
+        ],
+        ..BY_LEAST
+    },
+    Script {
+        shows: "no range is mapped of a list that is skipped",
+        file: FileOf::Numbers(1, &OVERLAPPING),
+        calls: &[ENTRY, Call::Skips, Call::Ends, Call::HasRoom(0, 2)],
+        ..BY_LEAST
+    },
+    Script {
+        shows: "one is mapped of a list that is skipped behind its first range",
+        file: FileOf::Numbers(1, &OVERLAPPING),
+        calls: &[ENTRY, FIRST, Call::Skips, Call::Ends, Call::HasRoom(1, 1)],
+        ..BY_LEAST
+    },
+    Script {
+        shows: "both are mapped of a list that is skipped behind them",
+        file: FileOf::Numbers(1, &OVERLAPPING),
+        calls: &[
+            ENTRY,
+            FIRST,
+            SECOND,
+            Call::Skips,
+            Call::Ends,
+            Call::HasRoom(2, 0),
+        ],
+        ..BY_LEAST
+    },
+];
 
 #[test]
 fn ranges_are_mapped_as_they_are_given(rt: HostRuntime) {
-    let [first, second] = overlapping();
-    let script = [
-        has_room(0, 2),
-        gives(stream(0, 5, 36, 44)),
-        has_room(0, 2),
-        gives(first),
-        has_room(1, 1),
-        finds_nothing(0x1004),
-        gives(second),
-        ends(),
-        has_room(2, 0),
-        finds(0x1000, 80, 4),
-        finds(0x1004, 86, 2),
-    ];
-    assert_plays_numbers(&rt, rt.alloc(), LEAST, 1, &OVERLAPPING, &script);
+    assert_scripts(&rt, rt.alloc(), &MAPPED);
 }
 
-#[test]
-fn ranges_without_bytes_in_the_file_are_not_mapped(rt: HostRuntime) {
-    // One inside, one outside, one that is cut, an empty one and an absent one.
-    let numbers = [
-        5, 84, 44, 5, 0x1000, 0, 4, 128, 0x2000, 0, 4, 400, 0x3000, 0, 8, 128, 0x4000, 0, 0, 128,
-        0x5000, 0, 4, 0, 0xaaaaaaaa,
-    ];
-    let script = [
-        has_room(0, 5),
-        runs(u64::MAX, None, 6),
-        has_room(1, 4),
-        finds(0x1001, 129, 3),
-        finds_nothing(0x2000),
-        finds_nothing(0x3000),
-        finds_nothing(0x4000),
-        finds_nothing(0x5000),
-    ];
-    assert_plays_numbers(&rt, rt.alloc(), LEAST, 1, &numbers, &script);
+/// An unused entry, and a memory list of three ranges of four bytes.
+const THREE: FileOf = FileOf::Numbers(
+    2,
+    &[
+        0, 0, 0, 5, 52, 56, // the directory
+        3, 0x1000, 0, 4, 4, 0x2000, 0, 4, 8, 0x3000, 0, 4, 12,
+    ],
+);
 
-    let script = [
-        runs(u64::MAX, None, 3),
-        has_room(1, 1),
-        finds(0x1000, 92, 4),
-        finds_nothing(0x2000),
-    ];
-    assert_plays(&rt, rt.alloc(), LEAST, &MEMORY64, &script);
-}
+static LEFT: [Script<'static>; 2] = [
+    Script {
+        shows: "records left are told once the first was given",
+        file: THREE,
+        calls: &[
+            Call::HasRecordsLeft(0),
+            Call::Gives(stream!(0, 0, 0, 0)),
+            Call::HasRecordsLeft(0),
+            Call::Gives(stream!(1, 5, 52, 56)),
+            Call::HasRecordsLeft(0),
+            Call::Gives(range!(1, 0, 0x1000, 4, Extent::Inside, 4)),
+            Call::HasRecordsLeft(2),
+            Call::Gives(range!(1, 1, 0x2000, 4, Extent::Inside, 8)),
+            Call::HasRecordsLeft(1),
+            Call::Gives(range!(1, 2, 0x3000, 4, Extent::Inside, 12)),
+            Call::HasRecordsLeft(0),
+            Call::Ends,
+            Call::HasRecordsLeft(0),
+        ],
+        ..BY_LEAST
+    },
+    Script {
+        shows: "no record is left of an entry that is skipped",
+        file: THREE,
+        calls: &[
+            Call::Gives(stream!(0, 0, 0, 0)),
+            Call::Gives(stream!(1, 5, 52, 56)),
+            Call::Gives(range!(1, 0, 0x1000, 4, Extent::Inside, 4)),
+            Call::HasRecordsLeft(2),
+            Call::Skips,
+            Call::HasRecordsLeft(0),
+            Call::Ends,
+        ],
+        ..BY_LEAST
+    },
+];
 
 #[test]
-fn list_into_maps_what_it_hands_over(rt: HostRuntime) {
-    let script = [
-        runs(1, Some(RunFault::Stopped), 2),
-        has_room(1, 1),
-        finds(0x1002, 82, 2),
-        runs_on(None, 3),
-        has_room(2, 0),
-    ];
-    assert_plays_numbers(&rt, rt.alloc(), LEAST, 1, &OVERLAPPING, &script);
-}
-
-#[test]
-fn ranges_that_were_skipped_are_not_mapped(rt: HostRuntime) {
-    let entry = stream(0, 5, 36, 44);
-    let [first, second] = overlapping();
-    // After the Stream item none is left, after the first range one is mapped.
-    let none = [gives(entry), skips(), ends(), has_room(0, 2)];
-    assert_plays_numbers(&rt, rt.alloc(), LEAST, 1, &OVERLAPPING, &none);
-    let one = [gives(entry), gives(first), skips(), ends(), has_room(1, 1)];
-    assert_plays_numbers(&rt, rt.alloc(), LEAST, 1, &OVERLAPPING, &one);
-    let both = [
-        gives(entry),
-        gives(first),
-        gives(second),
-        skips(),
-        ends(),
-        has_room(2, 0),
-    ];
-    assert_plays_numbers(&rt, rt.alloc(), LEAST, 1, &OVERLAPPING, &both);
+fn records_left_are_told_behind_the_first(rt: HostRuntime) {
+    assert_scripts(&rt, rt.alloc(), &LEFT);
 }

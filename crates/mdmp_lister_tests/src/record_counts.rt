@@ -35,14 +35,6 @@ fn read<S: Store + Drop>(walker: &mut Walker<S, Global>) -> Result<u64, ListFaul
     Ok(4)
 }
 
-/// Gives the item of a stream.
-fn begin<S: Store + Drop>(rt: &impl Abort, walker: &mut Walker<S, Global>) {
-    match step_of(walker) {
-        Ok(Some(Step::Stream(_))) => {}
-        _ => panic!(rt; "no stream comes"),
-    }
-}
-
 /// What is told of the records of a stream before they are read, twice, and what comes of reading them.
 fn told_of(
     rt: &impl Abort,
@@ -51,7 +43,7 @@ fn told_of(
 ) -> [Option<Result<u64, ListFault>>; 3] {
     let file = stream_file(rt, alloc, given);
     let mut walker = open_over(rt, alloc, MemoryStore::new(&file), LEAST, Choice::All);
-    begin(rt, &mut walker);
+    assert!(rt; matches!(step_of(&mut walker), Ok(Some(Step::Stream(_)))));
     let first = records_of(&mut walker);
     let again = records_of(&mut walker);
     let read = read(&mut walker);
@@ -59,64 +51,71 @@ fn told_of(
     [first, again, Some(read)]
 }
 
-#[test]
-fn records_of_each_kind_are_counted(rt: HostRuntime) {
-    let most = u32::MAX;
-    for (stream_type, size, head, count) in [
-        (0, 7, [9, 9, 9, 9], 0),
-        (10, 20, [9, 9, 9, 9], 0),
-        (3, 100, [2, 0, 0, 0], 2),
-        (3, 104, [2, 0, 0, 0], 2),
-        (3, 4, [0, 0, 0, 0], 0),
-        (4, 328, [3, 0, 0, 0], 3),
-        (4, 332, [3, 0, 0, 0], 3),
-        (5, 36, [2, 0, 0, 0], 2),
-        (6, 168, [most, most, most, most], 1),
-        (7, 56, [most, most, most, most], 1),
-        (9, 48, [2, 0, 92, 0], 2),
-        (14, 2012, [12, 1000, 2, 0], 2),
-        (16, 112, [16, 48, 2, 0], 2),
-        (16, 16, [16, 0, 0, 0], 0),
-    ] {
-        let given = (stream_type, size, head, 0);
-        let told = told_of(&rt, rt.alloc(), given);
-        assert_same_at(&rt, &stream_type, told, [Some(Ok(count)); 3]);
-    }
+/// A stream of which no byte is cut, and how many records it has.
+macro_rules! counted {
+    ($stream_type:expr, $size:expr, $head:expr, $count:expr) => {
+        (($stream_type, $size, $head, 0), Ok($count))
+    };
 }
 
+/// A stream whose last bytes are cut, so many, and the fault of its shape.
+macro_rules! bad {
+    ($stream_type:expr, $size:expr, $head:expr, $cut:expr, $kind:expr, $at:expr, $told:expr) => {
+        (
+            ($stream_type, $size, $head, $cut),
+            Err(fault!(None, $kind, $at, $told)),
+        )
+    };
+}
+
+static STREAMS: [(GivenStream, Result<u64, ListFault>); 24] = [
+    counted!(0, 7, [9, 9, 9, 9], 0),
+    counted!(10, 20, [9, 9, 9, 9], 0),
+    counted!(3, 100, [2, 0, 0, 0], 2),
+    counted!(3, 104, [2, 0, 0, 0], 2),
+    counted!(3, 4, [0, 0, 0, 0], 0),
+    counted!(4, 328, [3, 0, 0, 0], 3),
+    counted!(4, 332, [3, 0, 0, 0], 3),
+    counted!(5, 36, [2, 0, 0, 0], 2),
+    counted!(6, 168, [u32::MAX; 4], 1),
+    counted!(7, 56, [u32::MAX; 4], 1),
+    counted!(9, 48, [2, 0, 92, 0], 2),
+    counted!(14, 2012, [12, 1000, 2, 0], 2),
+    counted!(16, 112, [16, 48, 2, 0], 2),
+    counted!(16, 16, [16, 0, 0, 0], 0),
+    // A fault of a shape is told in the place of a count.
+    bad!(3, 52, [1, 7, 0, 0], 1, FaultKind::StreamOutside, 44, 52),
+    bad!(10, 20, [0, 0, 0, 0], 20, FaultKind::StreamOutside, 44, 20),
+    bad!(3, 3, [1, 0, 0, 0], 0, FaultKind::ShortStream, 44, 3),
+    bad!(6, 167, [0, 0, 0, 0], 0, FaultKind::ShortStream, 44, 167),
+    bad!(14, 36, [11, 24, 1, 0], 0, FaultKind::BadHeaderSize, 44, 11),
+    bad!(16, 64, [65, 48, 1, 0], 0, FaultKind::BadHeaderSize, 44, 65),
+    bad!(14, 36, [12, 23, 1, 0], 0, FaultKind::BadEntrySize, 48, 23),
+    bad!(3, 51, [1, 7, 0, 0], 0, FaultKind::BadCount, 44, 1),
+    bad!(
+        9,
+        16,
+        [u32::MAX, u32::MAX, 0, 0],
+        0,
+        FaultKind::BadCount,
+        44,
+        u64::MAX
+    ),
+    bad!(
+        16,
+        16,
+        [16, 48, u32::MAX, u32::MAX],
+        0,
+        FaultKind::BadCount,
+        52,
+        u64::MAX
+    ),
+];
+
 #[test]
-fn fault_of_a_shape_is_told_in_the_place_of_a_count(rt: HostRuntime) {
-    let most = u32::MAX;
-    let all = u64::MAX;
-    for (given, kind, at, told) in [
-        ((3, 52, [1, 7, 0, 0], 1), FaultKind::StreamOutside, 44, 52),
-        ((10, 20, [0, 0, 0, 0], 20), FaultKind::StreamOutside, 44, 20),
-        ((3, 3, [1, 0, 0, 0], 0), FaultKind::ShortStream, 44, 3),
-        ((6, 167, [0, 0, 0, 0], 0), FaultKind::ShortStream, 44, 167),
-        (
-            (14, 36, [11, 24, 1, 0], 0),
-            FaultKind::BadHeaderSize,
-            44,
-            11,
-        ),
-        (
-            (16, 64, [65, 48, 1, 0], 0),
-            FaultKind::BadHeaderSize,
-            44,
-            65,
-        ),
-        ((14, 36, [12, 23, 1, 0], 0), FaultKind::BadEntrySize, 48, 23),
-        ((3, 51, [1, 7, 0, 0], 0), FaultKind::BadCount, 44, 1),
-        ((9, 16, [most, most, 0, 0], 0), FaultKind::BadCount, 44, all),
-        (
-            (16, 16, [16, 48, most, most], 0),
-            FaultKind::BadCount,
-            52,
-            all,
-        ),
-    ] {
-        let fault = fault(None, kind, at, told);
-        let found = told_of(&rt, rt.alloc(), given);
-        assert_same_at(&rt, &told, found, [Some(Err(fault)); 3]);
+fn records_of_each_kind_or_the_fault_of_their_shape_are_told_before_they_come(rt: HostRuntime) {
+    for (given, expected) in &STREAMS {
+        let told = told_of(&rt, rt.alloc(), *given);
+        assert_same_at(&rt, given, told, [Some(*expected); 3]);
     }
 }

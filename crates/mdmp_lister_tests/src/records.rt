@@ -1,183 +1,249 @@
 //! The items of whole files, of each kind of record.
-use crate::files::padded;
-use crate::given::{
-    GivenItem, Named, What, module, nameless, range, spelled, stream, thread, thread_name,
-};
+use crate::files::FileOf;
+use crate::given::{ABCD, Named, What, module, named_item, nameless, range, stream, thread};
 use crate::opening::fault;
-use crate::playing::{assert_plays, assert_plays_numbers};
+use crate::playing::assert_scripts;
 use crate::script::{
-    LEAST, SHORT_NAMES, ends, fails, gives, items_apart, items_of_memory64, items_of_thrice,
+    APART_1000, BY_LEAST, BY_SHORT, BY_WALKER, Call, ITEMS_APART, ITEMS_OF_MEMORY64,
+    ITEMS_OF_THRICE, Script,
 };
 use mdmp_lister::FaultKind;
 use mdmp_source::Extent;
 use mdmp_test_support::{MEMORY64, THREAD_NAME, THRICE};
 use mdmp_wire::MemoryInfoRecord;
-use std::alloc::Global;
-use std::process::Abort;
+
+static LISTS: [Script<'static>; 5] = [
+    Script {
+        shows: "a list that three entries name is listed thrice",
+        file: FileOf::Numbers(3, &THRICE),
+        calls: &ITEMS_OF_THRICE,
+        ..BY_LEAST
+    },
+    Script {
+        shows: "a walker gives what a lister gives",
+        file: FileOf::Numbers(3, &THRICE),
+        calls: &ITEMS_OF_THRICE,
+        ..BY_WALKER
+    },
+    Script {
+        shows: "modules of 108 bytes stand one behind the other",
+        file: FileOf::Padded(1, 85, &[4, 328, 44, 3, 1], &[(31, 2), (58, 3)]),
+        calls: &[
+            Call::Gives(stream!(0, 4, 328, 44)),
+            Call::Gives(module!(0, 1)),
+            Call::Gives(module!(1, 2)),
+            Call::Gives(module!(2, 3)),
+            Call::Ends,
+        ],
+        ..BY_LEAST
+    },
+    Script {
+        shows: "records stand as far apart as their list says",
+        file: APART_1000,
+        calls: &ITEMS_APART,
+        ..BY_LEAST
+    },
+    Script {
+        shows: "an exception is listed, and a thread behind it",
+        // Its context is four bytes at 56.
+        file: FileOf::Padded(
+            2,
+            61,
+            &[6, 168, 56, 3, 52, 224, 7, 0, 3221225477],
+            &[(46, 4), (47, 56), (48, 1), (49, 7)],
+        ),
+        calls: &[
+            Call::Gives(stream!(0, 6, 168, 56)),
+            Call::Gives(nameless!(
+                0,
+                0,
+                What::Exception {
+                    thread: 7,
+                    code: 3221225477,
+                    context: Extent::Inside,
+                }
+            )),
+            Call::Gives(stream!(1, 3, 52, 224)),
+            Call::Gives(thread!(1, 7)),
+            Call::Ends,
+        ],
+        ..BY_LEAST
+    },
+];
 
 #[test]
-fn list_that_three_entries_name_is_listed_thrice(rt: HostRuntime) {
-    assert_plays_numbers(&rt, rt.alloc(), LEAST, 3, &THRICE, &items_of_thrice());
+fn records_are_listed_where_they_stand(rt: HostRuntime) {
+    assert_scripts(&rt, rt.alloc(), &LISTS);
 }
 
-#[test]
-fn modules_stand_one_behind_the_other(rt: HostRuntime) {
-    // Three modules of 108 bytes, without names.
-    let numbers = padded::<85>(&[4, 328, 44, 3, 1], &[(31, 2), (58, 3)]);
-    let script = [
-        gives(stream(0, 4, 328, 44)),
-        gives(module(0, 1)),
-        gives(module(1, 2)),
-        gives(module(2, 3)),
-        ends(),
-    ];
-    assert_plays_numbers(&rt, rt.alloc(), LEAST, 1, &numbers, &script);
-}
+static RANGES: [Script<'static>; 6] = [
+    Script {
+        shows: "ranges of a list stand one behind the other",
+        file: FileOf::Bytes(&MEMORY64),
+        calls: &ITEMS_OF_MEMORY64,
+        ..BY_LEAST
+    },
+    Script {
+        shows: "offsets of ranges may pass any file",
+        file: FileOf::Numbers(
+            1,
+            &[
+                9,
+                64,
+                44,
+                3,
+                0,
+                108,
+                0, // three ranges, whose bytes begin at 108
+                4096,
+                0,
+                u32::MAX,
+                u32::MAX,
+                8192,
+                0,
+                u32::MAX,
+                u32::MAX,
+                12288,
+                0,
+                1,
+                0,
+            ],
+        ),
+        calls: &[
+            Call::Gives(stream!(0, 9, 64, 44)),
+            Call::Gives(range!(0, 4096, u64::MAX, Extent::Outside, 108)),
+            Call::Gives(range!(1, 8192, u64::MAX, Extent::Outside, 18446744073709551723)),
+            Call::Gives(range!(2, 12288, 1, Extent::Outside, 36893488147419103338)),
+            Call::Ends,
+        ],
+        ..BY_LEAST
+    },
+    Script {
+        shows: "of two ranges at the end of a file of 80 bytes the second passes it",
+        file: FileOf::Numbers(1, &[5, 36, 44, 2, 4096, 0, 4, 76, 8192, 0, 4, 77]),
+        calls: &[
+            Call::Gives(stream!(0, 5, 36, 44)),
+            Call::Gives(range!(0, 4096, 4, Extent::Inside, 76)),
+            Call::Gives(range!(1, 8192, 4, Extent::Outside, 77)),
+            Call::Ends,
+        ],
+        ..BY_LEAST
+    },
+    Script {
+        shows: "a region is listed with its numbers",
+        file: FileOf::Numbers(
+            1,
+            &[
+                16, 64, 44, 16, 48, 1, 0, // one region
+                4096, 0, 4096, 0, 4, 0, 8192, 0, 4096, 4, 131072, 0,
+            ],
+        ),
+        calls: &[
+            Call::Gives(stream!(0, 16, 64, 44)),
+            Call::Gives(nameless!(
+                0,
+                0,
+                What::MemoryInfo(MemoryInfoRecord {
+                    base_address: 4096,
+                    allocation_base: 4096,
+                    allocation_protect: 4,
+                    region_size: 8192,
+                    state: 4096,
+                    protect: 4,
+                    memory_type: 131072,
+                })
+            )),
+            Call::Ends,
+        ],
+        ..BY_LEAST
+    },
+    Script {
+        shows: "an unused entry is listed as it stands",
+        file: FileOf::Numbers(1, &[0, 7, 4294967295]),
+        calls: &[Call::Gives(stream!(0, 0, 7, 4294967295)), Call::Ends],
+        ..BY_LEAST
+    },
+    Script {
+        shows: "so is an entry behind it, of a type that has no records",
+        file: FileOf::Numbers(2, &[0, 7, 4294967295, 10, 4, 32]),
+        calls: &[
+            Call::Gives(stream!(0, 0, 7, 4294967295)),
+            Call::Gives(stream!(1, 10, 4, 32)),
+            Call::Ends,
+        ],
+        ..BY_LEAST
+    },
+];
 
 #[test]
-fn records_stand_as_far_apart_as_their_list_says(rt: HostRuntime) {
-    // The second record stands 1000 bytes behind the first.
-    let numbers = padded::<506>(&[14, 2012, 44, 12, 1000, 2, 1], &[(256, 2)]);
-    let script = items_apart();
-    assert_plays_numbers(&rt, rt.alloc(), LEAST, 1, &numbers, &script);
+fn ranges_regions_and_unused_entries_are_listed_with_their_numbers(rt: HostRuntime) {
+    assert_scripts(&rt, rt.alloc(), &RANGES);
 }
 
-#[test]
-fn ranges_of_a_list_stand_one_behind_the_other(rt: HostRuntime) {
-    let script = items_of_memory64();
-    assert_plays(&rt, rt.alloc(), LEAST, &MEMORY64, &script);
-}
-
-#[test]
-fn offsets_of_ranges_may_pass_any_file(rt: HostRuntime) {
-    let most = u32::MAX;
-    let numbers = [
-        9, 64, 44, 3, 0, 108, 0, // three ranges, whose bytes begin at 108
-        4096, 0, most, most, 8192, 0, most, most, 12288, 0, 1, 0,
-    ];
-    let script = [
-        gives(stream(0, 9, 64, 44)),
-        gives(range(0, 4096, u64::MAX, Extent::Outside, 108)),
-        gives(range(1, 8192, u64::MAX, Extent::Outside, 18446744073709551723)),
-        gives(range(2, 12288, 1, Extent::Outside, 36893488147419103338)),
-        ends(),
-    ];
-    assert_plays_numbers(&rt, rt.alloc(), LEAST, 1, &numbers, &script);
-}
-
-#[test]
-fn range_of_a_memory_list_is_inside_or_outside(rt: HostRuntime) {
-    // Two ranges at the end of a file of 80 bytes, the second of which passes it.
-    let numbers = [5, 36, 44, 2, 4096, 0, 4, 76, 8192, 0, 4, 77];
-    let script = [
-        gives(stream(0, 5, 36, 44)),
-        gives(range(0, 4096, 4, Extent::Inside, 76)),
-        gives(range(1, 8192, 4, Extent::Outside, 77)),
-        ends(),
-    ];
-    assert_plays_numbers(&rt, rt.alloc(), LEAST, 1, &numbers, &script);
-}
-
-#[test]
-fn region_is_listed_with_its_numbers(rt: HostRuntime) {
-    let numbers = [
-        16, 64, 44, 16, 48, 1, 0, // one region
-        4096, 0, 4096, 0, 4, 0, 8192, 0, 4096, 4, 131072, 0,
-    ];
-    let region = MemoryInfoRecord {
-        base_address: 4096,
-        allocation_base: 4096,
-        allocation_protect: 4,
-        region_size: 8192,
-        state: 4096,
-        protect: 4,
-        memory_type: 131072,
+/// What is given behind the Stream item of names of threads in so many bytes, if at most eight bytes of a name are
+/// read.
+macro_rules! thread_names {
+    ($shows:expr, $size:expr, $file:expr, $($call:expr),+) => {
+        Script {
+            shows: $shows,
+            file: $file,
+            calls: &[Call::Gives(stream!(0, 24, $size, 44)), $($call),+],
+            ..BY_SHORT
+        }
     };
-    let script = [
-        gives(stream(0, 16, 64, 44)),
-        gives(nameless(0, 0, What::MemoryInfo(region))),
-        ends(),
-    ];
-    assert_plays_numbers(&rt, rt.alloc(), LEAST, 1, &numbers, &script);
 }
 
-/// Asserts what is given behind the Stream item of names of threads in so many bytes. At most eight bytes of a
-/// name are read.
-fn assert_thread_names(
-    rt: &impl Abort,
-    alloc: Global,
-    size: u32,
-    numbers: &[u32],
-    item: GivenItem,
-) {
-    let script = [gives(stream(0, 24, size, 44)), gives(item), ends()];
-    assert_plays_numbers(rt, alloc, SHORT_NAMES, 1, numbers, &script);
+/// The first name of a thread.
+macro_rules! thread_name {
+    ($name:expr) => {
+        Call::Gives(named_item!(0, 0, What::ThreadName { id: 7 }, $name))
+    };
 }
 
-/// Asserts that the name of a thread is not there whose RVA of 64 bits has these halves.
-fn assert_name_outside(rt: &impl Abort, alloc: Global, low: u32, high: u32, offset: u64) {
-    let numbers = padded::<10>(&THREAD_NAME, &[(5, low), (6, high)]);
-    let outside = fault(Some(0), FaultKind::NameLengthOutside, offset, 4);
-    let script = [gives(stream(0, 24, 16, 44)), fails(outside)];
-    assert_plays_numbers(rt, alloc, SHORT_NAMES, 1, &numbers, &script);
+/// The fault of a name whose length is not at this place.
+macro_rules! name_outside {
+    ($offset:expr) => {
+        Call::Fails(fault!(Some(0), FaultKind::NameLengthOutside, $offset, 4))
+    };
 }
+
+static THREAD_NAMES: [Script<'static>; 5] = [
+    thread_names!(
+        "a name behind the count",
+        16,
+        FileOf::Numbers(1, &THREAD_NAME),
+        thread_name!(ABCD),
+        Call::Ends
+    ),
+    thread_names!(
+        "a name behind the count and four bytes more",
+        20,
+        FileOf::Numbers(1, &[24, 20, 44, 1, 9, 7, 64, 0, 8, 0x00620061, 0x00640063]),
+        thread_name!(ABCD),
+        Call::Ends
+    ),
+    thread_names!(
+        "an RVA of 64 bits that is 0",
+        16,
+        FileOf::Padded(1, 10, &THREAD_NAME, &[(5, 0)]),
+        thread_name!(Named::None),
+        Call::Ends
+    ),
+    thread_names!(
+        "an RVA past the file, whose sum with 4 is 2^64",
+        16,
+        FileOf::Padded(1, 10, &THREAD_NAME, &[(5, 0xffff_fffc), (6, 0xffff_ffff)]),
+        name_outside!(18446744073709551612)
+    ),
+    thread_names!(
+        "an RVA past the file by its upper half",
+        16,
+        FileOf::Padded(1, 10, &THREAD_NAME, &[(5, 60), (6, 1)]),
+        name_outside!(4294967356)
+    ),
+];
 
 #[test]
 fn name_of_a_thread_is_listed_or_its_fault_is(rt: HostRuntime) {
-    // Behind its count, and behind the count and four bytes more.
-    let abcd = thread_name(7, spelled("abcd"));
-    assert_thread_names(&rt, rt.alloc(), 16, &THREAD_NAME, abcd);
-    let padding = [24, 20, 44, 1, 9, 7, 64, 0, 8, 0x00620061, 0x00640063];
-    assert_thread_names(&rt, rt.alloc(), 20, &padding, abcd);
-
-    // An RVA of 64 bits: 0, and one past the file, whose sum with 4 is 2^64.
-    let zero = padded::<10>(&THREAD_NAME, &[(5, 0)]);
-    let unnamed = thread_name(7, Named::None);
-    assert_thread_names(&rt, rt.alloc(), 16, &zero, unnamed);
-    let last = 18446744073709551612;
-    assert_name_outside(&rt, rt.alloc(), 0xffff_fffc, 0xffff_ffff, last);
-    assert_name_outside(&rt, rt.alloc(), 60, 1, 4294967356);
-}
-
-#[test]
-fn exception_is_listed_and_a_thread_behind_it(rt: HostRuntime) {
-    // Its context is four bytes at 56.
-    let numbers = padded::<61>(
-        &[6, 168, 56, 3, 52, 224, 7, 0, 3221225477],
-        &[(46, 4), (47, 56), (48, 1), (49, 7)],
-    );
-    let exception = What::Exception {
-        thread: 7,
-        code: 3221225477,
-        context: Extent::Inside,
-    };
-    let script = [
-        gives(stream(0, 6, 168, 56)),
-        gives(nameless(0, 0, exception)),
-        gives(stream(1, 3, 52, 224)),
-        gives(thread(1, 7)),
-        ends(),
-    ];
-    assert_plays_numbers(&rt, rt.alloc(), LEAST, 2, &numbers, &script);
-}
-
-#[test]
-fn unused_entry_is_listed_as_it_stands(rt: HostRuntime) {
-    let script = [gives(stream(0, 0, 7, 4294967295)), ends()];
-    assert_plays_numbers(&rt, rt.alloc(), LEAST, 1, &[0, 7, 4294967295], &script);
-
-    // And one of a type that has no records, behind it.
-    let script = [
-        gives(stream(0, 0, 7, 4294967295)),
-        gives(stream(1, 10, 4, 32)),
-        ends(),
-    ];
-    assert_plays_numbers(
-        &rt,
-        rt.alloc(),
-        LEAST,
-        2,
-        &[0, 7, 4294967295, 10, 4, 32],
-        &script,
-    );
+    assert_scripts(&rt, rt.alloc(), &THREAD_NAMES);
 }

@@ -1,8 +1,7 @@
 //! Openings that are refused one of their growths.
-use crate::files::file_of;
-use crate::opening::{ListOutcome, all, run_over};
+use crate::files::{FileOf, made};
+use crate::opening::{ListOutcome, all, limits_of, run_over};
 use crate::same::assert_same_at;
-use crate::script::{LEAST, NAMED};
 use crate::walking::step_of;
 use mdmp_lister::{Choice, Limits, OpenFault, OpenRefused, RunFault, Walker};
 use mdmp_source::{MemoryStore, Source, Store};
@@ -108,81 +107,77 @@ pub fn opened_in<S: Store + Drop>(
     }
 }
 
-/// What comes of a file that is opened in a heap which refuses this growth alone.
-fn opened_without(
-    alloc: Global,
-    growth: u64,
-    file: &[u8],
-    limits: Limits,
+/// A file, who opens it with names of so many bytes, by how many growths, and what comes of it.
+struct RefusalRow {
     opener: Opener,
-) -> MeteredOpening {
-    let store = MemoryStore::new(file);
-    opened_in(alloc, Refusal::Only(growth), store, limits, opener)
+    file: FileOf,
+    name: u32,
+    growths: u64,
+    outcome: ListOutcome,
 }
 
-/// Asserts what came of a file that was opened in a heap: its outcome by so many growths, that all which was
-/// taken is given back, and what the source that is handed back gives with ample memory.
+/// Such a row.
+macro_rules! opened_by {
+    ($opener:ident, $file:expr, $name:expr, $growths:expr, $items:expr, $mapped:expr) => {
+        RefusalRow {
+            opener: Opener::$opener,
+            file: $file,
+            name: $name,
+            growths: $growths,
+            outcome: ListOutcome::Listed {
+                fault: None,
+                items: $items,
+                mapped: $mapped,
+            },
+        }
+    };
+}
+
+static ROWS: [RefusalRow; 9] = [
+    // A directory, a window, a name, and a map where memory is listed.
+    opened_by!(Lister, FileOf::Bytes(&SYSTEM), 4096, 3, 2, 0),
+    opened_by!(Lister, FileOf::Bytes(&SYSTEM), 0, 2, 2, 0),
+    opened_by!(Lister, FileOf::Bytes(&MEMORY64), 4096, 4, 3, 1),
+    opened_by!(Lister, FileOf::Bytes(&MEMORY64), 0, 3, 3, 1),
+    opened_by!(Lister, FileOf::Numbers(3, &THRICE), 4096, 3, 6, 0),
+    opened_by!(Lister, FileOf::Numbers(1, &OVERLAPPING), 4096, 4, 3, 2),
+    // A directory, a window and a name: a walker has no map.
+    opened_by!(Walker, FileOf::Bytes(&SYSTEM), 4096, 3, 2, 0),
+    opened_by!(Walker, FileOf::Bytes(&SYSTEM), 0, 2, 2, 0),
+    opened_by!(Walker, FileOf::Bytes(&MEMORY64), 4096, 3, 3, 0),
+];
+
+/// Asserts what comes of a file in a heap that refuses this growth, by how many growths, and of its source with
+/// ample memory.
 fn assert_opened_without(
     rt: &impl Abort,
-    found: MeteredOpening,
+    alloc: Global,
+    row: &RefusalRow,
+    growth: u64,
     outcome: ListOutcome,
-    again: ListOutcome,
     growths: u64,
 ) {
-    assert_same_at(rt, &growths, found.outcome, outcome);
-    assert_same_at(rt, &growths, found.again, again);
-    assert_same_at(rt, &growths, (found.growths, found.out), (growths, 0));
+    let file = made(rt, alloc, &row.file);
+    let limits = limits_of(rt, 168, row.name);
+    let store = MemoryStore::new(&file);
+    let found = opened_in(alloc, Refusal::Only(growth), store, limits, row.opener);
+    let told = (found.outcome, found.again, found.growths, found.out);
+    assert_same_at(
+        rt,
+        &(row.outcome, growths),
+        told,
+        (outcome, row.outcome, growths, 0),
+    );
 }
 
-/// Asserts that each of so many growths may be refused, which ends the opening, and that there are no more.
-fn assert_refusable(
-    rt: &impl Abort,
-    alloc: Global,
-    opener: Opener,
-    file: &[u8],
-    limits: Limits,
-    growths: u64,
-    outcome: ListOutcome,
-) {
+#[test]
+fn each_growth_of_a_lister_and_of_a_walker_may_be_refused(rt: HostRuntime) {
     let refused = ListOutcome::Refused(OpenFault::Memory);
-    for growth in 0..growths {
-        let found = opened_without(alloc, growth, file, limits, opener);
-        assert_opened_without(rt, found, refused, outcome, growth.saturating_add(1));
+    for row in &ROWS {
+        for growth in 0..row.growths {
+            let asked = growth.saturating_add(1);
+            assert_opened_without(&rt, rt.alloc(), row, growth, refused, asked);
+        }
+        assert_opened_without(&rt, rt.alloc(), row, row.growths, row.outcome, row.growths);
     }
-    let found = opened_without(alloc, growths, file, limits, opener);
-    assert_opened_without(rt, found, outcome, outcome, growths);
-}
-
-/// The same of a lister of a file with so many entries and these numbers.
-fn assert_lister_of_numbers(
-    rt: &impl Abort,
-    alloc: Global,
-    entries: u32,
-    numbers: &[u32],
-    growths: u64,
-    outcome: ListOutcome,
-) {
-    let file = file_of(rt, alloc, entries, numbers);
-    assert_refusable(rt, alloc, Opener::Lister, &file, NAMED, growths, outcome);
-}
-
-#[test]
-fn each_growth_of_a_lister_may_be_refused(rt: HostRuntime) {
-    // A directory, a window, a name, and a map where memory is listed.
-    let by = Opener::Lister;
-    assert_refusable(&rt, rt.alloc(), by, &SYSTEM, NAMED, 3, all(2, 0));
-    assert_refusable(&rt, rt.alloc(), by, &SYSTEM, LEAST, 2, all(2, 0));
-    assert_refusable(&rt, rt.alloc(), by, &MEMORY64, NAMED, 4, all(3, 1));
-    assert_refusable(&rt, rt.alloc(), by, &MEMORY64, LEAST, 3, all(3, 1));
-    assert_lister_of_numbers(&rt, rt.alloc(), 3, &THRICE, 3, all(6, 0));
-    assert_lister_of_numbers(&rt, rt.alloc(), 1, &OVERLAPPING, 4, all(3, 2));
-}
-
-#[test]
-fn each_growth_of_a_walker_may_be_refused(rt: HostRuntime) {
-    // A directory, a window and a name: it has no map.
-    let by = Opener::Walker;
-    assert_refusable(&rt, rt.alloc(), by, &SYSTEM, NAMED, 3, all(2, 0));
-    assert_refusable(&rt, rt.alloc(), by, &SYSTEM, LEAST, 2, all(2, 0));
-    assert_refusable(&rt, rt.alloc(), by, &MEMORY64, NAMED, 3, all(3, 0));
 }

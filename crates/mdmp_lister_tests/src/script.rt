@@ -1,5 +1,6 @@
 //! The calls of one lister, or of one walker, in a row, and what each is to answer.
-use crate::given::{GivenItem, Named, range, stream, thread, unloaded};
+use crate::files::FileOf;
+use crate::given::{GivenItem, Named, range, sixteen, stream, thread, unloaded};
 use mdmp_lister::{Limits, ListFault, RunFault};
 use mdmp_map::Place;
 use mdmp_source::{Extent, SourceFault};
@@ -13,9 +14,6 @@ pub const NAMED: Limits = limits!(168, 4096);
 
 /// The window and the room for a name that a caller has who says nothing.
 pub const STANDARD: Limits = limits!(65536, 4096);
-
-/// The least window, and names of at most eight bytes.
-pub const SHORT_NAMES: Limits = limits!(168, 8);
 
 /// A window of 176 bytes and names of 16, both multiples of 16 as a heap's blocks are.
 pub const WHOLE_BLOCKS: Limits = limits!(176, 16);
@@ -69,8 +67,8 @@ pub enum Answer {
     Begun,
     Room { len: usize, free: usize },
     Place(Option<Place>),
-    /// What was read, with zeros behind it, and which of its bytes are known.
-    Memory([u8; 16], [bool; 16]),
+    /// What was read, with zeros behind it, and which of its bytes are known: a bit each, from the lowest on.
+    Memory([u8; 16], u16),
     /// What was read, with zeros behind it.
     Bytes([u8; 16]),
     /// Not all of what is to be read lies inside the file.
@@ -86,170 +84,183 @@ pub enum Answer {
 
 /// A call and its answer.
 #[derive(Clone, Copy)]
-pub struct Call {
-    pub step: ScriptStep,
-    pub answer: Answer,
+pub enum Call {
+    /// Its header counts so many entries.
+    Entries(u32),
+    Gives(GivenItem),
+    Ends,
+    Fails(ListFault),
+    Skips,
+    /// A run into a new sink that stops at this call: how it ends, and how often the sink was called.
+    Runs(u64, Option<RunFault>, u64),
+    /// A further run into the same sink.
+    RunsOn(Option<RunFault>, u64),
+    /// Verdicts for a new sink that stops at this call.
+    Checks(u64, Option<RunFault>, u64),
+    /// No verdicts any more.
+    HasBegun,
+    /// How many ranges the map has, and has room for.
+    HasRoom(usize, usize),
+    /// An address stands at this offset, with so many bytes from there on.
+    Finds(u64, u64, u64),
+    FindsNothing(u64),
+    /// These bytes at an address, and which of them are known: a bit each, from the lowest on.
+    Reads(u64, &'static [u8], u16),
+    ReadFails(u64, usize, SourceFault),
+    /// These bytes of the file.
+    HasPart(u64, &'static [u8]),
+    PartOutside(u64, usize),
+    PartFails(u64, usize, SourceFault),
+    /// The size of the file, and what was fetched aside so far.
+    HasNumbers(u64, u128),
+    HasRecordsLeft(u64),
+    Seeks(usize),
+    /// An entry that is not there.
+    CannotSeek(usize),
+    Counts(u64),
+    CountFails(ListFault),
+    /// No Stream item was given last.
+    CannotCount,
+    /// Whether nothing was given yet.
+    IsFresh(bool),
 }
 
-fn called(step: ScriptStep, answer: Answer) -> Call {
-    Call { step, answer }
-}
-
-pub fn entries(count: u32) -> Call {
-    called(ScriptStep::Entries, Answer::Entries(count))
-}
-
-pub fn gives(item: GivenItem) -> Call {
-    called(ScriptStep::Next, Answer::Item(item))
-}
-
-pub fn ends() -> Call {
-    called(ScriptStep::Next, Answer::End)
-}
-
-pub fn fails(fault: ListFault) -> Call {
-    called(ScriptStep::Next, Answer::Fault(fault))
-}
-
-pub fn skips() -> Call {
-    called(ScriptStep::Skip, Answer::Done)
-}
-
-/// A run into a new sink that stops at this call.
-pub fn runs(stop_at: u64, fault: Option<RunFault>, calls: u64) -> Call {
-    called(ScriptStep::NewSink(stop_at), Answer::Ran(fault, calls))
-}
-
-/// A further run into the same sink.
-pub fn runs_on(fault: Option<RunFault>, calls: u64) -> Call {
-    called(ScriptStep::SameSink, Answer::Ran(fault, calls))
-}
-
-/// Verdicts for a new sink that stops at this call.
-pub fn checks(stop_at: u64, fault: Option<RunFault>, calls: u64) -> Call {
-    called(ScriptStep::Check(stop_at), Answer::Ran(fault, calls))
-}
-
-/// No verdicts any more.
-pub fn has_begun() -> Call {
-    called(ScriptStep::Check(u64::MAX), Answer::Begun)
-}
-
-pub fn has_room(len: usize, free: usize) -> Call {
-    called(ScriptStep::Room, Answer::Room { len, free })
-}
-
-pub fn finds(address: u64, offset: u64, left: u64) -> Call {
-    let place = Place { offset, left };
-    called(ScriptStep::Find(address), Answer::Place(Some(place)))
-}
-
-pub fn finds_nothing(address: u64) -> Call {
-    called(ScriptStep::Find(address), Answer::Place(None))
-}
-
-/// These bytes, and which of them are known.
-pub fn reads<const N: usize>(address: u64, bytes: [u8; N], known: [bool; N]) -> Call {
-    let mut out = [0; 16];
-    let mut is_known = [false; 16];
-    for i in 0..N {
-        if i < 16 {
-            out[i] = bytes[i];
-            is_known[i] = known[i];
+/// A call, and the answer that is expected.
+pub fn parts_of(call: &Call) -> (ScriptStep, Answer) {
+    match *call {
+        Call::Entries(count) => (ScriptStep::Entries, Answer::Entries(count)),
+        Call::Gives(item) => (ScriptStep::Next, Answer::Item(item)),
+        Call::Ends => (ScriptStep::Next, Answer::End),
+        Call::Fails(fault) => (ScriptStep::Next, Answer::Fault(fault)),
+        Call::Skips => (ScriptStep::Skip, Answer::Done),
+        Call::Runs(at, fault, calls) => (ScriptStep::NewSink(at), Answer::Ran(fault, calls)),
+        Call::RunsOn(fault, calls) => (ScriptStep::SameSink, Answer::Ran(fault, calls)),
+        Call::Checks(at, fault, calls) => (ScriptStep::Check(at), Answer::Ran(fault, calls)),
+        Call::HasBegun => (ScriptStep::Check(u64::MAX), Answer::Begun),
+        Call::HasRoom(len, free) => (ScriptStep::Room, Answer::Room { len, free }),
+        Call::Finds(address, offset, left) => {
+            let place = Place { offset, left };
+            (ScriptStep::Find(address), Answer::Place(Some(place)))
         }
-    }
-    called(ScriptStep::Read(address, N), Answer::Memory(out, is_known))
-}
-
-pub fn read_fails(address: u64, len: usize, fault: SourceFault) -> Call {
-    called(ScriptStep::Read(address, len), Answer::Failed(fault))
-}
-
-/// These bytes of the file.
-pub fn has_part<const N: usize>(at: u64, bytes: [u8; N]) -> Call {
-    let mut out = [0; 16];
-    for i in 0..N {
-        if i < 16 {
-            out[i] = bytes[i];
+        Call::FindsNothing(address) => (ScriptStep::Find(address), Answer::Place(None)),
+        Call::Reads(address, bytes, known) => (
+            ScriptStep::Read(address, bytes.len()),
+            Answer::Memory(sixteen(bytes), known),
+        ),
+        Call::ReadFails(address, len, fault) => {
+            (ScriptStep::Read(address, len), Answer::Failed(fault))
         }
+        Call::HasPart(at, bytes) => (
+            ScriptStep::Part(at, bytes.len()),
+            Answer::Bytes(sixteen(bytes)),
+        ),
+        Call::PartOutside(at, len) => (ScriptStep::Part(at, len), Answer::Outside),
+        Call::PartFails(at, len, fault) => (ScriptStep::Part(at, len), Answer::Failed(fault)),
+        Call::HasNumbers(size, aside) => (ScriptStep::Numbers, Answer::Numbers { size, aside }),
+        Call::HasRecordsLeft(count) => (ScriptStep::RecordsLeft, Answer::RecordsLeft(count)),
+        Call::Seeks(number) => (ScriptStep::Seek(number), Answer::Done),
+        Call::CannotSeek(number) => (ScriptStep::Seek(number), Answer::NoCall),
+        Call::Counts(records) => (ScriptStep::Records, Answer::Counted(records)),
+        Call::CountFails(fault) => (ScriptStep::Records, Answer::Fault(fault)),
+        Call::CannotCount => (ScriptStep::Records, Answer::NoCall),
+        Call::IsFresh(expected) => (ScriptStep::Fresh, Answer::Fresh(expected)),
     }
-    called(ScriptStep::Part(at, N), Answer::Bytes(out))
 }
 
-pub fn part_outside(at: u64, len: usize) -> Call {
-    called(ScriptStep::Part(at, len), Answer::Outside)
+/// Who answers the calls of a script.
+#[derive(Clone, Copy)]
+pub enum ScriptReader {
+    Lister,
+    Walker,
 }
 
-pub fn part_fails(at: u64, len: usize, fault: SourceFault) -> Call {
-    called(ScriptStep::Part(at, len), Answer::Failed(fault))
+/// Calls over a file and their answers.
+#[derive(Clone, Copy)]
+pub struct Script<'a> {
+    /// What the script shows.
+    pub shows: &'a str,
+    pub reader: ScriptReader,
+    /// The window, and the room for a name.
+    pub limits: (u32, u32),
+    pub file: FileOf,
+    /// The types that are chosen, or none where each entry is.
+    pub types: &'a [u32],
+    /// How many bytes the store gives a call, in turn; none where the file is in memory.
+    pub caps: &'a [usize],
+    /// The call of the store that fails, if one does.
+    pub fail_at: Option<u64>,
+    pub calls: &'a [Call],
 }
 
-/// The size of the file, and what was fetched aside so far.
-pub fn has_numbers(size: u64, aside: u128) -> Call {
-    called(ScriptStep::Numbers, Answer::Numbers { size, aside })
-}
+/// A lister of each entry in memory, with the least window and no names.
+pub const BY_LEAST: Script<'static> = Script {
+    shows: "",
+    reader: ScriptReader::Lister,
+    limits: (168, 0),
+    file: FileOf::Bytes(&[]),
+    types: &[],
+    caps: &[],
+    fail_at: None,
+    calls: &[],
+};
 
-pub fn has_records_left(count: u64) -> Call {
-    called(ScriptStep::RecordsLeft, Answer::RecordsLeft(count))
-}
+/// The same with the room for a name that the program has.
+pub const BY_NAMED: Script<'static> = Script {
+    limits: (168, 4096),
+    ..BY_LEAST
+};
 
-pub fn seeks(number: usize) -> Call {
-    called(ScriptStep::Seek(number), Answer::Done)
-}
+/// The same with the window of a caller who says nothing.
+pub const BY_STANDARD: Script<'static> = Script {
+    limits: (65536, 4096),
+    ..BY_LEAST
+};
 
-/// An entry that is not there.
-pub fn cannot_seek(number: usize) -> Call {
-    called(ScriptStep::Seek(number), Answer::NoCall)
-}
+/// The same with names of at most eight bytes.
+pub const BY_SHORT: Script<'static> = Script {
+    limits: (168, 8),
+    ..BY_LEAST
+};
 
-pub fn counts(records: u64) -> Call {
-    called(ScriptStep::Records, Answer::Counted(records))
-}
+/// A walker of each entry in memory, with the least window and no names.
+pub const BY_WALKER: Script<'static> = Script {
+    reader: ScriptReader::Walker,
+    ..BY_LEAST
+};
 
-pub fn count_fails(fault: ListFault) -> Call {
-    called(ScriptStep::Records, Answer::Fault(fault))
-}
-
-/// No Stream item was given last.
-pub fn cannot_count() -> Call {
-    called(ScriptStep::Records, Answer::NoCall)
-}
-
-/// Whether nothing was given yet.
-pub fn is_fresh(expected: bool) -> Call {
-    called(ScriptStep::Fresh, Answer::Fresh(expected))
-}
+/// The same with the room for a name that the program has.
+pub const BY_NAMED_WALKER: Script<'static> = Script {
+    reader: ScriptReader::Walker,
+    ..BY_NAMED
+};
 
 /// All items of `THRICE`, and the end, which stays.
-pub fn items_of_thrice() -> [Call; 8] {
-    [
-        gives(stream(0, 3, 52, 68)),
-        gives(thread(0, 7)),
-        gives(stream(1, 3, 52, 68)),
-        gives(thread(1, 7)),
-        gives(stream(2, 3, 52, 68)),
-        gives(thread(2, 7)),
-        ends(),
-        ends(),
-    ]
-}
+pub const ITEMS_OF_THRICE: [Call; 8] = [
+    Call::Gives(stream!(0, 3, 52, 68)),
+    Call::Gives(thread!(0, 7)),
+    Call::Gives(stream!(1, 3, 52, 68)),
+    Call::Gives(thread!(1, 7)),
+    Call::Gives(stream!(2, 3, 52, 68)),
+    Call::Gives(thread!(2, 7)),
+    Call::Ends,
+    Call::Ends,
+];
 
 /// All items of `MEMORY64`, and the end.
-pub fn items_of_memory64() -> [Call; 4] {
-    [
-        gives(stream(0, 9, 48, 44)),
-        gives(range(0, 0x1000, 4, Extent::Inside, 92)),
-        gives(range(1, 0x2000, 4, Extent::Outside, 96)),
-        ends(),
-    ]
-}
+pub const ITEMS_OF_MEMORY64: [Call; 4] = [
+    Call::Gives(stream!(0, 9, 48, 44)),
+    Call::Gives(range!(0, 0x1000, 4, Extent::Inside, 92)),
+    Call::Gives(range!(1, 0x2000, 4, Extent::Outside, 96)),
+    Call::Ends,
+];
 
-/// All items of two unloaded modules without names that stand 1000 bytes apart, and the end.
-pub fn items_apart() -> [Call; 4] {
-    [
-        gives(stream(0, 14, 2012, 44)),
-        gives(unloaded(0, 1, Named::None)),
-        gives(unloaded(1, 2, Named::None)),
-        ends(),
-    ]
-}
+/// Two unloaded modules without names that stand 1000 bytes apart.
+pub const APART_1000: FileOf = FileOf::Padded(1, 506, &[14, 2012, 44, 12, 1000, 2, 1], &[(256, 2)]);
+
+/// All its items, and the end.
+pub const ITEMS_APART: [Call; 4] = [
+    Call::Gives(stream!(0, 14, 2012, 44)),
+    Call::Gives(unloaded!(0, 1, Named::None)),
+    Call::Gives(unloaded!(1, 2, Named::None)),
+    Call::Ends,
+];

@@ -1,115 +1,123 @@
 //! Sinks that stop at each item of a file in turn, and at each verdict.
-use crate::playing::assert_plays_chosen;
-use crate::script::{Call, NAMED, checks, ends, has_begun, runs, runs_on, skips};
-use crate::six::{STREAMS, six_items};
+use crate::files::FileOf;
+use crate::given::stream;
+use crate::playing::{assert_script, assert_scripts};
+use crate::script::{BY_NAMED, Call, Script};
+use crate::six::{SIX_ITEMS, STREAMS};
 use mdmp_lister::RunFault;
 use mdmp_test_support::SIX;
 use std::alloc::Global;
 use std::process::Abort;
 
-/// Asserts that a lister of the six streams, or of those of these types, gives the answers of a script.
-fn assert_six(rt: &impl Abort, alloc: Global, types: &[u32], script: &[Call]) {
-    assert_plays_chosen(rt, alloc, NAMED, 6, &SIX, types, script);
+/// A lister of the six streams, or of those of these types.
+macro_rules! six {
+    ($shows:expr, $types:expr, $calls:expr) => {
+        Script {
+            shows: $shows,
+            file: FileOf::Numbers(6, &SIX),
+            types: $types,
+            calls: $calls,
+            ..BY_NAMED
+        }
+    };
 }
 
-/// The next call: it gives this item, or the end behind the last one.
-fn comes(item: Option<&Call>) -> Call {
-    match item {
+/// The calls that give the six streams.
+static ITEMS: [Call; 9] = SIX_ITEMS;
+
+/// The call that gives this item, or the end behind the last one.
+fn comes(item: usize) -> Call {
+    match ITEMS.get(item) {
         Some(call) => *call,
-        None => ends(),
+        None => Call::Ends,
     }
 }
 
-/// The Stream item of this stream, or the end where there is none.
-fn begins(items: &[Call; 9], stream: usize) -> Call {
+/// The call that gives the Stream item of this stream, or the end where there is none.
+fn begins(stream: usize) -> Call {
     match STREAMS.get(stream) {
-        Some(place) => comes(items.get(*place)),
-        None => ends(),
+        Some(place) => comes(*place),
+        None => Call::Ends,
     }
-}
-
-/// A run into a new sink that stops at this item and has it then.
-fn stops(stop_at: usize) -> Call {
-    let calls = stop_at.saturating_add(1);
-    runs(stop_at as u64, Some(RunFault::Stopped), calls as u64)
-}
-
-/// Asserts that a sink has the item at which it stops; the one behind it comes next, and the same sink takes all
-/// that are left.
-fn assert_stops(rt: &impl Abort, alloc: Global, items: &[Call; 9], stop_at: usize) {
-    let next = comes(items.get(stop_at.saturating_add(1)));
-    assert_six(rt, alloc, &[], &[stops(stop_at), next]);
-    assert_six(rt, alloc, &[], &[stops(stop_at), runs_on(None, 9), ends()]);
-}
-
-#[test]
-fn sink_stops_at_each_item_in_turn(rt: HostRuntime) {
-    let items = six_items();
-    for stop_at in 0..9 {
-        assert_stops(&rt, rt.alloc(), &items, stop_at);
-    }
-    assert_six(&rt, rt.alloc(), &[], &[runs(9, None, 9), ends()]);
 }
 
 /// How many streams were begun when so many items had been given.
 fn begun_by(count: usize) -> usize {
     let mut begun: usize = 0;
-    for place in STREAMS {
-        if place < count {
+    for place in &STREAMS {
+        if *place < count {
             begun = begun.saturating_add(1);
         }
     }
     begun
 }
 
-/// Asserts that behind a sink that stops at this item its entry is skipped, and the next stream is begun or the end comes.
-fn assert_skipped(rt: &impl Abort, alloc: Global, items: &[Call; 9], stop_at: usize) {
-    let begun = begun_by(stop_at.saturating_add(1));
-    let script = [stops(stop_at), skips(), begins(items, begun)];
-    assert_six(rt, alloc, &[], &script);
+/// Asserts that a sink has the item at which it stops, and what comes behind it: an item, the rest of them, or
+/// another stream.
+fn assert_stops(rt: &impl Abort, alloc: Global, stop_at: usize) {
+    let given = stop_at.saturating_add(1);
+    let stops = Call::Runs(stop_at as u64, Some(RunFault::Stopped), given as u64);
+    let next = [stops, comes(given)];
+    assert_script(rt, alloc, &six!("the next item comes", &[], &next));
+    let taken = [stops, Call::RunsOn(None, 9), Call::Ends];
+    assert_script(rt, alloc, &six!("the same sink takes all", &[], &taken));
+    let skipped = [stops, Call::Skips, begins(begun_by(given))];
+    assert_script(rt, alloc, &six!("the entry is skipped", &[], &skipped));
 }
 
 #[test]
-fn entry_of_the_last_item_of_a_sink_is_skipped(rt: HostRuntime) {
-    let items = six_items();
+fn sink_stops_at_each_item_in_turn_and_its_entry_is_skipped(rt: HostRuntime) {
     for stop_at in 0..9 {
-        assert_skipped(&rt, rt.alloc(), &items, stop_at);
+        assert_stops(&rt, rt.alloc(), stop_at);
     }
 }
 
-/// Verdicts for a new sink that stops at this one and has it then.
-fn stops_checking(stop_at: usize) -> Call {
-    let calls = stop_at.saturating_add(1);
-    checks(stop_at as u64, Some(RunFault::Stopped), calls as u64)
-}
-
 /// Asserts that a sink of verdicts has the one at which it stops, and the next stream is begun or the end comes.
-fn assert_verdict(rt: &impl Abort, alloc: Global, items: &[Call; 9], stop_at: usize) {
-    let next = begins(items, stop_at.saturating_add(1));
-    let script = [stops_checking(stop_at), has_begun(), next];
-    assert_six(rt, alloc, &[], &script);
+fn assert_verdict(rt: &impl Abort, alloc: Global, stop_at: usize) {
+    let told = stop_at.saturating_add(1);
+    let stops = Call::Checks(stop_at as u64, Some(RunFault::Stopped), told as u64);
+    let calls = [stops, Call::HasBegun, begins(told)];
+    assert_script(rt, alloc, &six!("a sink of verdicts stops", &[], &calls));
 }
 
 #[test]
 fn sink_stops_at_each_verdict_in_turn(rt: HostRuntime) {
-    let items = six_items();
     for stop_at in 0..6 {
-        assert_verdict(&rt, rt.alloc(), &items, stop_at);
+        assert_verdict(&rt, rt.alloc(), stop_at);
     }
-    let script = [checks(6, None, 6), has_begun(), ends()];
-    assert_six(&rt, rt.alloc(), &[], &script);
 }
 
-/// Asserts that a sink of the verdicts on a system, a thread and a stream of bytes stops at this one, and that
-/// this stream is begun then, or the end comes.
-fn assert_chosen_verdict(rt: &impl Abort, alloc: Global, stop_at: usize, next: usize) {
-    let script = [stops_checking(stop_at), begins(&six_items(), next)];
-    assert_six(rt, alloc, &[3, 7, 12], &script);
+/// A sink of the verdicts on a system, a thread and a stream of bytes that stops at this one, and what comes then.
+macro_rules! chosen_verdict {
+    ($stop_at:expr, $next:expr) => {
+        six!(
+            "the next chosen entry comes behind a verdict",
+            &[3, 7, 12],
+            &[
+                Call::Checks($stop_at, Some(RunFault::Stopped), $stop_at + 1),
+                $next
+            ]
+        )
+    };
 }
+
+static ENDS: [Script<'static>; 5] = [
+    six!(
+        "a sink that does not stop takes all items",
+        &[],
+        &[Call::Runs(9, None, 9), Call::Ends]
+    ),
+    six!(
+        "a sink that does not stop takes all verdicts",
+        &[],
+        &[Call::Checks(6, None, 6), Call::HasBegun, Call::Ends]
+    ),
+    chosen_verdict!(0, Call::Gives(stream!(1, 3, 52, 196))),
+    chosen_verdict!(1, Call::Gives(stream!(5, 12, 4, 440))),
+    chosen_verdict!(2, Call::Ends),
+];
 
 #[test]
-fn next_chosen_entry_comes_behind_a_verdict(rt: HostRuntime) {
-    assert_chosen_verdict(&rt, rt.alloc(), 0, 1);
-    assert_chosen_verdict(&rt, rt.alloc(), 1, 5);
-    assert_chosen_verdict(&rt, rt.alloc(), 2, 6);
+fn next_chosen_entry_or_the_end_comes_behind_a_sink(rt: HostRuntime) {
+    assert_scripts(&rt, rt.alloc(), &ENDS);
 }

@@ -1,111 +1,92 @@
 //! A walker: the items that it gives, what it fetches and holds, and stores that fail.
-use crate::files::file_of;
-use crate::given::{range, spelled, stream, system, thread};
-use crate::opening::{chosen, patchy, store_fault};
+use crate::files::{FileOf, file_of, made};
+use crate::given::{stream, thread};
+use crate::opening::{chosen, limits_of, patchy, store_fault};
 use crate::same::{assert_same, assert_same_at};
-use crate::script::{LEAST, NAMED, WHOLE_BLOCKS, counts, ends, gives, items_of_thrice, seeks};
+use crate::script::{Call, LEAST, NAMED};
 use crate::walking::{
-    assert_walk, assert_walks_numbers, assert_walks_patchy, close, counts_of, entry_of, fetched_of,
-    is_chosen, open, open_and_close, part_of, step_of,
+    assert_walk, close, counts_of, entry_of, fetched_of, is_chosen, open_and_close, open_over,
+    part_of, step_of,
 };
 use linked_list_allocator::LocalHeap;
 use mdmp_lister::{Choice, Counts, Limits, ListFault, NameRead, OpenFault, Step, Walker};
-use mdmp_source::{Extent, Location, MemoryStore, Source, SourceFault, Store};
-use mdmp_test_support::{MEMORY64, SYSTEM, THRICE};
+use mdmp_source::{Location, MemoryStore, Source, SourceFault, Store};
+use mdmp_test_support::{SYSTEM, THRICE};
 use mdmp_wire::Entry;
 use std::alloc::Global;
 use std::process::Abort;
 
-/// Asserts what a walker of three entries fetches that goes to the third.
-fn assert_goes_by_no_fetch(rt: &impl Abort, alloc: Global) {
-    let file = file_of(rt, alloc, 3, &THRICE);
-    let mut walker = open(rt, alloc, &file, Choice::All);
-    let opened = counts_of(&walker);
-    let listed = Entry {
-        stream_type: 3,
-        location: Location { size: 52, rva: 68 },
-    };
-    assert_same(rt, entry_of(&walker, 2), Some(listed));
-    assert_same(rt, entry_of(&walker, 3), None);
-    // The header and the directory are fetched, and nothing as it goes to an entry.
-    let numbers = Counts {
-        s: 3,
-        r: 0,
-        n: 156,
-        m: 0,
-        held: 168 + 36,
-        fetched: 68,
-        calls: 2,
-        aside: 0,
-    };
-    assert_same(rt, opened, numbers);
-    let begun = [seeks(2), gives(stream(2, 3, 52, 68))];
-    assert_walk(rt, alloc, &mut walker, &begun);
-    assert_same(rt, counts_of(&walker), opened);
-    // What is fetched to count its records is not fetched again.
-    assert_walk(rt, alloc, &mut walker, &[counts(1)]);
-    let counted = counts_of(&walker);
-    assert_same(rt, counted.fetched, 68 + 52);
-    let rest = [counts(1), gives(thread(2, 7)), ends()];
-    assert_walk(rt, alloc, &mut walker, &rest);
-    assert_same(rt, counts_of(&walker), counted);
-    assert_same(rt, fetched_of(walker), counted.fetched);
-}
+/// What a walker counts of `THRICE` as it is opened: the header and the directory are fetched.
+static OPENED: Counts = Counts {
+    s: 3,
+    r: 0,
+    n: 156,
+    m: 0,
+    held: 168 + 36,
+    fetched: 68,
+    calls: 2,
+    aside: 0,
+};
+
+/// Its last entry.
+static THIRD: Entry = Entry {
+    stream_type: 3,
+    location: Location { size: 52, rva: 68 },
+};
+
+/// The third entry, as it is sought.
+static SOUGHT: [Call; 2] = [Call::Seeks(2), Call::Gives(stream!(2, 3, 52, 68))];
+
+/// How many records it has.
+static COUNTED: [Call; 1] = [Call::Counts(1)];
+
+/// What is left of it then.
+static REST: [Call; 3] = [Call::Counts(1), Call::Gives(thread!(2, 7)), Call::Ends];
 
 #[test]
 fn walker_goes_to_an_entry_by_no_fetch(rt: HostRuntime) {
-    assert_goes_by_no_fetch(&rt, rt.alloc());
+    let file = file_of(&rt, rt.alloc(), 3, &THRICE);
+    let store = MemoryStore::new(&file);
+    let mut walker = open_over(&rt, rt.alloc(), store, LEAST, Choice::All);
+    assert_same(&rt, entry_of(&walker, 2), Some(THIRD));
+    assert_same(&rt, entry_of(&walker, 3), None);
+    assert_same(&rt, counts_of(&walker), OPENED);
+    // Nothing is fetched as it goes to an entry.
+    assert_walk(&rt, rt.alloc(), "sought", &mut walker, &SOUGHT);
+    assert_same(&rt, counts_of(&walker), OPENED);
+    // What is fetched to count its records is not fetched again.
+    assert_walk(&rt, rt.alloc(), "counted", &mut walker, &COUNTED);
+    let counted = counts_of(&walker);
+    assert_same(&rt, counted.fetched, 68 + 52);
+    assert_walk(&rt, rt.alloc(), "the rest", &mut walker, &REST);
+    assert_same(&rt, counts_of(&walker), counted);
+    assert_same(&rt, fetched_of(walker), counted.fetched);
 }
 
-/// Which entries of a file of four are chosen by these types, and what is told of a fifth.
-fn chosen_of(rt: &impl Abort, alloc: Global, types: &[u32]) -> [Option<bool>; 5] {
-    let numbers = [0, 0, 0, 7, 0, 0, 3, 4, 80, 10, 0, 0, 0];
-    let file = file_of(rt, alloc, 4, &numbers);
-    let walker = open(rt, alloc, &file, chosen(rt, types));
-    let told = [
-        is_chosen(&walker, 0),
-        is_chosen(&walker, 1),
-        is_chosen(&walker, 2),
-        is_chosen(&walker, 3),
-        is_chosen(&walker, 4),
-    ];
-    close(walker);
-    told
-}
+/// Types, and which entries of a file of four are chosen by them, or by none each one; and what is told of a fifth.
+static CHOSEN: [(&[u32], [Option<bool>; 5]); 2] = [
+    (
+        &[3, 10],
+        [Some(false), Some(false), Some(true), Some(true), None],
+    ),
+    (&[], [Some(true), Some(true), Some(true), Some(true), None]),
+];
+
+/// Four entries of the types 0, 7, 3 and 10.
+static FOUR_TYPES: [u32; 13] = [0, 0, 0, 7, 0, 0, 3, 4, 80, 10, 0, 0, 0];
 
 #[test]
 fn walker_tells_which_entries_are_chosen(rt: HostRuntime) {
-    let (yes, no) = (Some(true), Some(false));
-    let two = chosen_of(&rt, rt.alloc(), &[3, 10]);
-    assert_same(&rt, two, [no, no, yes, yes, None]);
-    let each = chosen_of(&rt, rt.alloc(), &[]);
-    assert_same(&rt, each, [yes, yes, yes, yes, None]);
-}
-
-#[test]
-fn walker_gives_what_a_lister_gives(rt: HostRuntime) {
-    assert_walks_numbers(&rt, rt.alloc(), 3, &THRICE, &items_of_thrice());
-}
-
-#[test]
-fn store_that_gives_few_bytes_a_call_gives_the_same_items(rt: HostRuntime) {
-    let named = [
-        gives(stream(0, 7, 56, 44)),
-        counts(1),
-        gives(system(4, 7601, spelled("Service Pack 1"))),
-        ends(),
-    ];
-    assert_walks_patchy(&rt, rt.alloc(), NAMED, &SYSTEM, &[1, 1], None, &named);
-    assert_walks_patchy(&rt, rt.alloc(), NAMED, &SYSTEM, &[1, 3], None, &named);
-    let ranged = [
-        gives(stream(0, 9, 48, 44)),
-        counts(2),
-        gives(range(0, 0x1000, 4, Extent::Inside, 92)),
-        gives(range(1, 0x2000, 4, Extent::Outside, 96)),
-        ends(),
-    ];
-    assert_walks_patchy(&rt, rt.alloc(), NAMED, &MEMORY64, &[1, 1], None, &ranged);
-    assert_walks_patchy(&rt, rt.alloc(), NAMED, &MEMORY64, &[1, 3], None, &ranged);
+    let file = file_of(&rt, rt.alloc(), 4, &FOUR_TYPES);
+    for (types, told) in &CHOSEN {
+        let store = MemoryStore::new(&file);
+        let walker = open_over(&rt, rt.alloc(), store, LEAST, chosen(&rt, types));
+        for number in 0..5 {
+            let found = is_chosen(&walker, number);
+            assert_same_at(&rt, &(types, number), found, told[number]);
+        }
+        close(walker);
+    }
 }
 
 /// What came of a walk: how many items it gave, and the fault behind them; or why it was refused.
@@ -137,7 +118,7 @@ fn expected_walk(fail_at: u64) -> WalkEnd {
     if fail_at < 44 {
         Err(OpenFault::Source(SourceFault::Failed { at: fail_at }))
     } else if fail_at < 132 {
-        Ok((1, Some(store_fault(0, fail_at))))
+        Ok((1, Some(store_fault!(0, fail_at))))
     } else {
         Ok((2, None))
     }
@@ -151,137 +132,146 @@ fn store_fails_at_each_call_in_turn(rt: HostRuntime) {
     }
 }
 
-/// Opens a walker of a file and closes it again: why it was refused, and what its source has fetched.
-fn opened_in(heap: &LocalHeap, file: &[u8], limits: Limits) -> (Option<OpenFault>, u128) {
-    let source = Source::new(MemoryStore::new(file));
-    let (fault, source) = open_and_close(heap, source, limits);
-    (fault, source.fetched())
+/// A file, its limits and sizes of heaps; the fault of its opening, what is fetched, and how much of the heap is
+/// taken.
+struct WalkerHeap {
+    shows: &'static str,
+    file: FileOf,
+    limits: (u32, u32),
+    heaps: (usize, usize),
+    told: (Option<OpenFault>, u128, usize),
 }
 
-/// How much memory a walker of a file takes.
-fn taken_in(heap: &LocalHeap, file: &[u8], limits: Limits) -> usize {
+/// Four entries of 12 bytes.
+const FOUR_ENTRIES: FileOf = FileOf::Numbers(
+    4,
+    &[0, 0, 0, 0, 0, 0, 0, 0, 0, 5, 20, 80, 1, 0x1000, 0, 0, 0],
+);
+
+static HEAPS: [WalkerHeap; 4] = [
+    // A window of 176 and a name of 16: blocks are multiples of 16. The list of ranges takes none.
+    WalkerHeap {
+        shows: "want of memory",
+        file: FOUR_ENTRIES,
+        limits: (176, 16),
+        heaps: (0, 14),
+        told: (Some(OpenFault::Memory), 32, 0),
+    },
+    WalkerHeap {
+        shows: "enough memory",
+        file: FOUR_ENTRIES,
+        limits: (176, 16),
+        heaps: (15, 19),
+        told: (None, 32 + 48, 240),
+    },
+    WalkerHeap {
+        shows: "the last number of the directory is missing",
+        file: FileOf::Numbers(3, &[3, 52, 68, 3, 52, 68, 3, 52]),
+        limits: (168, 0),
+        heaps: (256, 256),
+        told: (
+            Some(OpenFault::DirectoryOutside {
+                offset: 32,
+                size: 36,
+            }),
+            32,
+            0,
+        ),
+    },
+    WalkerHeap {
+        shows: "too short",
+        file: FileOf::Bytes(&[0; 31]),
+        limits: (168, 0),
+        heaps: (256, 256),
+        told: (Some(OpenFault::TooShort { size: 31 }), 0, 0),
+    },
+];
+
+/// Why a walker is not opened in a heap, what its source has fetched, and how much of the heap it takes.
+fn opened_in(heap: &LocalHeap, file: &[u8], limits: Limits) -> (Option<OpenFault>, u128, usize) {
+    let source = Source::new(MemoryStore::new(file));
+    let (fault, source) = open_and_close(heap, source, limits);
+    let fetched = source.fetched();
     let source = Source::new(MemoryStore::new(file));
     let opened = Walker::open(heap, source, limits, Choice::All);
     let taken = heap.used();
     let _ = opened.is_ok();
-    taken
+    (fault, fetched, taken)
 }
 
-/// Asserts what comes of opening a file in a heap of so many bytes: the fault, what is fetched, and how many bytes
-/// of the heap are taken; it has them all behind that.
-fn assert_opened_in(
-    rt: &impl Abort,
-    alloc: Global,
-    size: usize,
-    limits: Limits,
-    file: &[u8],
-    expected: (Option<OpenFault>, u128, usize),
-) {
-    let (fault, fetched, taken) = expected;
-    let heap = LocalHeap::new(alloc, size).expect(rt, "a heap");
-    assert_same_at(rt, &size, opened_in(&heap, file, limits), (fault, fetched));
-    assert_same_at(rt, &size, taken_in(&heap, file, limits), taken);
-    assert_same_at(rt, &size, heap.used(), 0);
-}
-
-/// Asserts that of four entries of 12 bytes, a window of 176 and a name of 16: blocks are multiples of 16. The
-/// list of ranges takes none.
-fn assert_four_in(
-    rt: &impl Abort,
-    alloc: Global,
-    size: usize,
-    expected: (Option<OpenFault>, u128, usize),
-) {
-    let numbers = [0, 0, 0, 0, 0, 0, 0, 0, 0, 5, 20, 80, 1, 0x1000, 0, 0, 0];
-    let file = file_of(rt, alloc, 4, &numbers);
-    assert_opened_in(rt, alloc, size, WHOLE_BLOCKS, &file, expected);
+/// Asserts what comes of a row in a heap of so many blocks of 16 bytes, which has them all behind that.
+fn assert_opened_in(rt: &impl Abort, alloc: Global, row: &WalkerHeap, blocks: usize) {
+    let file = made(rt, alloc, &row.file);
+    let heap = LocalHeap::new(alloc, blocks.saturating_mul(16)).expect(rt, "a heap");
+    let (window, name) = row.limits;
+    let found = opened_in(&heap, &file, limits_of(rt, window, name));
+    assert_same_at(rt, &(row.shows, blocks), found, row.told);
+    assert_same_at(rt, &(row.shows, blocks), heap.used(), 0);
 }
 
 #[test]
 fn want_of_memory_hands_the_source_back(rt: HostRuntime) {
-    let refused = (Some(OpenFault::Memory), 32, 0);
-    for blocks in 0..15 {
-        assert_four_in(&rt, rt.alloc(), 16 * blocks, refused);
+    for row in &HEAPS {
+        let (first, last) = row.heaps;
+        for blocks in first..last.saturating_add(1) {
+            assert_opened_in(&rt, rt.alloc(), row, blocks);
+        }
     }
-    for blocks in 15..20 {
-        assert_four_in(&rt, rt.alloc(), 16 * blocks, (None, 32 + 48, 240));
-    }
 }
 
-/// Asserts that a walker is refused with ample memory where the last number of its directory is missing.
-fn assert_cut_is_refused(rt: &impl Abort, alloc: Global) {
-    let file = file_of(rt, alloc, 3, &[3, 52, 68, 3, 52, 68, 3, 52]);
-    let outside = OpenFault::DirectoryOutside {
-        offset: 32,
-        size: 36,
-    };
-    let refused = (Some(outside), 32, 0);
-    assert_opened_in(rt, alloc, 4096, LEAST, &file, refused);
-}
+/// The first Stream item of `THRICE`.
+static FIRST: [Call; 1] = [Call::Gives(stream!(0, 3, 52, 68))];
 
-#[test]
-fn refused_walker_hands_its_source_back(rt: HostRuntime) {
-    assert_cut_is_refused(&rt, rt.alloc());
-    let short = OpenFault::TooShort { size: 31 };
-    let refused = (Some(short), 0, 0);
-    assert_opened_in(&rt, rt.alloc(), 4096, LEAST, &[0; 31], refused);
-}
-
-/// Asserts that a walker of three entries reads parts beside its listing.
-fn assert_parts_beside(rt: &impl Abort, alloc: Global) {
-    let file = file_of(rt, alloc, 3, &THRICE);
-    let mut walker = open(rt, alloc, &file, Choice::All);
-    assert_walk(rt, alloc, &mut walker, &[gives(stream(0, 3, 52, 68))]);
-    assert_same(rt, part_of(&mut walker, 72), Some(Ok([7, 0, 0, 0])));
-    assert_same(rt, part_of(&mut walker, 117), None);
-    let behind = counts_of(&walker);
-    assert_same(rt, (behind.fetched, behind.aside), (68, 4));
-    let rest = [counts(1), gives(thread(0, 7))];
-    assert_walk(rt, alloc, &mut walker, &rest);
-    close(walker);
-}
+/// The records behind it.
+static FIRST_THREAD: [Call; 2] = [Call::Counts(1), Call::Gives(thread!(0, 7))];
 
 #[test]
 fn part_is_read_beside_the_listing(rt: HostRuntime) {
-    assert_parts_beside(&rt, rt.alloc());
+    let file = file_of(&rt, rt.alloc(), 3, &THRICE);
+    let store = MemoryStore::new(&file);
+    let mut walker = open_over(&rt, rt.alloc(), store, LEAST, Choice::All);
+    assert_walk(&rt, rt.alloc(), "before", &mut walker, &FIRST);
+    assert_same(&rt, part_of(&mut walker, 72), Some(Ok([7, 0, 0, 0])));
+    assert_same(&rt, part_of(&mut walker, 117), None);
+    let behind = counts_of(&walker);
+    assert_same(&rt, (behind.fetched, behind.aside), (68, 4));
+    assert_walk(&rt, rt.alloc(), "behind", &mut walker, &FIRST_THREAD);
+    close(walker);
 }
 
-/// The entry and the type of a Stream item that comes next; none where another answer does.
-fn stream_told<S: Store + Drop>(walker: &mut Walker<S, Global>) -> Option<(u32, u32)> {
-    match step_of(walker) {
-        Ok(Some(Step::Stream(stream))) => Some((stream.entry, stream.stream_type)),
-        _ => None,
-    }
-}
+/// An unloaded module whose name has ten bytes.
+static LONG_NAME: [u32; 16] = [
+    14, 36, 44, 12, 24, 1, 0x10000, 0, 4096, 0, 0, 80, 10, 0x00620061, 0x00640063, 0x65,
+];
 
-/// The entry and the index of a record that comes next, where its name stands, and that name; none where another
-/// answer does.
-fn record_told<S: Store + Drop>(
+/// The next answer of a walker: entry, type or index, the place of a name, and that name, if it has one.
+fn told_next<S: Store + Drop>(
     walker: &mut Walker<S, Global>,
-) -> Option<(u32, u64, Option<u64>, NameRead)> {
+) -> Option<(u32, u64, Option<u64>, Option<NameRead>)> {
     match step_of(walker) {
+        Ok(Some(Step::Stream(stream))) => {
+            Some((stream.entry, u64::from(stream.stream_type), None, None))
+        }
         Ok(Some(Step::Record(read))) => {
-            Some((read.entry, read.index, read.fields.name_rva(), read.name))
+            Some((
+                read.entry,
+                read.index,
+                read.fields.name_rva(),
+                Some(read.name),
+            ))
         }
         _ => None,
     }
 }
 
-/// Asserts that a walker tells a record as it was read, of an unloaded module whose name has ten bytes.
-fn assert_record_told(rt: &impl Abort, alloc: Global) {
-    let numbers = [
-        14, 36, 44, 12, 24, 1, 0x10000, 0, 4096, 0, 0, 80, 10, 0x00620061, 0x00640063, 0x65,
-    ];
-    let file = file_of(rt, alloc, 1, &numbers);
-    let mut walker = open(rt, alloc, &file, Choice::All);
-    assert_same(rt, stream_told(&mut walker), Some((0, 14)));
-    let record = (0, 0, Some(80), NameRead::Long(10));
-    assert_same(rt, record_told(&mut walker), Some(record));
-    assert_same(rt, step_of(&mut walker).is_ok(), true);
-    close(walker);
-}
-
 #[test]
 fn step_tells_a_record_as_it_stands_in_the_file(rt: HostRuntime) {
-    assert_record_told(&rt, rt.alloc());
+    let file = file_of(&rt, rt.alloc(), 1, &LONG_NAME);
+    let store = MemoryStore::new(&file);
+    let mut walker = open_over(&rt, rt.alloc(), store, LEAST, Choice::All);
+    assert_same(&rt, told_next(&mut walker), Some((0, 14, None, None)));
+    let record = (0, 0, Some(80), Some(NameRead::Long(10)));
+    assert_same(&rt, told_next(&mut walker), Some(record));
+    assert_same(&rt, step_of(&mut walker).is_ok(), true);
+    close(walker);
 }

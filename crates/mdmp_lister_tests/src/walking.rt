@@ -1,17 +1,13 @@
 //! A walker that is opened, and its calls in a row.
-use crate::files::file_of;
-use crate::opening::{patchy, refused_with};
+use crate::opening::refused_with;
 use crate::playing::answer_by;
 use crate::same::assert_same_at;
-use crate::script::{Answer, Call, LEAST, ScriptStep};
+use crate::script::{Answer, Call, ScriptStep, parts_of};
 use mdmp_lister::{Choice, Counts, Limits, ListFault, OpenFault, Step as Read, Walker};
-use mdmp_source::{MemoryStore, Source, SourceFault, Store, inside};
+use mdmp_source::{Source, SourceFault, Store, inside};
 use mdmp_wire::Entry;
 use std::alloc::{Allocator, Global};
 use std::process::Abort;
-
-/// A walker over a file in memory.
-pub type Walking<'a> = Walker<MemoryStore<'a>, Global>;
 
 /// A walker over a store.
 pub fn open_over<S: Store + Drop>(
@@ -25,11 +21,6 @@ pub fn open_over<S: Store + Drop>(
         Ok(walker) => walker,
         Err(_) => panic!(rt; "a walker was refused"),
     }
-}
-
-/// A walker over a file in memory, by the least window.
-pub fn open<'a>(rt: &impl Abort, alloc: Global, file: &'a [u8], choice: Choice) -> Walking<'a> {
-    open_over(rt, alloc, MemoryStore::new(file), LEAST, choice)
 }
 
 /// What the next call of a walker answers, as it was read.
@@ -119,22 +110,6 @@ pub fn records_of<S: Store + Drop, A: Allocator + Copy>(
     }
 }
 
-fn seek<S: Store + Drop, A: Allocator + Copy>(walker: &mut Walker<S, A>, number: usize) -> Answer {
-    if number >= walker.header().number_of_streams as usize {
-        return Answer::NoCall;
-    }
-    walker.seek_entry(number);
-    Answer::Done
-}
-
-fn count<S: Store + Drop, A: Allocator + Copy>(walker: &mut Walker<S, A>) -> Answer {
-    match records_of(walker) {
-        Some(Ok(count)) => Answer::Counted(count),
-        Some(Err(fault)) => Answer::Fault(fault),
-        None => Answer::NoCall,
-    }
-}
-
 /// What a walker answers to a call.
 pub fn answer_of<S: Store + Drop, A: Allocator + Copy>(
     rt: &impl Abort,
@@ -149,8 +124,18 @@ pub fn answer_of<S: Store + Drop, A: Allocator + Copy>(
             walker.skip_entry();
             Answer::Done
         }
-        ScriptStep::Seek(number) => seek(walker, number),
-        ScriptStep::Records => count(walker),
+        ScriptStep::Seek(number) => {
+            if number >= walker.header().number_of_streams as usize {
+                return Answer::NoCall;
+            }
+            walker.seek_entry(number);
+            Answer::Done
+        }
+        ScriptStep::Records => match records_of(walker) {
+            Some(Ok(count)) => Answer::Counted(count),
+            Some(Err(fault)) => Answer::Fault(fault),
+            None => Answer::NoCall,
+        },
         _ => Answer::NoCall,
     }
 }
@@ -159,51 +144,29 @@ pub fn answer_of<S: Store + Drop, A: Allocator + Copy>(
 pub fn assert_walk<S: Store + Drop, A: Allocator + Copy>(
     rt: &impl Abort,
     alloc: Global,
+    shows: &str,
     walker: &mut Walker<S, A>,
-    script: &[Call],
+    calls: &[Call],
 ) {
-    for i in 0..script.len() {
-        let call = script[i];
-        let answer = answer_of(rt, alloc, walker, call.step);
-        assert_same_at(rt, &i, answer, call.answer);
+    for i in 0..calls.len() {
+        let (step, answer) = parts_of(&calls[i]);
+        let found = answer_of(rt, alloc, walker, step);
+        assert_same_at(rt, &(shows, i), found, answer);
     }
 }
 
-/// Asserts that a walker over each entry of a store gives the answers of a script.
-pub fn assert_walks<S: Store + Drop>(
+/// Asserts that a walker of a store gives the answers of a script, and gives the size of the source that it hands
+/// back.
+pub fn play<S: Store + Drop>(
     rt: &impl Abort,
     alloc: Global,
-    limits: Limits,
+    shows: &str,
     store: S,
-    script: &[Call],
-) {
-    let mut walker = open_over(rt, alloc, store, limits, Choice::All);
-    assert_walk(rt, alloc, &mut walker, script);
-    close(walker);
-}
-
-/// The same of a file in a store that gives as many bytes a call as the caps say, in turn, and fails at
-/// this call, if at one.
-pub fn assert_walks_patchy(
-    rt: &impl Abort,
-    alloc: Global,
     limits: Limits,
-    file: &[u8],
-    caps: &[usize],
-    fail_at: Option<u64>,
-    script: &[Call],
-) {
-    assert_walks(rt, alloc, limits, patchy(rt, file, caps, fail_at), script);
-}
-
-/// The same of a file in memory with so many entries and these numbers, by the least window.
-pub fn assert_walks_numbers(
-    rt: &impl Abort,
-    alloc: Global,
-    entries: u32,
-    numbers: &[u32],
-    script: &[Call],
-) {
-    let file = file_of(rt, alloc, entries, numbers);
-    assert_walks(rt, alloc, LEAST, MemoryStore::new(&file), script);
+    choice: Choice,
+    calls: &[Call],
+) -> u64 {
+    let mut walker = open_over(rt, alloc, store, limits, choice);
+    assert_walk(rt, alloc, shows, &mut walker, calls);
+    walker.into_source().size()
 }
