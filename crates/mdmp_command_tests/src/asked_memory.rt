@@ -18,7 +18,7 @@ const LONG_NAME: &str = "--name=1073741824";
 
 /// Command lines that ask for a block of 65536 bytes for their output, and then for a directory, a window, a name,
 /// ranges, bytes, and which of them are known. Those that would ask for much are refused that.
-const ASKING: [AskingLine<'static>; 14] = [
+static ASKING: [AskingLine<'static>; 14] = [
     (&["--help"], None, 0, 0, 0),
     (&["copy", "--help"], None, 0, 0, 0),
     (&["list"], None, 2, 0, 0),
@@ -95,34 +95,28 @@ const ASKING: [AskingLine<'static>; 14] = [
     ),
 ];
 
-/// Asserts the status of each command line, and what it asks for.
+/// Asserts the status of a command line, and what it asks for.
 fn assert_asked<R: Files + Input + AllocGlobal + Abort>(
     rt: &R,
     alloc: Global,
-    lines: &[AskingLine<'_>],
+    call: CommandCall<'_>,
+    line: &AskingLine<'_>,
 ) {
-    write_files(rt, alloc);
-    for &(words, growth, status, growths, bytes) in lines {
-        for call in [
-            CommandCall::Line(words),
-            CommandCall::Program(words),
-            CommandCall::System(words),
-        ] {
-            let ran = run(rt, alloc, call, &Trial { growth, ..GOOD });
-            let found = (
-                ran.end.status,
-                ran.heap.growths,
-                ran.heap.bytes,
-                ran.heap.out,
-            );
-            assert_same_at(rt, &words, found, (status, growths, bytes, 0));
-            let is_refused = growth.is_some();
-            assert_same_at(rt, &words, is_refused && !written(&ran).is_empty(), false);
-        }
-    }
+    let (words, growth, status, growths, bytes) = *line;
+    let ran = run(rt, alloc, call, &Trial { growth, ..GOOD });
+    let is_written = growth.is_some() && !written(&ran).is_empty();
+    let heap = ran.heap;
+    let found = (ran.end.status, heap.growths, heap.bytes, heap.out);
+    assert_same_at(rt, &words, found, (status, growths, bytes, 0));
+    assert_same_at(rt, &words, is_written, false);
 }
 
 #[test]
 fn memory_that_is_asked_for_is_that_of_the_words(rt: HostRuntime) {
-    assert_asked(&rt, rt.alloc(), &ASKING);
+    write_files(&rt, rt.alloc());
+    for line in &ASKING {
+        assert_asked(&rt, rt.alloc(), CommandCall::Line(line.0), line);
+        assert_asked(&rt, rt.alloc(), CommandCall::Program(line.0), line);
+        assert_asked(&rt, rt.alloc(), CommandCall::System(line.0), line);
+    }
 }

@@ -1,8 +1,7 @@
 //! Words that ask for nothing.
-use crate::requests::{assert_asked, assert_words};
 
 /// Words that are no numbers below 2^64.
-const BAD: &str = "list|a|--memory|x => bad
+pub const BAD: &str = "list|a|--memory|x => bad
 list|a|--untrusted|--memory|x => bad
 list|a|--memory| => bad
 list|a|--untrusted|--memory| => bad
@@ -31,7 +30,7 @@ list|a|--untrusted|--budget| => bad
 list|a|--untrusted|--budget|18446744073709551616 => bad";
 
 /// Words that `clap` refuses.
-const REFUSED: &str = "check|a|--aside|5 => refused
+pub const REFUSED: &str = "check|a|--aside|5 => refused
 hex|a|0|1|--aside|5 => refused
 copy|a|b|3|--aside|5 => refused
 --untrusted|list|a => refused
@@ -69,7 +68,7 @@ copy|a => refused
 --|list|a => refused";
 
 /// Words that ask for help or the version.
-const HELP: &str = "--help => help
+pub const HELP: &str = "--help => help
 -h => help
 help => help
 check|--help => help
@@ -81,15 +80,3 @@ list|--help => help
 hex|--help => help
 --version => help
 -V => help";
-
-#[test]
-fn word_that_is_no_number_is_bad(rt: HostRuntime) {
-    assert_asked(&rt, rt.alloc(), BAD);
-}
-
-#[test]
-fn other_words_ask_for_nothing(rt: HostRuntime) {
-    assert_words(&rt, rt.alloc(), &[], "refused");
-    assert_asked(&rt, rt.alloc(), REFUSED);
-    assert_asked(&rt, rt.alloc(), HELP);
-}

@@ -5,12 +5,15 @@
 
 use crate::disk_runs::{Done, made_by, over_disk};
 use crate::engine_statuses::{copy_status, print_status};
+use crate::failing_system::{FailingSystem, FileCalls, NONE_FAILS};
 use crate::files::{SmallFile, bytes_of};
 use crate::same::assert_same_at;
+use mdmp_disk::GivenInput;
 use mdmp_source::{PatchyOut, PatchyStore};
 use mdmp_test_support::{FOR_LONG_TEXT, HeapCounts, MeteredHeap, Refusal, Room, limits};
 use mdmp_tool::{Limits, run_words};
 use std::alloc::{AllocGlobal, Global};
+use std::cell::Cell;
 use std::fmt::Debug;
 use std::io::ErrorKind;
 use std::process::Abort;
@@ -83,6 +86,10 @@ pub struct Trial {
     /// How many bytes a read of the store gives at most, and which one fails; also of a file on the disk.
     pub cap: usize,
     pub read: Option<u64>,
+    /// Which call of the system fails.
+    pub system_call: u64,
+    /// What standard input gives to a disk in memory.
+    pub input: GivenInput<'static>,
     /// The output for what is printed, and the one for what is told.
     pub out: Outlet,
     pub err: Outlet,
@@ -98,6 +105,11 @@ pub const GOOD: Trial = Trial {
     disk_growth: None,
     cap: 1000,
     read: None,
+    system_call: NONE_FAILS,
+    input: GivenInput {
+        bytes: b"",
+        fail_at: None,
+    },
     out: TAKES_ALL,
     err: TAKES_ALL,
     limits: limits!(65536, 4096),
@@ -126,37 +138,11 @@ pub struct Ran {
     pub made: Option<Vec<u8>>,
     /// What it asked of the disk.
     pub requests: DiskRequests,
+    /// How often standard input was read.
+    pub inputs: u128,
     /// What it asked of its memory, and what the disk asked.
     pub heap: HeapCounts,
     pub disk_heap: HeapCounts,
-}
-
-/// The status of a command over a store.
-fn status_of_store(
-    rt: &impl Abort,
-    alloc: Global,
-    heap: &MeteredHeap<Global>,
-    call: CommandCall<'_>,
-    trial: &Trial,
-    out: &mut PatchyOut<Global>,
-    err: &mut PatchyOut<Global>,
-) -> u8 {
-    let limits = trial.limits;
-    match call {
-        CommandCall::Print(shown, file) => {
-            let bytes = bytes_of(rt, alloc, file);
-            let caps = [trial.cap];
-            let store = PatchyStore::new(&bytes, &caps, trial.read);
-            print_status(rt, alloc, heap, shown, store, limits, out, err)
-        }
-        CommandCall::Copy(types, file) => {
-            let bytes = bytes_of(rt, alloc, file);
-            let caps = [trial.cap];
-            let store = PatchyStore::new(&bytes, &caps, trial.read);
-            copy_status(rt, heap, types, store, limits, out, err)
-        }
-        _ => rt.panic("no store"),
-    }
 }
 
 /// Runs a command.
@@ -170,28 +156,45 @@ fn done_by<R: Files + Input + AllocGlobal + Abort>(
     out: &mut PatchyOut<Global>,
     err: &mut PatchyOut<Global>,
 ) -> Done {
-    match call {
-        CommandCall::Print(..) => Done {
-            status: status_of_store(rt, alloc, heap, call, trial, out, err),
-            made: None,
-            requests: (0, 0, 0),
-        },
-        CommandCall::Copy(..) => Done {
-            status: status_of_store(rt, alloc, heap, call, trial, out, err),
-            made: Some(out.bytes().to_vec(alloc).expect(rt, "memory for a copy")),
-            requests: (0, 0, 0),
-        },
-        CommandCall::System(words) => Done {
-            status: run_words(rt, heap, words, out, err),
-            made: made_by(rt),
-            requests: (0, 0, 0),
-        },
-        _ => over_disk(rt, alloc, heap, disk_heap, call, trial, out, err),
+    let caps = [trial.cap];
+    let (status, made) = match call {
+        CommandCall::Print(shown, file) => {
+            let bytes = bytes_of(rt, alloc, file);
+            let store = PatchyStore::new(&bytes, &caps, trial.read);
+            let status = print_status(rt, alloc, heap, shown, store, trial.limits, out, err);
+            (status, None)
+        }
+        CommandCall::Copy(types, file) => {
+            let bytes = bytes_of(rt, alloc, file);
+            let store = PatchyStore::new(&bytes, &caps, trial.read);
+            let status = copy_status(rt, heap, types, store, trial.limits, out, err);
+            let copy = out.bytes().to_vec(alloc).expect(rt, "memory for a copy");
+            (status, Some(copy))
+        }
+        CommandCall::System(words) => {
+            let calls = FileCalls {
+                made: Cell::new(0),
+                asked: Cell::new(0),
+            };
+            let system = FailingSystem {
+                rt,
+                calls: &calls,
+                fail_at: trial.system_call,
+            };
+            let status = run_words(&system, heap, words, out, err);
+            (status, made_by(rt))
+        }
+        _ => return over_disk(rt, alloc, heap, disk_heap, call, trial, out, err),
+    };
+    Done {
+        status,
+        made,
+        requests: (0, 0, 0, 0),
     }
 }
 
 /// A heap that refuses this growth.
-pub fn heap_without(alloc: Global, growth: Option<u64>) -> MeteredHeap<Global> {
+fn heap_without(alloc: Global, growth: Option<u64>) -> MeteredHeap<Global> {
     let refusal = match growth {
         Some(number) => Refusal::Only(number),
         None => Refusal::Never,
@@ -200,7 +203,7 @@ pub fn heap_without(alloc: Global, growth: Option<u64>) -> MeteredHeap<Global> {
 }
 
 /// An output that has taken nothing.
-pub fn out_of(rt: &impl Abort, alloc: Global, outlet: Outlet) -> PatchyOut<Global> {
+fn out_of(rt: &impl Abort, alloc: Global, outlet: Outlet) -> PatchyOut<Global> {
     let Outlet { room, fail_at } = outlet;
     let out = PatchyOut::with_room(alloc, room.all, room.call, fail_at);
     out.expect(rt, "memory for an output")
@@ -210,21 +213,6 @@ pub fn out_of(rt: &impl Abort, alloc: Global, outlet: Outlet) -> PatchyOut<Globa
 fn text_of(rt: &impl Abort, alloc: Global, out: &PatchyOut<Global>) -> String {
     let text = str::from_utf8(out.bytes()).expect(rt, "a text");
     String::from_str(alloc, text).expect(rt, "memory for a text")
-}
-
-/// A command that ended with this status, and what the outputs took.
-pub fn ended(
-    rt: &impl Abort,
-    alloc: Global,
-    status: u8,
-    out: &PatchyOut<Global>,
-    err: &PatchyOut<Global>,
-) -> CommandEnd {
-    CommandEnd {
-        status,
-        text: text_of(rt, alloc, out),
-        told: text_of(rt, alloc, err),
-    }
 }
 
 /// Runs a command, and gives what came of it.
@@ -244,10 +232,16 @@ pub fn run<R: Files + Input + AllocGlobal + Abort>(
     if matches!(call, CommandCall::Copy(..)) {
         out = out_of(rt, alloc, TAKES_ALL);
     }
+    let (opened, made, inputs, refused) = done.requests;
     Ran {
-        end: ended(rt, alloc, done.status, &out, &err),
+        end: CommandEnd {
+            status: done.status,
+            text: text_of(rt, alloc, &out),
+            told: text_of(rt, alloc, &err),
+        },
         made: done.made,
-        requests: done.requests,
+        requests: (opened, made, refused),
+        inputs,
         heap: heap.counts(),
         disk_heap: disk_heap.counts(),
     }
@@ -261,14 +255,18 @@ pub fn written(ran: &Ran) -> &[u8] {
     }
 }
 
-/// The first bytes, of this number.
-pub fn first_bytes<'a>(rt: &impl Abort, bytes: &'a [u8], size: usize) -> &'a [u8] {
-    bytes.get(..size).expect(rt, "a first part")
-}
-
-/// The first part of a text, of this size.
-pub fn first_part<'a>(rt: &impl Abort, text: &'a str, size: usize) -> &'a str {
-    text.get(..size).expect(rt, "a first part")
+/// Asserts the status of a command in a trial, what it writes and what it tells, at this byte or call.
+pub fn assert_written<R: Files + Input + AllocGlobal + Abort>(
+    rt: &R,
+    alloc: Global,
+    call: CommandCall<'_>,
+    trial: &Trial,
+    at: u64,
+    wanted: (u8, &[u8], &str),
+) {
+    let ran = run(rt, alloc, call, trial);
+    let found = (ran.end.status, written(&ran), ran.end.told.as_str());
+    assert_same_at(rt, &at, found, wanted);
 }
 
 /// Asserts how a command ended at this row, call or command line.

@@ -1,8 +1,8 @@
 //! Runs of command lines over files in memory.
-use crate::commands::{CommandCall, DiskRequests, Trial};
-use crate::files::{SmallFile, bytes_of, remove_file};
+use crate::commands::{CommandCall, Trial};
+use crate::files::{SmallFile, bytes_of};
 use crate::same::assert_same_at;
-use mdmp_disk::{Disk, GivenFile, MemoryDisk};
+use mdmp_disk::{GivenFile, MemoryDisk};
 use mdmp_source::PatchyOut;
 use mdmp_test_support::{MEMORY64, MeteredHeap, SYSTEM};
 use mdmp_tool::{run_args, run_on_disk};
@@ -14,45 +14,26 @@ use std::{fs, io};
 /// The bytes of the copy, if there is one among the files of the system, which is removed.
 pub fn made_by<R: Files + AllocGlobal>(rt: &R) -> Option<Vec<u8>> {
     let made = fs::read(rt, "copy.dmp").ok();
-    remove_file(rt, "copy.dmp");
+    let _ = fs::remove_file(rt, "copy.dmp");
     made
 }
 
-/// The bytes of the copy, if there is one on a disk.
-fn made_on(
-    rt: &impl Abort,
-    alloc: Global,
-    disk: &MemoryDisk<'_, &MeteredHeap<Global>>,
-) -> Option<Vec<u8>> {
-    match disk.bytes("copy.dmp") {
-        Some(bytes) => Some(bytes.to_vec(alloc).expect(rt, "memory for a file")),
-        None => None,
-    }
-}
-
-/// These words, each a text of its own.
-fn texts_of(rt: &impl Abort, alloc: Global, name: &[&str], words: &[&str]) -> Vec<String> {
-    let mut texts: Vec<String> = Vec::new(alloc);
-    push_texts(rt, alloc, &mut texts, name);
-    push_texts(rt, alloc, &mut texts, words);
-    texts
-}
-
-fn push_texts(rt: &impl Abort, alloc: Global, texts: &mut Vec<String>, words: &[&str]) {
-    for word in words {
-        let text = word.to_string(alloc).expect(rt, "memory for a word");
-        texts.push(text).expect(rt, "memory for words");
-    }
-}
-
-/// The arguments of a program.
+/// The arguments of a program, each a text of its own.
 fn args_of(rt: &impl Abort, alloc: Global, call: CommandCall<'_>) -> io::Result<Vec<String>> {
-    match call {
-        CommandCall::Program(words) => Ok(texts_of(rt, alloc, &["mdmp"], words)),
-        CommandCall::Arguments(words) => Ok(texts_of(rt, alloc, &[], words)),
-        CommandCall::NoArguments(kind) => Err(io::Error::from(kind)),
+    let (name, words): (&[&str], &[&str]) = match call {
+        CommandCall::Program(words) => (&["mdmp"], words),
+        CommandCall::Arguments(words) => (&[], words),
+        CommandCall::NoArguments(kind) => return Err(io::Error::from(kind)),
         _ => rt.panic("no program"),
+    };
+    let mut texts: Vec<String> = Vec::new(alloc);
+    for part in [name, words] {
+        for word in part {
+            let text = word.to_string(alloc).expect(rt, "memory for a word");
+            texts.push(text).expect(rt, "memory for words");
+        }
     }
+    Ok(texts)
 }
 
 /// The status of a command line or a program over a disk.
@@ -71,28 +52,34 @@ fn status_on<R: AllocGlobal + Abort>(
     }
 }
 
-/// A command's status, what it made and what it asked of the disk.
+/// A command's status, what it made, and what it asked of the disk: files opened and made, inputs read, and refusals.
 #[derive(Drop)]
 pub struct Done {
     pub status: u8,
     pub made: Option<Vec<u8>>,
-    pub requests: DiskRequests,
+    pub requests: (u128, u128, u128, u128),
 }
 
-/// What was asked of a disk.
-fn requests_of(disk: &MemoryDisk<'_, &MeteredHeap<Global>>) -> DiskRequests {
-    let requests = disk.requests();
-    (requests.opened, requests.made, requests.refused)
-}
-
-/// Asserts that the files that a disk was given are as they were.
-fn assert_kept(
+/// What came of a run over a disk. The files that it was given are as they were.
+fn done_on(
     rt: &impl Abort,
+    alloc: Global,
+    status: u8,
     disk: &MemoryDisk<'_, &MeteredHeap<Global>>,
     files: &[GivenFile<'_>],
-) {
+) -> Done {
     for file in files {
         assert_same_at(rt, &file.name, disk.bytes(file.name), Some(file.bytes));
+    }
+    let made = match disk.bytes("copy.dmp") {
+        Some(bytes) => Some(bytes.to_vec(alloc).expect(rt, "memory for a file")),
+        None => None,
+    };
+    let asked = disk.requests();
+    Done {
+        status,
+        made,
+        requests: (asked.opened, asked.made, asked.inputs, asked.refused),
     }
 }
 
@@ -104,24 +91,28 @@ fn over_files<R: AllocGlobal + Abort>(
     disk_heap: &MeteredHeap<Global>,
     files: &[GivenFile<'_>],
     call: CommandCall<'_>,
-    times: u32,
+    trial: &Trial,
     out: &mut PatchyOut<Global>,
     err: &mut PatchyOut<Global>,
 ) -> Done {
-    let mut disk = MemoryDisk::new(disk_heap, files);
+    let mut disk = MemoryDisk::with_input(disk_heap, files, trial.input);
     let mut status = 0;
-    for _ in 0..times {
+    for _ in 0..trial.times {
         status = status_on(rt, alloc, heap, &mut disk, call, out, err);
     }
-    assert_kept(rt, &disk, files);
-    Done {
-        status,
-        made: made_on(rt, alloc, &disk),
-        requests: requests_of(&disk),
+    done_on(rt, alloc, status, &disk, files)
+}
+
+/// A file of a disk, of which this read fails.
+fn given<'a>(name: &'a str, bytes: &'a [u8], fail_at: Option<u64>) -> GivenFile<'a> {
+    GivenFile {
+        name,
+        bytes,
+        fail_at,
     }
 }
 
-/// Runs a command line or a program over a disk that has the small files, and an empty one.
+/// Runs a command line or a program over a disk with the small files, an empty one, and two called as standard input.
 pub fn over_disk<R: AllocGlobal + Abort>(
     rt: &R,
     alloc: Global,
@@ -144,24 +135,8 @@ pub fn over_disk<R: AllocGlobal + Abort>(
         given("module.dmp", &module, fail_at),
         given("empty.dmp", b"", fail_at),
         given("\u{1b}[31m\n.dmp", &SYSTEM, fail_at),
+        given("-", &SYSTEM, fail_at),
+        given("./-", &SYSTEM, fail_at),
     ];
-    over_files(
-        rt,
-        alloc,
-        heap,
-        disk_heap,
-        &files,
-        call,
-        trial.times,
-        out,
-        err,
-    )
-}
-
-fn given<'a>(name: &'a str, bytes: &'a [u8], fail_at: Option<u64>) -> GivenFile<'a> {
-    GivenFile {
-        name,
-        bytes,
-        fail_at,
-    }
+    over_files(rt, alloc, heap, disk_heap, &files, call, trial, out, err)
 }

@@ -4,9 +4,9 @@ use crate::commands::{
     CommandCall, DiskRequests, Ending, GOOD, Outlet, Shown, Trial, assert_end, run, written,
 };
 use crate::files::SmallFile;
-use crate::requests::words_of;
 use crate::same::assert_same_at;
 use crate::texts::WIDE_PARTS;
+use crate::{shown_names, summaries};
 use mdmp_test_support::{
     FAULTY_TEXT, FAULTY_TOLD, FAULTY_VERDICTS, Room, SYSTEM, SYSTEM_TEXT, WIDE_TEXT,
 };
@@ -24,10 +24,7 @@ const NO_REQUEST: DiskRequests = (0, 0, 0);
 /// The memory lists of the file with faults, of which it has none, are good.
 const UNKNOWN: Ending<'static> = (0, "0x0000000000000010: ?? ??\n", "");
 
-/// The words of a copy.
-const COPY: CommandCall<'static> = CommandCall::Line(&["copy", "system.dmp", "copy.dmp", "7"]);
-
-const ROWS: [EndingRow<'static>; 9] = [
+static ROWS: [EndingRow<'static>; 25] = [
     (
         CommandCall::Print(Shown::Verdicts, SmallFile::System),
         (0, "entry 0: ok\n", ""),
@@ -86,95 +83,95 @@ const ROWS: [EndingRow<'static>; 9] = [
         None,
         NO_REQUEST,
     ),
-];
-
-/// A command line, as words with bars between them, how it ends, which bytes its file has, if it makes one, and what it asks of
-/// the disk.
-type LineRow = (
-    &'static str,
-    Ending<'static>,
-    Option<&'static [u8]>,
-    DiskRequests,
-);
-
-const LINES: [LineRow; 14] = [
-    ("list|system.dmp", (0, SYSTEM_TEXT, ""), None, (1, 0, 0)),
     (
-        "check|system.dmp",
+        CommandCall::Line(&["list", "system.dmp"]),
+        (0, SYSTEM_TEXT, ""),
+        None,
+        (1, 0, 0),
+    ),
+    (
+        CommandCall::Line(&["check", "system.dmp"]),
         (0, "entry 0: ok\n", ""),
         None,
         (1, 0, 0),
     ),
-    ("check|wide.dmp", (0, "entry 0: ok\n", ""), None, (1, 0, 0)),
     (
-        "check|--parts|wide.dmp",
+        CommandCall::Line(&["check", "wide.dmp"]),
+        (0, "entry 0: ok\n", ""),
+        None,
+        (1, 0, 0),
+    ),
+    (
+        CommandCall::Line(&["check", "--parts", "wide.dmp"]),
         (1, WIDE_PARTS, "mdmp: 1 bad entries\n"),
         None,
         (1, 0, 0),
     ),
     (
-        "hex|system.dmp|0x10|1",
+        CommandCall::Line(&["hex", "system.dmp", "0x10", "1"]),
         (0, "0x0000000000000010: ??\n", ""),
         None,
         (1, 0, 0),
     ),
-    ("hex|wide.dmp|0x1000|4", (0, WIDE_TEXT, ""), None, (1, 0, 0)),
     (
-        "list|empty.dmp",
+        CommandCall::Line(&["hex", "wide.dmp", "0x1000", "4"]),
+        (0, WIDE_TEXT, ""),
+        None,
+        (1, 0, 0),
+    ),
+    (
+        CommandCall::Line(&["list", "empty.dmp"]),
         (1, "", "mdmp: file of 0 bytes is too short\n"),
         None,
         (1, 0, 0),
     ),
     (
-        "list|other.dmp",
+        CommandCall::Line(&["list", "other.dmp"]),
         (3, "", "mdmp: cannot open other.dmp\n"),
         None,
         (0, 0, 1),
     ),
     // What is copied is not there, and the copy would be.
     (
-        "copy|other.dmp|system.dmp|7",
+        CommandCall::Line(&["copy", "other.dmp", "system.dmp", "7"]),
         (3, "", "mdmp: cannot open other.dmp\n"),
         None,
         (0, 0, 1),
     ),
     // A file is there already.
     (
-        "copy|system.dmp|empty.dmp|7",
+        CommandCall::Line(&["copy", "system.dmp", "empty.dmp", "7"]),
         (3, "", "mdmp: cannot create empty.dmp\n"),
         None,
         (1, 0, 1),
     ),
     // It is the same.
     (
-        "copy|system.dmp|system.dmp|7",
+        CommandCall::Line(&["copy", "system.dmp", "system.dmp", "7"]),
         (3, "", "mdmp: cannot create system.dmp\n"),
         None,
         (1, 0, 1),
     ),
     // A type is refused.
     (
-        "copy|system.dmp|copy.dmp|12",
+        CommandCall::Line(&["copy", "system.dmp", "copy.dmp", "12"]),
         (2, "", "mdmp: type 12 is not copied\n"),
         None,
         NO_REQUEST,
     ),
     (
-        "copy|system.dmp|copy.dmp|7",
+        CommandCall::Line(&["copy", "system.dmp", "copy.dmp", "7"]),
         (0, "", ""),
         Some(&SYSTEM),
         (1, 1, 0),
     ),
     (
-        "copy|empty.dmp|copy.dmp|7",
+        CommandCall::Line(&["copy", "empty.dmp", "copy.dmp", "7"]),
         (1, "", "mdmp: file of 0 bytes is too short\n"),
         Some(b""),
         (1, 1, 0),
     ),
-];
-
-/// Arguments that cannot be had: one is no text, or memory runs out.
-const UNREAD: [EndingRow<'static>; 2] = [
+    // Arguments that cannot be had: one is no text, or memory runs out.
     (
         CommandCall::NoArguments(ErrorKind::InvalidData),
         (2, "", "mdmp: bad command line\n"),
@@ -195,19 +192,21 @@ const TAKES_NOTHING: Outlet = Outlet {
     fail_at: None,
 };
 
-/// Asserts how a command ends in a trial, what it made, and what it asked of its disk.
-fn assert_ends<R: Files + Input + AllocGlobal + Abort>(
+/// Asserts how a command ends in a trial, what it made, and what it asked of its disk. An output that takes nothing is
+/// told nothing.
+pub fn assert_ends<R: Files + Input + AllocGlobal + Abort>(
     rt: &R,
     alloc: Global,
-    (call, wanted, made, requests): EndingRow<'_>,
+    row: &EndingRow<'_>,
     trial: &Trial,
 ) {
+    let (call, (status, text, told), made, requests) = *row;
+    let told = if trial.err.room.all == 0 { "" } else { told };
     let ran = run(rt, alloc, call, trial);
-    assert_end(rt, &wanted, &ran.end, wanted);
-    assert_same_at(rt, &wanted, ran.made.is_some(), made.is_some());
-    let bytes = made.unwrap_or(wanted.1.as_bytes());
-    assert_same_at(rt, &wanted, written(&ran), bytes);
-    assert_same_at(rt, &wanted, ran.requests, requests);
+    assert_end(rt, &row.1, &ran.end, (status, text, told));
+    let found = (ran.made.is_some(), written(&ran), ran.requests);
+    let bytes = made.unwrap_or(text.as_bytes());
+    assert_same_at(rt, &row.1, found, (made.is_some(), bytes, requests));
 }
 
 /// Asserts how commands end, and that an output that takes nothing of what is told changes nothing.
@@ -220,41 +219,21 @@ pub fn assert_each_ends<R: Files + Input + AllocGlobal + Abort>(
         err: TAKES_NOTHING,
         ..GOOD
     };
-    for &(call, (status, text, told), made, requests) in rows {
-        let wanted = (status, text, told);
-        assert_ends(rt, alloc, (call, wanted, made, requests), &GOOD);
-        let wanted = (status, text, "");
-        assert_ends(rt, alloc, (call, wanted, made, requests), &untold);
+    for row in rows {
+        assert_ends(rt, alloc, row, &GOOD);
+        assert_ends(rt, alloc, row, &untold);
     }
 }
 
 #[test]
 fn commands_succeed_or_tell_why(rt: HostRuntime) {
     assert_each_ends(&rt, rt.alloc(), &ROWS);
-}
-
-/// Asserts how a command line ends.
-fn assert_line_ends<R: Files + Input + AllocGlobal + Abort>(rt: &R, alloc: Global, row: &LineRow) {
-    let (line, wanted, made, requests) = *row;
-    let words = words_of(rt, alloc, line);
-    let row = (CommandCall::Line(&words), wanted, made, requests);
-    assert_each_ends(rt, alloc, &[row]);
-}
-
-#[test]
-fn command_lines_succeed_or_tell_why(rt: HostRuntime) {
-    for row in &LINES {
-        assert_line_ends(&rt, rt.alloc(), row);
-    }
-}
-
-#[test]
-fn no_text_and_want_of_memory_for_the_arguments_are_told(rt: HostRuntime) {
-    assert_each_ends(&rt, rt.alloc(), &UNREAD);
+    assert_each_ends(&rt, rt.alloc(), &summaries::ROWS);
+    assert_each_ends(&rt, rt.alloc(), &shown_names::ROWS);
 }
 
 /// Words that are refused, whoever judges them.
-const REFUSED: [CommandCall<'static>; 8] = [
+static REFUSED: [CommandCall<'static>; 8] = [
     CommandCall::Line(&[]),
     CommandCall::Line(&["list"]),
     CommandCall::Line(&["list", "system.dmp", "--window", "167"]),
@@ -266,29 +245,27 @@ const REFUSED: [CommandCall<'static>; 8] = [
     CommandCall::Arguments(&["list"]),
 ];
 
-/// Asserts that words are refused, and ask nothing of the disk.
-fn assert_refused<R: Files + Input + AllocGlobal + Abort>(
-    rt: &R,
-    alloc: Global,
-    calls: &[CommandCall<'_>],
-) {
-    for call in calls {
-        let ran = run(rt, alloc, *call, &GOOD);
+#[test]
+fn words_that_are_refused_touch_no_file(rt: HostRuntime) {
+    for call in &REFUSED {
+        let ran = run(&rt, rt.alloc(), *call, &GOOD);
         let is_told = !ran.end.told.is_empty();
         let found = (ran.end.status, written(&ran).is_empty(), is_told);
-        assert_same_at(rt, &ran.end.told.as_str(), found, (2, true, true));
-        assert_same_at(rt, &ran.end.told.as_str(), ran.requests, NO_REQUEST);
+        assert_same_at(&rt, &ran.end.told.as_str(), found, (2, true, true));
+        assert_same_at(&rt, &ran.end.told.as_str(), ran.requests, NO_REQUEST);
     }
 }
 
-#[test]
-fn words_that_are_refused_touch_no_file(rt: HostRuntime) {
-    assert_refused(&rt, rt.alloc(), &REFUSED);
-}
+/// A copy that is made, and then refused since it is there.
+static COPIED: EndingRow<'static> = (
+    CommandCall::Line(&["copy", "system.dmp", "copy.dmp", "7"]),
+    (3, "", "mdmp: cannot create copy.dmp\n"),
+    Some(&SYSTEM),
+    (2, 1, 1),
+);
 
 #[test]
 fn copy_stands_and_is_not_made_again(rt: HostRuntime) {
-    let wanted = (3, "", "mdmp: cannot create copy.dmp\n");
-    let row: EndingRow<'_> = (COPY, wanted, Some(&SYSTEM), (2, 1, 1));
-    assert_ends(&rt, rt.alloc(), row, &Trial { times: 2, ..GOOD });
+    let trial = Trial { times: 2, ..GOOD };
+    assert_ends(&rt, rt.alloc(), &COPIED, &trial);
 }

@@ -28,58 +28,7 @@ fn engine_status<E: Engine>(
     print_and_report(engine, heap, source, limits, &mut blocks, err).answer
 }
 
-/// The status of a check whose lines have this form.
-fn check_status(
-    rt: &impl Abort,
-    alloc: Global,
-    heap: &MeteredHeap<Global>,
-    form: LineForm,
-    store: PatchyStore<'_>,
-    limits: Limits,
-    out: &mut PatchyOut<Global>,
-    err: &mut PatchyOut<Global>,
-) -> u8 {
-    let rows = EntryRows;
-    let engine = CheckEngine { form, rows };
-    engine_status(rt, alloc, heap, engine, store, limits, out, err)
-}
-
-/// The status of a list whose lines have this form.
-fn list_status(
-    rt: &impl Abort,
-    alloc: Global,
-    heap: &MeteredHeap<Global>,
-    form: LineForm,
-    pdb: bool,
-    store: PatchyStore<'_>,
-    limits: Limits,
-    out: &mut PatchyOut<Global>,
-    err: &mut PatchyOut<Global>,
-) -> u8 {
-    let aside = limits.aside;
-    let engine = ListEngine { form, pdb, aside };
-    engine_status(rt, alloc, heap, engine, store, limits, out, err)
-}
-
-/// The status of a command that prints two bytes from the address 16 on.
-fn hex_status(
-    rt: &impl Abort,
-    alloc: Global,
-    heap: &MeteredHeap<Global>,
-    store: PatchyStore<'_>,
-    limits: Limits,
-    out: &mut PatchyOut<Global>,
-    err: &mut PatchyOut<Global>,
-) -> u8 {
-    let engine = HexEngine {
-        alloc: heap,
-        address: 16,
-        length: 2,
-    };
-    engine_status(rt, alloc, heap, engine, store, limits, out, err)
-}
-
-/// The status of a command that prints.
+/// The status of a command that prints; of memory, two bytes from the address 16 on.
 pub fn print_status(
     rt: &impl Abort,
     alloc: Global,
@@ -90,16 +39,30 @@ pub fn print_status(
     out: &mut PatchyOut<Global>,
     err: &mut PatchyOut<Global>,
 ) -> u8 {
-    let (text, json) = (LineForm::Text, LineForm::Json);
+    let form = match shown {
+        Shown::VerdictObjects | Shown::Objects => LineForm::Json,
+        _ => LineForm::Text,
+    };
     match shown {
-        Shown::Verdicts => check_status(rt, alloc, heap, text, store, limits, out, err),
-        Shown::Items => list_status(rt, alloc, heap, text, false, store, limits, out, err),
-        Shown::ItemsAndSymbols => {
-            list_status(rt, alloc, heap, text, true, store, limits, out, err)
+        Shown::Verdicts | Shown::VerdictObjects => {
+            let rows = EntryRows;
+            let engine = CheckEngine { form, rows };
+            engine_status(rt, alloc, heap, engine, store, limits, out, err)
         }
-        Shown::VerdictObjects => check_status(rt, alloc, heap, json, store, limits, out, err),
-        Shown::Objects => list_status(rt, alloc, heap, json, true, store, limits, out, err),
-        Shown::Memory => hex_status(rt, alloc, heap, store, limits, out, err),
+        Shown::Memory => {
+            let engine = HexEngine {
+                alloc: heap,
+                address: 16,
+                length: 2,
+            };
+            engine_status(rt, alloc, heap, engine, store, limits, out, err)
+        }
+        _ => {
+            let pdb = !matches!(shown, Shown::Items);
+            let aside = limits.aside;
+            let engine = ListEngine { form, pdb, aside };
+            engine_status(rt, alloc, heap, engine, store, limits, out, err)
+        }
     }
 }
 

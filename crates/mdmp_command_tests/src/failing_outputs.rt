@@ -1,7 +1,7 @@
 //! Commands to outputs that fail: at each byte in turn, or where they are full.
 use crate::commands::{
-    CommandCall, GOOD, Outlet, Ran, Shown, TAKES_ALL, Trial, failing_at, first_bytes, first_part,
-    run, written,
+    CommandCall, GOOD, Outlet, Ran, Shown, TAKES_ALL, Trial, assert_written, failing_at, run,
+    written,
 };
 use crate::files::{SmallFile, write_files};
 use crate::same::assert_same_at;
@@ -20,31 +20,29 @@ fn assert_cut<R: Files + Input + AllocGlobal + Abort>(
     taken: usize,
     whole: &Ran,
 ) {
-    let part = run(rt, alloc, call, &Trial { out, ..GOOD });
-    let found = (part.end.status, written(&part), part.end.told.as_str());
-    let start = first_bytes(rt, written(whole), taken);
-    assert_same_at(rt, &taken, found, (3, start, "mdmp: output failed\n"));
+    let start = written(whole).get(..taken).expect(rt, "a first part");
+    let wanted = (3, start, "mdmp: output failed\n");
+    let trial = Trial { out, ..GOOD };
+    assert_written(rt, alloc, call, &trial, taken as u64, wanted);
 }
 
 /// Asserts it of each byte of what is written.
 fn assert_swept<R: Files + Input + AllocGlobal + Abort>(
     rt: &R,
     alloc: Global,
-    calls: &[CommandCall<'_>],
+    call: CommandCall<'_>,
 ) {
-    for call in calls {
-        let whole = run(rt, alloc, *call, &GOOD);
-        let size = written(&whole).len();
-        assert_same_at(rt, &size, (whole.end.status < 2, size > 0), (true, true));
-        for taken in 0..size {
-            let out = failing_at(taken as u64);
-            assert_cut(rt, alloc, *call, out, taken, &whole);
-        }
+    let whole = run(rt, alloc, call, &GOOD);
+    let size = written(&whole).len();
+    assert_same_at(rt, &size, (whole.end.status < 2, size > 0), (true, true));
+    for taken in 0..size {
+        let out = failing_at(taken as u64);
+        assert_cut(rt, alloc, call, out, taken, &whole);
     }
 }
 
 /// Commands that write something.
-const WRITING: [CommandCall<'static>; 15] = [
+static WRITING: [CommandCall<'static>; 15] = [
     CommandCall::Print(Shown::Items, SmallFile::System),
     CommandCall::Print(Shown::Items, SmallFile::Faulty),
     CommandCall::Print(Shown::ItemsAndSymbols, SmallFile::Faulty),
@@ -62,16 +60,11 @@ const WRITING: [CommandCall<'static>; 15] = [
     CommandCall::Line(&["--version"]),
 ];
 
-#[test]
-fn what_is_written_may_fail_at_each_byte(rt: HostRuntime) {
-    assert_swept(&rt, rt.alloc(), &WRITING);
-}
-
 /// A command, how much its output takes in all and a call, and which call fails.
 type CutRow<'a> = (CommandCall<'a>, usize, usize, Option<u64>);
 
 /// Outputs that are full, and last one of which the second call fails.
-const FULL: [CutRow<'static>; 22] = [
+static FULL: [CutRow<'static>; 22] = [
     (
         CommandCall::Print(Shown::Verdicts, SmallFile::Faulty),
         40,
@@ -131,21 +124,25 @@ const FULL: [CutRow<'static>; 22] = [
     (CommandCall::Copy(&[3, 6], SmallFile::Six), 80, 40, Some(1)),
 ];
 
-/// Asserts that outputs that take less than all have the first bytes.
-fn assert_full<R: Files + Input + AllocGlobal + Abort>(rt: &R, alloc: Global, rows: &[CutRow<'_>]) {
-    for &(command, all, call, fail_at) in rows {
-        let whole = run(rt, alloc, command, &GOOD);
-        let room = Room { all, call };
-        let taken = if fail_at.is_some() { call } else { all };
-        let out = Outlet { room, fail_at };
-        assert_cut(rt, alloc, command, out, taken, &whole);
-    }
+/// Asserts that an output that takes less than all has the first bytes.
+fn assert_full<R: Files + Input + AllocGlobal + Abort>(rt: &R, alloc: Global, row: &CutRow<'_>) {
+    let (command, all, call, fail_at) = *row;
+    let whole = run(rt, alloc, command, &GOOD);
+    let room = Room { all, call };
+    let taken = if fail_at.is_some() { call } else { all };
+    let out = Outlet { room, fail_at };
+    assert_cut(rt, alloc, command, out, taken, &whole);
 }
 
 #[test]
-fn output_that_is_full_has_the_first_bytes(rt: HostRuntime) {
+fn what_is_written_may_fail_at_each_byte(rt: HostRuntime) {
     write_files(&rt, rt.alloc());
-    assert_full(&rt, rt.alloc(), &FULL);
+    for call in &WRITING {
+        assert_swept(&rt, rt.alloc(), *call);
+    }
+    for row in &FULL {
+        assert_full(&rt, rt.alloc(), row);
+    }
 }
 
 /// Asserts that what is told has its first bytes, whichever of its calls fails, and that the status and what is
@@ -154,24 +151,22 @@ fn assert_told_in_part<R: Files + Input + AllocGlobal + Abort>(
     rt: &R,
     alloc: Global,
     out: Outlet,
-    calls: &[CommandCall<'_>],
+    call: CommandCall<'_>,
 ) {
-    for call in calls {
-        let whole = run(rt, alloc, *call, &Trial { out, ..GOOD });
-        let told = whole.end.told.as_str();
-        assert_same_at(rt, &told, told.is_empty(), false);
-        for taken in 0..told.len() {
-            let err = failing_at(taken as u64);
-            let part = run(rt, alloc, *call, &Trial { out, err, ..GOOD });
-            let found = (part.end.status, written(&part), part.end.told.as_str());
-            let start = first_part(rt, told, taken);
-            assert_same_at(rt, &told, found, (whole.end.status, written(&whole), start));
-        }
+    let whole = run(rt, alloc, call, &Trial { out, ..GOOD });
+    let told = whole.end.told.as_str();
+    assert_same_at(rt, &told, told.is_empty(), false);
+    for taken in 0..told.len() {
+        let err = failing_at(taken as u64);
+        let start = told.get(..taken).expect(rt, "a first part");
+        let wanted = (whole.end.status, written(&whole), start);
+        let trial = Trial { out, err, ..GOOD };
+        assert_written(rt, alloc, call, &trial, taken as u64, wanted);
     }
 }
 
 /// Commands that tell something.
-const TELLING: [CommandCall<'static>; 15] = [
+static TELLING: [CommandCall<'static>; 15] = [
     CommandCall::Print(Shown::Items, SmallFile::Faulty),
     CommandCall::Print(Shown::Objects, SmallFile::Faulty),
     CommandCall::Print(Shown::Verdicts, SmallFile::Faulty),
@@ -190,13 +185,8 @@ const TELLING: [CommandCall<'static>; 15] = [
     CommandCall::Line(&["print", "system.dmp"]),
 ];
 
-#[test]
-fn what_is_told_may_fail_at_each_byte(rt: HostRuntime) {
-    assert_told_in_part(&rt, rt.alloc(), TAKES_ALL, &TELLING);
-}
-
 /// Command lines that print more than three bytes.
-const PRINTING: [CommandCall<'static>; 5] = [
+static PRINTING: [CommandCall<'static>; 5] = [
     CommandCall::Line(&["list", "system.dmp"]),
     CommandCall::Line(&["check", "faulty.dmp"]),
     CommandCall::Line(&["hex", "wide.dmp", "0x1000", "4"]),
@@ -205,6 +195,12 @@ const PRINTING: [CommandCall<'static>; 5] = [
 ];
 
 #[test]
-fn both_outputs_may_fail(rt: HostRuntime) {
-    assert_told_in_part(&rt, rt.alloc(), failing_at(3), &PRINTING);
+fn what_is_told_may_fail_at_each_byte(rt: HostRuntime) {
+    for call in &TELLING {
+        assert_told_in_part(&rt, rt.alloc(), TAKES_ALL, *call);
+    }
+    // Both outputs fail.
+    for call in &PRINTING {
+        assert_told_in_part(&rt, rt.alloc(), failing_at(3), *call);
+    }
 }

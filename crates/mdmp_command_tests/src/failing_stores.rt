@@ -1,8 +1,6 @@
 //! Commands over a store, or over a file, of which each read fails in turn: what they write, what they tell, and
 //! their status.
-use crate::commands::{
-    CommandCall, Ending, GOOD, Ran, Shown, Trial, assert_end, first_bytes, first_part, run, written,
-};
+use crate::commands::{CommandCall, Ending, GOOD, Ran, Shown, Trial, assert_end, run, written};
 use crate::files::SmallFile;
 use crate::same::assert_same_at;
 use crate::texts::{SYMBOL_LINES, SYMBOL_OBJECTS};
@@ -21,7 +19,7 @@ type FailingStage = (u64, usize, u64);
 /// What is printed, how it ends, and its stages.
 type StagedRow<'a> = (CommandCall<'a>, Ending<'a>, &'a [FailingStage]);
 
-const STAGED: [StagedRow<'static>; 5] = [
+static STAGED: [StagedRow<'static>; 5] = [
     // A list of the system has two lines behind its header and its directory.
     (
         CommandCall::Print(Shown::Items, SmallFile::System),
@@ -71,11 +69,20 @@ fn by_bytes<R: Files + Input + AllocGlobal + Abort>(
     run(rt, alloc, call, &trial)
 }
 
-/// Asserts that a run told that its store failed at this place, behind these bytes.
-fn assert_failed(rt: &impl Abort, alloc: Global, ran: &Ran, at: u64, start: &[u8]) {
+/// Asserts that a run whose read of this number fails tells this place, behind these bytes.
+fn assert_failed<R: Files + Input + AllocGlobal + Abort>(
+    rt: &R,
+    alloc: Global,
+    call: CommandCall<'_>,
+    limits: Limits,
+    fail_at: u64,
+    at: u64,
+    start: &[u8],
+) {
+    let ran = by_bytes(rt, alloc, call, limits, fail_at);
     let told = format!(in alloc; "mdmp: store failed at {at}\n").expect(rt, "memory for a line");
-    let found = (ran.end.status, written(ran), ran.end.told.as_str());
-    assert_same_at(rt, &at, found, (3, start, told.as_str()));
+    let found = (ran.end.status, written(&ran), ran.end.told.as_str());
+    assert_same_at(rt, &fail_at, found, (3, start, told.as_str()));
 }
 
 /// Asserts what is printed and told, whichever read fails, and how it ends where that is none.
@@ -84,24 +91,18 @@ fn assert_stages<R: Files + Input + AllocGlobal + Abort>(
     alloc: Global,
     (call, wanted, stages): StagedRow<'_>,
 ) {
+    let limits = GOOD.limits;
     let mut first = 0;
-    for &(end, size, again) in stages {
-        let start = first_part(rt, wanted.1, size).as_bytes();
-        for fail_at in first..end {
-            let ran = by_bytes(rt, alloc, call, GOOD.limits, fail_at);
-            assert_failed(rt, alloc, &ran, fail_at.saturating_sub(again), start);
+    for (end, size, again) in stages {
+        let start = wanted.1.as_bytes().get(..*size).expect(rt, "a first part");
+        for fail_at in first..*end {
+            let at = fail_at.saturating_sub(*again);
+            assert_failed(rt, alloc, call, limits, fail_at, at, start);
         }
-        first = end;
+        first = *end;
     }
-    let ran = by_bytes(rt, alloc, call, GOOD.limits, first);
+    let ran = by_bytes(rt, alloc, call, limits, first);
     assert_end(rt, &wanted, &ran.end, wanted);
-}
-
-#[test]
-fn prints_end_at_each_read_that_fails(rt: HostRuntime) {
-    for row in &STAGED {
-        assert_stages(&rt, rt.alloc(), *row);
-    }
 }
 
 /// The least window, and names of no byte.
@@ -113,90 +114,116 @@ const COPY: CommandCall<'static> = CommandCall::Copy(&[3, 6], SmallFile::Six);
 /// How many bytes it reads: the header, the directory, both streams three times, and their parts.
 const READS: u64 = 32 + 72 + 3 * (52 + 168) + 14;
 
-/// Asserts that a copy has a first part, whichever read fails, and is whole where that is none of them.
-fn assert_copies<R: Files + Input + AllocGlobal + Abort>(rt: &R, alloc: Global) {
-    let crash = file_of_numbers(alloc, 2, &CRASH).expect(rt, "memory for a file");
-    for fail_at in 0..READS {
-        let ran = by_bytes(rt, alloc, COPY, LEAST, fail_at);
-        let is_told = ran.end.told.starts_with("mdmp: store failed at ");
-        let is_start = crash.starts_with(written(&ran));
-        let found = (ran.end.status, is_told, is_start);
-        assert_same_at(rt, &fail_at, found, (3, true, true));
-    }
-    let ran = by_bytes(rt, alloc, COPY, LEAST, READS);
-    let found = (ran.end.status, written(&ran), ran.end.told.as_str());
-    assert_same_at(rt, &READS, found, (0, crash.as_slice(), ""));
-    // In the header, in the directory, and, behind the first 168 bytes that went out, at the last byte of all.
-    for (fail_at, at, size) in [(0, 0, 0), (103, 103, 0), (777, 435, 168)] {
-        let ran = by_bytes(rt, alloc, COPY, LEAST, fail_at);
-        assert_failed(rt, alloc, &ran, at, first_bytes(rt, &crash, size));
-    }
-}
+/// The number of a read of the copy that fails, what place is told, and how many bytes are written before.
+type FailedCopy = (u64, u64, usize);
 
-#[test]
-fn copy_has_a_first_part(rt: HostRuntime) {
-    assert_copies(&rt, rt.alloc());
-}
+/// In the header, in the directory, and, behind the first 168 bytes that went out, at the last byte of all.
+static FAILED_COPIES: [FailedCopy; 3] = [(0, 0, 0), (103, 103, 0), (777, 435, 168)];
 
-/// A command line over a disk in memory, how it ends, the file that it makes, and how often it reads its file.
-type ReadingRow<'a> = (&'a [&'a str], Ending<'a>, Option<&'a [u8]>, u64);
+/// The name of a command, the command, how it ends, the file that it makes, and how often it reads its file.
+type ReadingRow<'a> = (&'a str, CommandCall<'a>, Ending<'a>, Option<&'a [u8]>, u64);
 
-const READING: [ReadingRow<'static>; 6] = [
+static READING: [ReadingRow<'static>; 6] = [
     // The header and the directory; then the system, the length of its name and the name, or the head of a list,
     // that again with its ranges, and four bytes.
-    (&["list", "system.dmp"], (0, SYSTEM_TEXT, ""), None, 5),
     (
-        &["list", "system.dmp", "--pdb"],
+        "list",
+        CommandCall::Line(&["list", "system.dmp"]),
         (0, SYSTEM_TEXT, ""),
         None,
         5,
     ),
-    (&["check", "system.dmp"], (0, "entry 0: ok\n", ""), None, 5),
     (
-        &["check", "--parts", "system.dmp"],
+        "list --pdb",
+        CommandCall::Line(&["list", "system.dmp", "--pdb"]),
+        (0, SYSTEM_TEXT, ""),
+        None,
+        5,
+    ),
+    (
+        "check",
+        CommandCall::Line(&["check", "system.dmp"]),
         (0, "entry 0: ok\n", ""),
         None,
         5,
     ),
     (
-        &["hex", "wide.dmp", "0x1000", "4"],
+        "check --parts",
+        CommandCall::Line(&["check", "--parts", "system.dmp"]),
+        (0, "entry 0: ok\n", ""),
+        None,
+        5,
+    ),
+    (
+        "hex",
+        CommandCall::Line(&["hex", "wide.dmp", "0x1000", "4"]),
         (0, WIDE_TEXT, ""),
         None,
         5,
     ),
     // The header, the directory, the stream and the length of its name; both again twice, and the name.
     (
-        &["copy", "system.dmp", "copy.dmp", "7", "--window", "168"],
+        "copy",
+        CommandCall::Line(&["copy", "system.dmp", "copy.dmp", "7", "--window", "168"]),
         (0, "", ""),
         Some(&SYSTEM),
         9,
     ),
 ];
 
-/// Asserts that each read of a command line may fail, and how it ends where none does.
+/// Asserts that a command whose read of this number fails has written a first part of these bytes, and whether it
+/// made a file.
+fn assert_start<R: Files + Input + AllocGlobal + Abort>(
+    rt: &R,
+    alloc: Global,
+    at: (&str, u64),
+    call: CommandCall<'_>,
+    whole: &[u8],
+    is_made: bool,
+) {
+    let ran = by_bytes(rt, alloc, call, LEAST, at.1);
+    let is_start = whole.starts_with(written(&ran)) && ran.made.is_some() == is_made;
+    let is_told = ran.end.told.starts_with("mdmp: store failed at ");
+    let found = (ran.end.status, is_start, is_told);
+    assert_same_at(rt, &at, found, (3, true, true));
+}
+
+/// Asserts that each read of a command may fail, and how it ends where none does.
 fn assert_reads<R: Files + Input + AllocGlobal + Abort>(
     rt: &R,
     alloc: Global,
-    (words, wanted, made, reads): ReadingRow<'_>,
+    (name, call, wanted, made, reads): ReadingRow<'_>,
 ) {
     let whole = made.unwrap_or(wanted.1.as_bytes());
     for fail_at in 0..reads {
-        let read = Some(fail_at);
-        let ran = run(rt, alloc, CommandCall::Line(words), &Trial { read, ..GOOD });
-        let is_start = whole.starts_with(written(&ran)) && ran.made.is_some() == made.is_some();
-        let is_told = ran.end.told.starts_with("mdmp: store failed at ");
-        let found = (ran.end.status, is_start, is_told);
-        assert_same_at(rt, &(words, fail_at), found, (3, true, true));
+        assert_start(rt, alloc, (name, fail_at), call, whole, made.is_some());
     }
-    let read = Some(reads);
-    let ran = run(rt, alloc, CommandCall::Line(words), &Trial { read, ..GOOD });
-    assert_end(rt, &words, &ran.end, wanted);
-    assert_same_at(rt, &words, written(&ran), whole);
+    let ran = by_bytes(rt, alloc, call, LEAST, reads);
+    assert_end(rt, &name, &ran.end, wanted);
+    assert_same_at(rt, &name, written(&ran), whole);
+}
+
+/// Asserts that a copy has a first part, whichever read fails, and is whole where that is none of them.
+fn assert_copies<R: Files + Input + AllocGlobal + Abort>(rt: &R, alloc: Global) {
+    let crash = file_of_numbers(alloc, 2, &CRASH).expect(rt, "memory for a file");
+    assert_reads(
+        rt,
+        alloc,
+        ("copy of six", COPY, (0, "", ""), Some(&crash), READS),
+    );
+    for (fail_at, at, size) in &FAILED_COPIES {
+        let start = crash.get(..*size).expect(rt, "a first part");
+        assert_failed(rt, alloc, COPY, LEAST, *fail_at, *at, start);
+    }
 }
 
 #[test]
-fn each_read_of_a_file_may_fail(rt: HostRuntime) {
+fn each_read_may_fail(rt: HostRuntime) {
+    for row in &STAGED {
+        assert_stages(&rt, rt.alloc(), *row);
+    }
     for row in &READING {
         assert_reads(&rt, rt.alloc(), *row);
     }
+    assert_copies(&rt, rt.alloc());
 }

@@ -15,15 +15,8 @@ pub struct FileCalls {
     pub asked: Cell<u64>,
 }
 
-impl FileCalls {
-    /// No calls yet.
-    pub fn none() -> Self {
-        FileCalls {
-            made: Cell::new(0),
-            asked: Cell::new(0),
-        }
-    }
-}
+/// No call of the system fails.
+pub const NONE_FAILS: u64 = u64::MAX;
 
 /// Counts a call, and fails with the one that has to.
 fn count(calls: &FileCalls, fail_at: u64) -> io::Result<()> {
@@ -43,13 +36,6 @@ pub struct FailingSystem<'r, 'a, R> {
     pub calls: &'a FileCalls,
     /// Which of the calls fails.
     pub fail_at: u64,
-}
-
-impl<'r, 'a, R> FailingSystem<'r, 'a, R> {
-    /// The files of a runtime, of whose calls the one with this number alone fails.
-    pub fn new(rt: &'r R, calls: &'a FileCalls, fail_at: u64) -> Self {
-        FailingSystem { rt, calls, fail_at }
-    }
 }
 
 /// A file that was opened.

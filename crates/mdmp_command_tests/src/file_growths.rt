@@ -1,5 +1,6 @@
 //! The growths of a file in memory that a command makes, each of which is refused.
 use crate::commands::{CommandCall, GOOD, Trial, assert_end, run, written};
+use crate::endings::{EndingRow, assert_ends};
 use crate::same::assert_same_at;
 use mdmp_test_support::SYSTEM;
 use std::alloc::{AllocGlobal, Global};
@@ -18,69 +19,53 @@ const COPY: CommandCall<'static> = CommandCall::Line(&[
 
 /// Asserts how a copy ends whose file's growth with this number alone is refused. Tells whether there is one. The
 /// first growth is the name of the file.
-fn is_growth_of_file<R: Files + Input + AllocGlobal + Abort>(
-    rt: &R,
-    alloc: Global,
-    number: u64,
-) -> bool {
+fn has_growth<R: Files + Input + AllocGlobal + Abort>(rt: &R, alloc: Global, number: u64) -> bool {
     let disk_growth = Some(number);
-    let ran = run(
-        rt,
-        alloc,
-        COPY,
-        &Trial {
-            disk_growth,
-            ..GOOD
-        },
-    );
-    assert_same_at(rt, &number, ran.disk_heap.out, 0);
-    if ran.disk_heap.growths <= number {
-        assert_end(rt, &number, &ran.end, (0, "", ""));
-        assert_same_at(rt, &number, written(&ran), SYSTEM.as_slice());
-        return false;
-    }
-    let told = if number == 0 {
-        "mdmp: cannot create copy.dmp\n"
-    } else {
-        "mdmp: output failed\n"
+    let trial = Trial {
+        disk_growth,
+        ..GOOD
     };
-    assert_end(rt, &number, &ran.end, (3, "", told));
-    assert_same_at(rt, &number, ran.made.is_some(), number > 0);
-    assert_same_at(rt, &number, SYSTEM.starts_with(written(&ran)), true);
-    true
-}
-
-/// How many growths of a file that is made were refused, one after the other.
-fn growths_of_file<R: Files + Input + AllocGlobal + Abort>(rt: &R, alloc: Global) -> u64 {
-    for number in 0..20 {
-        if !is_growth_of_file(rt, alloc, number) {
-            return number;
-        }
-    }
-    rt.panic("too many growths")
+    let ran = run(rt, alloc, COPY, &trial);
+    let is_refused = ran.disk_heap.growths > number;
+    let wanted = match (is_refused, number) {
+        (false, _) => (0, "", ""),
+        (true, 0) => (3, "", "mdmp: cannot create copy.dmp\n"),
+        (true, _) => (3, "", "mdmp: output failed\n"),
+    };
+    assert_end(rt, &number, &ran.end, wanted);
+    let bytes = written(&ran);
+    let is_start = SYSTEM.starts_with(bytes) && (is_refused || bytes.len() == SYSTEM.len());
+    let found = (ran.disk_heap.out, ran.made.is_some(), is_start);
+    assert_same_at(rt, &number, found, (0, !is_refused || number > 0, true));
+    is_refused
 }
 
 #[test]
 fn each_growth_of_a_file_that_is_made_may_be_refused(rt: HostRuntime) {
-    let growths = growths_of_file(&rt, rt.alloc());
-    assert_same_at(&rt, &growths, growths > 1, true);
+    let mut growths = 0u64;
+    for number in 0..20 {
+        if !has_growth(&rt, rt.alloc(), number) {
+            break;
+        }
+        growths = growths.saturating_add(1);
+    }
+    assert_same_at(&rt, &growths, growths > 1 && growths < 20, true);
 }
 
-/// Asserts that a file whose name was refused is made later.
-fn assert_made_later<R: Files + Input + AllocGlobal + Abort>(rt: &R, alloc: Global) {
+/// A copy that is made at the second time.
+static LATER: EndingRow<'static> = (
+    COPY,
+    (0, "", "mdmp: cannot create copy.dmp\n"),
+    Some(&SYSTEM),
+    (2, 1, 1),
+);
+
+#[test]
+fn file_whose_name_was_refused_is_made_later(rt: HostRuntime) {
     let trial = Trial {
         disk_growth: Some(0),
         times: 2,
         ..GOOD
     };
-    let ran = run(rt, alloc, COPY, &trial);
-    let told = "mdmp: cannot create copy.dmp\n";
-    assert_end(rt, &told, &ran.end, (0, "", told));
-    assert_same_at(rt, &told, written(&ran), SYSTEM.as_slice());
-    assert_same_at(rt, &told, ran.requests, (2, 1, 1));
-}
-
-#[test]
-fn file_whose_name_was_refused_is_made_later(rt: HostRuntime) {
-    assert_made_later(&rt, rt.alloc());
+    assert_ends(&rt, rt.alloc(), &LATER, &trial);
 }

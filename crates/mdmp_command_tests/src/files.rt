@@ -35,27 +35,20 @@ pub fn bytes_of(rt: &impl Abort, alloc: Global, file: SmallFile) -> Vec<u8> {
     bytes.expect(rt, "memory for a file")
 }
 
-/// Writes a file.
-pub fn write_file(rt: &(impl Files + Abort), name: &str, bytes: &[u8]) {
-    fs::write(rt, name, bytes).expect(rt, "a file that is written")
-}
+/// The small files, by their names.
+static NAMED: [(&str, SmallFile); 5] = [
+    ("system.dmp", SmallFile::System),
+    ("wide.dmp", SmallFile::Wide),
+    ("six.dmp", SmallFile::Six),
+    ("faulty.dmp", SmallFile::Faulty),
+    ("module.dmp", SmallFile::Module),
+];
 
 /// Writes the small files, and removes the file that copies make.
 pub fn write_files(rt: &(impl Files + Abort), alloc: Global) {
-    write_file(rt, "system.dmp", &SYSTEM);
-    write_file(rt, "wide.dmp", &MEMORY64);
-    write_small(rt, alloc, "six.dmp", SmallFile::Six);
-    write_small(rt, alloc, "faulty.dmp", SmallFile::Faulty);
-    write_small(rt, alloc, "module.dmp", SmallFile::Module);
-    remove_file(rt, "copy.dmp");
-}
-
-fn write_small(rt: &(impl Files + Abort), alloc: Global, name: &str, file: SmallFile) {
-    let bytes = bytes_of(rt, alloc, file);
-    write_file(rt, name, &bytes)
-}
-
-/// Removes the file of this name, if there is one.
-pub fn remove_file(rt: &impl Files, name: &str) {
-    let _ = fs::remove_file(rt, name);
+    for (name, file) in &NAMED {
+        let bytes = bytes_of(rt, alloc, *file);
+        fs::write(rt, *name, &bytes).expect(rt, "a file that is written");
+    }
+    let _ = fs::remove_file(rt, "copy.dmp");
 }

@@ -11,20 +11,17 @@ use std::rt::Files;
 /// How a command ends, how many bytes the file has that it makes, if it makes one, and by how many growths.
 type GrownEnd<'a> = (Ending<'a>, Option<usize>, u64);
 
-/// What comes of a command whose growth with this number is refused, and of no other.
-fn run_without<R: Files + Input + AllocGlobal + Abort>(
+/// Asserts how a command ends whose growth with this number alone is refused. Its file has so many bytes, it asks so
+/// often for a block, and it gives all blocks back.
+fn assert_grown<R: Files + Input + AllocGlobal + Abort>(
     rt: &R,
     alloc: Global,
     call: CommandCall<'_>,
     number: u64,
-) -> Ran {
+    (end, made, growths): GrownEnd<'_>,
+) {
     let growth = Some(number);
-    run(rt, alloc, call, &Trial { growth, ..GOOD })
-}
-
-/// Asserts how a command ended, how many bytes its file has, how often it asked for a block, and that it gave all
-/// blocks back.
-fn assert_grown(rt: &impl Abort, ran: &Ran, (end, made, growths): GrownEnd<'_>) {
+    let ran = run(rt, alloc, call, &Trial { growth, ..GOOD });
     assert_end(rt, &(end, growths), &ran.end, end);
     let size = match &ran.made {
         Some(bytes) => Some(bytes.len()),
@@ -45,16 +42,16 @@ fn assert_grows<R: Files + Input + AllocGlobal + Abort>(
     let (_, made, growths) = wanted;
     let empty = if made.is_some() { Some(0) } else { None };
     for number in 0..growths {
-        let ran = run_without(rt, alloc, call, number);
         let refused = (3, "", "mdmp: out of memory\n");
-        assert_grown(rt, &ran, (refused, empty, number.saturating_add(1)));
+        let wanted = (refused, empty, number.saturating_add(1));
+        assert_grown(rt, alloc, call, number, wanted);
     }
-    assert_grown(rt, &run_without(rt, alloc, call, growths), wanted);
+    assert_grown(rt, alloc, call, growths, wanted);
 }
 
 /// Commands over a store: a directory, a window and a name; and where memory is printed, its bytes and which of
 /// them are known; where streams are copied, a directory, a window, two lists and a buffer.
-const STORES: [(CommandCall<'static>, GrownEnd<'static>); 7] = [
+static STORES: [(CommandCall<'static>, GrownEnd<'static>); 7] = [
     (
         CommandCall::Print(Shown::Verdicts, SmallFile::System),
         ((0, "entry 0: ok\n", ""), None, 3),
@@ -88,13 +85,6 @@ const STORES: [(CommandCall<'static>, GrownEnd<'static>); 7] = [
 /// What `check --json` prints of a good file of one entry.
 const GOOD_OBJECT: &str = "{\"line\":\"entry\",\"entry\":0,\"fault\":null}\n";
 
-#[test]
-fn each_growth_over_a_store_may_be_refused(rt: HostRuntime) {
-    for &(call, wanted) in &STORES {
-        assert_grows(&rt, rt.alloc(), call, wanted);
-    }
-}
-
 /// The words of a command line, and how it ends.
 pub type GrownLine<'a> = (&'a [&'a str], GrownEnd<'a>);
 
@@ -105,20 +95,16 @@ pub fn assert_lines<R: Files + Input + AllocGlobal + Abort>(
     lines: &[GrownLine<'_>],
 ) {
     write_files(rt, alloc);
-    for &(words, wanted) in lines {
-        for call in [
-            CommandCall::Line(words),
-            CommandCall::Program(words),
-            CommandCall::System(words),
-        ] {
-            assert_grows(rt, alloc, call, wanted);
-        }
+    for (words, wanted) in lines {
+        assert_grows(rt, alloc, CommandCall::Line(*words), *wanted);
+        assert_grows(rt, alloc, CommandCall::Program(*words), *wanted);
+        assert_grows(rt, alloc, CommandCall::System(*words), *wanted);
     }
 }
 
 /// Command lines without limits: a block of output, and what the command takes; a copy needs no block. The words
 /// are read with other memory.
-const LINES: [GrownLine<'static>; 10] = [
+static LINES: [GrownLine<'static>; 10] = [
     (
         &["check", "system.dmp"],
         ((0, "entry 0: ok\n", ""), None, 4),
@@ -160,6 +146,9 @@ const LINES: [GrownLine<'static>; 10] = [
 ];
 
 #[test]
-fn each_growth_of_a_command_line_may_be_refused(rt: HostRuntime) {
+fn each_growth_may_be_refused(rt: HostRuntime) {
+    for (call, wanted) in &STORES {
+        assert_grows(&rt, rt.alloc(), *call, *wanted);
+    }
     assert_lines(&rt, rt.alloc(), &LINES);
 }

@@ -1,8 +1,7 @@
 //! What words ask for that name limits.
-use crate::requests::assert_asked;
 
 /// Windows and names of each command.
-const LIMITED: &str =
+pub const LIMITED: &str =
     "check|--window|168|--name|0|a => check [a] within 168 0 Some(18446744073709551615) None None
 list|a|--name|1073741824 => list [a] within 65536 1073741824 Some(18446744073709551615) None None
 list|a|--window=1073741824|--pdb => list [a] pdb within 1073741824 4096 Some(18446744073709551615) None None
@@ -20,7 +19,7 @@ copy|a|b|3|--window|1073741824|--name|1073741824 => copy [a] [b] 3 within 107374
 copy|a|b|3|--window|168|--name|0 => copy [a] [b] 3 within 168 0 Some(18446744073709551615) None None";
 
 /// Options of a list, at their ends and past them.
-const OPTIONS: &str = "list|a|--window|167 => bad
+pub const OPTIONS: &str = "list|a|--window|167 => bad
 list|a|--window|168 => list [a] within 168 4096 Some(18446744073709551615) None None
 list|a|--window|1073741824 => list [a] within 1073741824 4096 Some(18446744073709551615) None None
 list|a|--window|1073741825 => bad
@@ -42,7 +41,7 @@ list|a|--budget|-5 => refused
 list|a|--limit|5 => refused";
 
 /// Each limit is that of its option.
-const NAMED: &str = "list|a => list [a] usual
+pub const NAMED: &str = "list|a => list [a] usual
 list|a|--budget|0 => list [a] within 65536 4096 Some(0) None None
 check|--budget=43|a => check [a] within 65536 4096 Some(43) None None
 hex|a|0|1|--budget|0020000 => hex [a] 0 1 within 65536 4096 Some(20000) None None
@@ -64,7 +63,7 @@ list|a|--aside|3|--memory|2|--budget|1 => list [a] within 65536 4096 Some(1) Som
 copy|a|b|3|--memory|2|--budget|1 => copy [a] [b] 3 within 65536 4096 Some(1) Some(2) None";
 
 /// `--untrusted`, over which an option wins.
-const UNTRUSTED: &str = "check|a|--untrusted => check [a] strangers
+pub const UNTRUSTED: &str = "check|a|--untrusted => check [a] strangers
 list|--untrusted|a => list [a] strangers
 hex|a|--untrusted|0|1 => hex [a] 0 1 strangers
 copy|a|b|3|--untrusted => copy [a] [b] 3 strangers
@@ -75,23 +74,3 @@ list|a|--untrusted|--pdb|--aside|0 => list [a] pdb within 65536 4096 Some(671088
 list|a|--budget=1|--untrusted|--memory=2|--aside=3 => list [a] within 65536 4096 Some(1) Some(2) Some(3)
 copy|--budget|1|a|b|3|--untrusted => copy [a] [b] 3 within 65536 4096 Some(1) Some(67108864) Some(67108864)
 list|--|--untrusted => list [--untrusted] usual";
-
-#[test]
-fn each_command_has_its_own_limits(rt: HostRuntime) {
-    assert_asked(&rt, rt.alloc(), LIMITED);
-}
-
-#[test]
-fn limits_are_tested_at_their_ends(rt: HostRuntime) {
-    assert_asked(&rt, rt.alloc(), OPTIONS);
-}
-
-#[test]
-fn each_limit_is_that_of_its_option(rt: HostRuntime) {
-    assert_asked(&rt, rt.alloc(), NAMED);
-}
-
-#[test]
-fn option_wins_over_untrusted(rt: HostRuntime) {
-    assert_asked(&rt, rt.alloc(), UNTRUSTED);
-}

@@ -25,7 +25,7 @@ macro_rules! copy_within {
 }
 
 /// Command lines by their limits on memory: a window of 168 bytes, and 12 for an entry.
-const MEMORY: [GrownLine<'static>; 9] = [
+static MEMORY: [GrownLine<'static>; 9] = [
     (
         &["list", "module.dmp", LEAST, NAMELESS, "--memory=180"],
         ((0, MODULE_FILE_TEXT, ""), None, 3),
@@ -60,13 +60,8 @@ const MEMORY: [GrownLine<'static>; 9] = [
     ),
 ];
 
-#[test]
-fn command_holds_no_more_than_its_limit(rt: HostRuntime) {
-    assert_lines(&rt, rt.alloc(), &MEMORY);
-}
-
 /// Command lines by their limits on what is read of CodeView records.
-const ASIDE: [GrownLine<'static>; 4] = [
+static ASIDE: [GrownLine<'static>; 4] = [
     (
         &["list", "--pdb", "module.dmp", "--aside", "30"],
         ((0, SYMBOL_LINES, ""), None, 4),
@@ -87,16 +82,11 @@ const ASIDE: [GrownLine<'static>; 4] = [
 
 const OVER_ASIDE: &str = "mdmp: aside limit reached: offset 156 size 30\n";
 
-#[test]
-fn list_ends_at_a_record_that_passes_its_limit(rt: HostRuntime) {
-    assert_lines(&rt, rt.alloc(), &ASIDE);
-}
-
 /// What is told of a copy whose budget is too small for it.
 const OVER_BUDGET: Ending<'static> = (3, "", "mdmp: copy needs 778 bytes\n");
 
 /// Copies by their budgets: opening the file takes 32 bytes, 72, 52 and 168.
-const BUDGETS: [GrownLine<'static>; 6] = [
+static BUDGETS: [GrownLine<'static>; 6] = [
     (
         &["copy", "six.dmp", "copy.dmp", "3", "6", "--budget", "778"],
         ((0, "", ""), Some(292), 5),
@@ -136,6 +126,8 @@ const BUDGETS: [GrownLine<'static>; 6] = [
 ];
 
 #[test]
-fn copy_is_made_within_its_budget(rt: HostRuntime) {
+fn command_line_keeps_its_limits_and_its_budget(rt: HostRuntime) {
+    assert_lines(&rt, rt.alloc(), &MEMORY);
+    assert_lines(&rt, rt.alloc(), &ASIDE);
     assert_lines(&rt, rt.alloc(), &BUDGETS);
 }

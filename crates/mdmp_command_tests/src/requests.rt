@@ -1,18 +1,12 @@
 //! What the words of a command line ask for.
+use crate::bad_requests::{BAD, HELP, REFUSED};
+use crate::limit_requests::{LIMITED, NAMED, OPTIONS, UNTRUSTED};
 use crate::same::assert_same_at;
-use mdmp_lister::{Limits, TypeSet};
+use crate::summaries::SUMMARIES;
+use mdmp_lister::Limits;
 use mdmp_words::{Command, Invocation, LineForm, invocation_of};
 use std::alloc::Global;
 use std::process::Abort;
-
-/// A copy that is asked for, as a text.
-fn copy_text(rt: &impl Abort, alloc: Global, file: &str, target: &str, types: &TypeSet) -> String {
-    let mut text = format!(in alloc; "copy [{file}] [{target}]").expect(rt, "memory for a text");
-    for stream_type in types.types() {
-        write!(text, " {stream_type}").expect(rt, "memory for a type");
-    }
-    text
-}
 
 /// How lines are printed, as a word behind the name.
 fn form_words(form: LineForm) -> &'static str {
@@ -36,21 +30,18 @@ fn command_text(rt: &impl Abort, alloc: Global, file: &str, command: &Command<'_
             format!(in alloc; "list [{file}]{form}{symbols}")
         }
         Command::Hex(span) => { format!(in alloc; "hex [{file}] {} {}", span.address, span.length) }
-        Command::Copy { target, types } => return copy_text(rt, alloc, file, *target, types),
+        Command::Copy { target, types } => {
+            let mut text = format!(in alloc; "copy [{file}] [{target}]").expect(
+                rt,
+                "memory for a text",
+            );
+            for stream_type in types.types() {
+                write!(text, " {stream_type}").expect(rt, "memory for a type");
+            }
+            return text;
+        }
     };
     text.expect(rt, "memory for a text")
-}
-
-/// A command as a text: what is to be done, and within which limits.
-fn text_of(
-    rt: &impl Abort,
-    alloc: Global,
-    file: &str,
-    limits: Limits,
-    command: &Command<'_>,
-) -> String {
-    let command = command_text(rt, alloc, file, command);
-    text_within(rt, alloc, command.as_str(), limits)
 }
 
 /// A text, and its limits: the window, the longest name, and what may be read, held, and read of CodeView records.
@@ -86,7 +77,10 @@ fn asked_by<'a>(rt: &impl Abort, alloc: Global, words: &'a [&'a str]) -> String 
             file,
             limits,
             command,
-        } => return text_of(rt, alloc, file, limits, &command),
+        } => {
+            let command = command_text(rt, alloc, file, &command);
+            return text_within(rt, alloc, command.as_str(), limits);
+        }
         Invocation::Summarize {
             files,
             limits,
@@ -116,27 +110,23 @@ pub fn words_of<'a>(rt: &impl Abort, alloc: Global, line: &'a str) -> Vec<&'a st
     words
 }
 
-/// What is asked for, with its limits: those are named by a word, or written out. Where nothing is asked for there are none.
-fn wanted_of(rt: &impl Abort, alloc: Global, asked: &str) -> String {
-    if let Some((command, _)) = asked.split_once(" usual") {
-        return format!(in alloc; "{command}{USUAL}").expect(rt, "memory for a text");
-    }
-    if let Some((command, _)) = asked.split_once(" strangers") {
-        return format!(in alloc; "{command}{STRANGERS}").expect(rt, "memory for a text");
-    }
-    String::from_str(alloc, asked).expect(rt, "memory for a text")
-}
-
-/// Asserts what words come to.
-pub fn assert_words(rt: &impl Abort, alloc: Global, words: &[&str], asked: &str) {
-    let wanted = wanted_of(rt, alloc, asked);
+/// Asserts what words come to. What is asked for names its limits by a word, or has them written out.
+fn assert_words(rt: &impl Abort, alloc: Global, words: &[&str], asked: &str) {
     let found = asked_by(rt, alloc, words);
+    let (command, limits) = if let Some((command, _)) = asked.split_once(" usual") {
+        (command, USUAL)
+    } else if let Some((command, _)) = asked.split_once(" strangers") {
+        (command, STRANGERS)
+    } else {
+        (asked, "")
+    };
+    let wanted = format!(in alloc; "{command}{limits}").expect(rt, "memory for a text");
     assert_same_at(rt, &words, found.as_str(), wanted.as_str());
 }
 
 /// Asserts what the words of each line come to. A line has words with bars between them, an arrow, and what they ask for. It is
 /// a text, since a list of many texts is dear for the prover.
-pub fn assert_asked(rt: &impl Abort, alloc: Global, lines: &str) {
+fn assert_asked(rt: &impl Abort, alloc: Global, lines: &str) {
     for line in lines.lines() {
         let (words, asked) = line.split_once(" => ").expect(rt, "an arrow");
         let words = words_of(rt, alloc, words);
@@ -214,9 +204,15 @@ copy|a|b => refused
 copy|a|b|1|2|3|4|5|6|7|8|9|10|11|12|13|14|15|016 => copy [a] [b] 1 2 3 4 5 6 7 8 9 10 11 12 13 14 15 16 usual
 copy|a|b|1|2|3|4|5|6|7|8|9|10|11|12|13|14|15|16|17 => together";
 
+/// The lines of all tests.
+static LINES: [&str; 11] = [
+    COMMANDS, SPANS, TYPES, LIMITED, OPTIONS, NAMED, UNTRUSTED, SUMMARIES, BAD, REFUSED, HELP,
+];
+
 #[test]
-fn invocation_of_succeeds(rt: HostRuntime) {
-    assert_asked(&rt, rt.alloc(), COMMANDS);
-    assert_asked(&rt, rt.alloc(), SPANS);
-    assert_asked(&rt, rt.alloc(), TYPES);
+fn invocation_of_succeeds_or_tells_why(rt: HostRuntime) {
+    assert_words(&rt, rt.alloc(), &[], "refused");
+    for lines in &LINES {
+        assert_asked(&rt, rt.alloc(), *lines);
+    }
 }

@@ -1,6 +1,6 @@
 //! Names of files with control characters, which are told as `\u` and four digits.
 use crate::commands::CommandCall;
-use crate::endings::{EndingRow, assert_each_ends};
+use crate::endings::EndingRow;
 
 /// The summary of the file whose name has an escape and a line feed.
 const ODD_SUMMARY: &str = "\\u001b[31m\\u000a.dmp: no crash
@@ -19,7 +19,8 @@ const ODD_OBJECT: &str =
 \"modules\":\"0\",\"exceptions\":\"0\",\"ranges\":\"0\",\"memory\":\"0\"},\"bad_entries\":0,\"first_error\":null,\
 \"parts_outside\":0,\"first_outside\":null,\"main_module\":null,\"modules\":[],\"threads\":[],\"crash_info\":null}\n";
 
-const ROWS: [EndingRow<'static>; 8] = [
+/// Files whose names have control characters or others, and a word that has some.
+pub static ROWS: [EndingRow<'static>; 9] = [
     (
         CommandCall::Line(&["summary", "\u{1b}[31m\n.dmp"]),
         (0, ODD_SUMMARY, ""),
@@ -82,9 +83,15 @@ const ROWS: [EndingRow<'static>; 8] = [
         None,
         (0, 0, 1),
     ),
+    // What a terminal would take for an order is escaped in a bad word too.
+    (
+        CommandCall::Line(&["list", "a", "--name", "\u{1b}[31m\\\u{7f}\n"]),
+        (
+            2,
+            "",
+            "mdmp: bad command line: --name '\\u001b[31m\\\\u007f\\u000a': expected a decimal number, 0 to 1073741824\n",
+        ),
+        None,
+        (0, 0, 0),
+    ),
 ];
-
-#[test]
-fn names_are_told_without_control_characters(rt: HostRuntime) {
-    assert_each_ends(&rt, rt.alloc(), &ROWS);
-}

@@ -18,7 +18,7 @@ const HEADER: FilePart = (
 const DIRECTORY: FilePart = (20_000, b"\x07\0\0\0\x38\0\0\0\x40\x9c\0\0");
 
 /// A system, its record at 40,000 and its name at 60,000.
-pub const SPREAD_SYSTEM: [FilePart; 4] = [
+pub static SPREAD_SYSTEM: [FilePart; 4] = [
     HEADER,
     DIRECTORY,
     (
@@ -31,7 +31,7 @@ pub const SPREAD_SYSTEM: [FilePart; 4] = [
 
 /// The same, where the length of the name stands at 40,508, at the end of the block that begins with the record,
 /// and its text behind that.
-pub const SPREAD_NAME: [FilePart; 4] = [
+pub static SPREAD_NAME: [FilePart; 4] = [
     HEADER,
     DIRECTORY,
     (
@@ -52,7 +52,7 @@ system architecture 9 level 6 revision 3 processors 4 product 1 version 6.1.7601
 const NAME: &[u8] = b"\x1c\0\0\0S\0e\0r\0v\0i\0c\0e\0 \0P\0a\0c\0k\0 \x001\0\0\0";
 
 /// One range of 64-bit memory, at 40,000, whose bytes stand at 100,000, and a memory list of no ranges, at 60,000.
-pub const SPREAD_MEMORY: [FilePart; 5] = [
+pub static SPREAD_MEMORY: [FilePart; 5] = [
     (
         0,
         b"MDMP\x93\xa7\0\0\x02\0\0\0\x20\x4e\0\0\0\0\0\0\0\0\0\0\0\0\0\0\0\0\0\0",

@@ -1,17 +1,22 @@
 //! Commands whose FILE is `-`: standard input, over a disk in memory that has some.
-use crate::commands::{CommandEnd, Ending, GOOD, assert_end, ended, heap_without, out_of};
+use crate::commands::{CommandCall, Ending, GOOD, Trial, assert_end, run};
 use crate::same::assert_same_at;
-use mdmp_disk::{GivenFile, GivenInput, MemoryDisk};
+use mdmp_disk::GivenInput;
 use mdmp_test_support::{MEMORY64, SYSTEM, SYSTEM_TEXT, WIDE_TEXT};
-use mdmp_tool::run_on_disk;
 use std::alloc::{AllocGlobal, Global};
 use std::process::Abort;
+use std::rt::Files;
 
 /// How many files were opened, how often standard input was read, and how often that was refused.
 type InputRequests = (u128, u128, u128);
 
 /// A command line, what standard input gives, how the command ends, and what it asks of the disk.
-type InputRow<'a> = (&'a [&'a str], GivenInput<'a>, Ending<'a>, InputRequests);
+type InputRow<'a> = (
+    &'a [&'a str],
+    GivenInput<'static>,
+    Ending<'a>,
+    InputRequests,
+);
 
 /// An input that is a file of a system record.
 const SYSTEM_INPUT: GivenInput<'static> = GivenInput {
@@ -37,36 +42,6 @@ const FAILING: GivenInput<'static> = GivenInput {
     fail_at: Some(5),
 };
 
-/// Runs a command line over this input, and gives what it asked for too. The growth of this number is refused.
-fn run_over<R: AllocGlobal + Abort>(
-    rt: &R,
-    alloc: Global,
-    words: &[&str],
-    input: GivenInput<'_>,
-    growth: Option<u64>,
-) -> (CommandEnd, InputRequests) {
-    let heap = heap_without(alloc, growth);
-    let files = [
-        GivenFile {
-            name: "./-",
-            bytes: &SYSTEM,
-            fail_at: None,
-        },
-        GivenFile {
-            name: "-",
-            bytes: &SYSTEM,
-            fail_at: None,
-        },
-    ];
-    let mut disk = MemoryDisk::with_input(alloc, &files, input);
-    let mut out = out_of(rt, alloc, GOOD.out);
-    let mut err = out_of(rt, alloc, GOOD.err);
-    let status = run_on_disk(rt, &mut disk, &heap, words, &mut out, &mut err);
-    let asked = disk.requests();
-    let asked = (asked.opened, asked.inputs, asked.refused);
-    (ended(rt, alloc, status, &out, &err), asked)
-}
-
 /// The summary of standard input.
 const SUMMARY: &str = "-: no crash
   system Windows 6.1.7601, x64, processors 4
@@ -74,7 +49,7 @@ const SUMMARY: &str = "-: no crash
   streams 1 threads 0 modules 0 exceptions 0 ranges 0 memory 0
   file good\n";
 
-const ROWS: [InputRow<'static>; 14] = [
+static ROWS: [InputRow<'static>; 14] = [
     (
         &["list", "-"],
         SYSTEM_INPUT,
@@ -165,31 +140,70 @@ const ROWS: [InputRow<'static>; 14] = [
     ),
 ];
 
+/// Asserts how a command line ends, and what it asks for.
+fn assert_over<R: Files + Input + AllocGlobal + Abort>(rt: &R, alloc: Global, row: &InputRow<'_>) {
+    let (words, input, wanted, requests) = *row;
+    let ran = run(
+        rt,
+        alloc,
+        CommandCall::Line(words),
+        &Trial { input, ..GOOD },
+    );
+    assert_end(rt, &words, &ran.end, wanted);
+    let (opened, _, refused) = ran.requests;
+    assert_same_at(rt, &words, (opened, ran.inputs, refused), requests);
+}
+
 #[test]
 fn commands_succeed_or_tell_why(rt: HostRuntime) {
-    for &(words, input, wanted, requests) in &ROWS {
-        let (end, asked) = run_over(&rt, rt.alloc(), words, input, None);
-        assert_end(&rt, &words, &end, wanted);
-        assert_same_at(&rt, &words, asked, requests);
+    for row in &ROWS {
+        assert_over(&rt, rt.alloc(), row);
     }
+}
+
+/// The words of a command line over a system, and what it prints.
+type PrintingWords<'a> = (&'a [&'a str], &'a str);
+
+static GROWING: [PrintingWords<'static>; 2] = [
+    (&["list", "-"], SYSTEM_TEXT),
+    (&["summary", "-"], SUMMARY),
+];
+
+/// Tells whether a command line has a growth of this number. Asserts that it tells a refusal of that, and else succeeds.
+fn has_growth<R: Files + Input + AllocGlobal + Abort>(
+    rt: &R,
+    alloc: Global,
+    (words, text): PrintingWords<'_>,
+    number: u64,
+) -> bool {
+    let growth = Some(number);
+    let input = SYSTEM_INPUT;
+    let trial = Trial {
+        growth,
+        input,
+        ..GOOD
+    };
+    let ran = run(rt, alloc, CommandCall::Line(words), &trial);
+    if ran.end.status == 0 {
+        assert_end(rt, &words, &ran.end, (0, text, ""));
+        return false;
+    }
+    let is_told = ran.end.told.as_str().ends_with(": out of memory\n");
+    assert_same_at(rt, &(words, number), (ran.end.status, is_told), (3, true));
+    true
 }
 
 #[test]
 fn each_growth_for_standard_input_may_be_refused(rt: HostRuntime) {
-    for words in [["list", "-"], ["summary", "-"]] {
-        let (good, _) = run_over(&rt, rt.alloc(), &words, SYSTEM_INPUT, None);
+    for row in &GROWING {
         let mut refused = 0u64;
         for growth in 0..64 {
-            let (end, _) = run_over(&rt, rt.alloc(), &words, SYSTEM_INPUT, Some(growth));
-            if end.status == 0 {
-                assert_end(&rt, &words, &end, (0, good.text.as_str(), ""));
+            if !has_growth(&rt, rt.alloc(), *row, growth) {
                 break;
             }
-            let is_told = end.told.as_str().ends_with(": out of memory\n");
-            assert_same_at(&rt, &(words, growth), (end.status, is_told), (3, true));
             refused = refused.saturating_add(1);
         }
         // The bytes of the input, and what a command takes over a file.
-        assert_same_at(&rt, &words, 4 <= refused && refused < 64, true);
+        assert_same_at(&rt, &row.0, 4 <= refused && refused < 64, true);
     }
 }

@@ -1,14 +1,9 @@
 //! `summary` of one file and of several: what its words ask for, and how it ends.
-use crate::commands::{CommandCall, GOOD, Outlet, TAKES_ALL, Trial, run, written};
-use crate::endings::{EndingRow, assert_each_ends};
-use crate::requests::assert_asked;
-use crate::same::assert_same_at;
-use std::alloc::{AllocGlobal, Global};
-use std::process::Abort;
-use std::rt::Files;
+use crate::commands::{CommandCall, GOOD, Outlet, TAKES_ALL, Trial, assert_written, run, written};
+use crate::endings::EndingRow;
 
 /// Words of `summary`. The files keep their order, and may be named twice.
-const REQUESTS: &str = "summary|a.dmp => summary [a.dmp] usual
+pub const SUMMARIES: &str = "summary|a.dmp => summary [a.dmp] usual
 summary|b|a|b| c  => summary [b] [a] [b] [ c ] usual
 summary|--json|a|b => summary [a] [b] json usual
 summary|a|--json|b => summary [a] [b] json usual
@@ -18,11 +13,6 @@ summary|--window|168|a|--memory=5|b => summary [a] [b] within 168 4096 Some(1844
 summary => refused
 summary|--json => refused
 summary|a|--json|--json => refused";
-
-#[test]
-fn words_of_summary_succeed(rt: HostRuntime) {
-    assert_asked(&rt, rt.alloc(), REQUESTS);
-}
 
 /// The summary of the file with a system.
 const SYSTEM_SUMMARY: &str = "system.dmp: no crash
@@ -54,7 +44,8 @@ system.dmp: no crash
 const SHORT_AND_MISSING: &str =
     "mdmp: empty.dmp: file of 0 bytes is too short\nmdmp: cannot open other.dmp\n";
 
-const ENDINGS: [EndingRow<'static>; 9] = [
+/// How summaries end.
+pub static ROWS: [EndingRow<'static>; 9] = [
     (
         CommandCall::Line(&["summary", "system.dmp"]),
         (0, SYSTEM_SUMMARY, ""),
@@ -123,11 +114,6 @@ const ENDINGS: [EndingRow<'static>; 9] = [
     ),
 ];
 
-#[test]
-fn summaries_succeed_or_tell_why(rt: HostRuntime) {
-    assert_each_ends(&rt, rt.alloc(), &ENDINGS);
-}
-
 /// The objects of two files.
 const TWO_OBJECTS: CommandCall<'static> = CommandCall::Line(&[
     "summary",
@@ -136,19 +122,21 @@ const TWO_OBJECTS: CommandCall<'static> = CommandCall::Line(&[
     "faulty.dmp",
 ]);
 
-/// Asserts that each object reaches the output by one call: a third one, which would fail, is not made.
-fn assert_two_writes<R: Files + Input + AllocGlobal + Abort>(rt: &R, alloc: Global) {
-    let whole = run(rt, alloc, TWO_OBJECTS, &GOOD);
+#[test]
+fn each_object_is_one_write(rt: HostRuntime) {
+    let whole = run(&rt, rt.alloc(), TWO_OBJECTS, &GOOD);
+    // A third call, which would fail, is not made.
     let out = Outlet {
         fail_at: Some(2),
         ..TAKES_ALL
     };
-    let same = run(rt, alloc, TWO_OBJECTS, &Trial { out, ..GOOD });
-    let found = (same.end.status, written(&same));
-    assert_same_at(rt, &2, found, (1, written(&whole)));
-}
-
-#[test]
-fn each_object_is_one_write(rt: HostRuntime) {
-    assert_two_writes(&rt, rt.alloc());
+    let wanted = (1, written(&whole), whole.end.told.as_str());
+    assert_written(
+        &rt,
+        rt.alloc(),
+        TWO_OBJECTS,
+        &Trial { out, ..GOOD },
+        2,
+        wanted,
+    );
 }

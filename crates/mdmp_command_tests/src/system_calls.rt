@@ -1,31 +1,13 @@
 //! Command lines over files of the system, of which each call fails in turn.
-use crate::commands::{CommandEnd, GOOD, ended, out_of};
-use crate::disk_runs::made_by;
-use crate::failing_system::{FailingSystem, FileCalls};
+use crate::commands::{CommandCall, GOOD, Trial, run};
+use crate::file_blocks::{FileRow, OpenedReads, assert_file};
 use crate::files::write_files;
 use crate::same::assert_same_at;
 use crate::spread_files::{SPREAD_MEMORY, SPREAD_NAME, SPREAD_SYSTEM, SPREAD_TEXT, write_spread};
-use mdmp_source::{FileStore, Store};
 use mdmp_test_support::{SYSTEM, SYSTEM_TEXT, WIDE_TEXT};
-use mdmp_tool::run_words;
 use std::alloc::{AllocGlobal, Global};
 use std::process::Abort;
 use std::rt::Files;
-
-/// Runs a command line over files of the system, of whose calls the one with this number alone fails.
-fn run_failing<R: Files + Input + AllocGlobal + Abort>(
-    rt: &R,
-    alloc: Global,
-    words: &[&str],
-    fail_at: u64,
-) -> CommandEnd {
-    let calls = FileCalls::none();
-    let system = FailingSystem::new(rt, &calls, fail_at);
-    let mut out = out_of(rt, alloc, GOOD.out);
-    let mut err = out_of(rt, alloc, GOOD.err);
-    let status = run_words(&system, alloc, words, &mut out, &mut err);
-    ended(rt, alloc, status, &out, &err)
-}
 
 /// The number behind the last of some calls, and what is told where one of them fails.
 type FailingCalls<'a> = (u64, &'a str);
@@ -43,45 +25,41 @@ type SystemCallsRow<'a> = (
 fn assert_at<R: Files + Input + AllocGlobal + Abort>(
     rt: &R,
     alloc: Global,
-    (words, text, made, _): SystemCallsRow<'_>,
-    call: u64,
+    row: &SystemCallsRow<'_>,
+    system_call: u64,
     (status, told): (u8, &str),
 ) {
-    let end = run_failing(rt, alloc, words, call);
-    assert_same_at(
-        rt,
-        &(words, call),
-        (end.status, end.told.as_str()),
-        (status, told),
-    );
-    let copy = made_by(rt);
+    let (words, text, made, _) = *row;
+    let trial = Trial {
+        system_call,
+        ..GOOD
+    };
+    let ran = run(rt, alloc, CommandCall::System(words), &trial);
     let is_made = made.is_some() && !told.starts_with("mdmp: cannot ");
-    assert_same_at(rt, &(words, call), copy.is_some(), is_made);
-    let copy = copy.unwrap_or(Vec::new(alloc));
-    let is_start = text.starts_with(end.text.as_str())
-        && made.unwrap_or(b"").starts_with(copy.as_slice());
-    let size = end.text.len().saturating_add(copy.len());
-    let whole = text.len().saturating_add(made.unwrap_or(b"").len());
-    let found = (is_start, status == 3 || size == whole);
-    assert_same_at(rt, &(words, call), found, (true, true));
+    let found = (ran.end.status, ran.end.told.as_str(), ran.made.is_some());
+    assert_same_at(rt, &(words, system_call), found, (status, told, is_made));
+    let copy = ran.made.unwrap_or(Vec::new(alloc));
+    let bytes = made.unwrap_or(b"");
+    let is_start = text.starts_with(ran.end.text.as_str()) && bytes.starts_with(copy.as_slice());
+    let is_whole = ran.end.text.len() == text.len() && copy.len() == bytes.len();
+    let found = (is_start, status == 3 || is_whole);
+    assert_same_at(rt, &(words, system_call), found, (true, true));
 }
 
 /// Asserts that each call of the system that fails is told, and that the command line ends well where none does.
 fn assert_calls<R: Files + Input + AllocGlobal + Abort>(
     rt: &R,
     alloc: Global,
-    rows: &[SystemCallsRow<'_>],
+    row: &SystemCallsRow<'_>,
 ) {
-    for row in rows {
-        let mut first = 0;
-        for &(end, told) in row.3 {
-            for call in first..end {
-                assert_at(rt, alloc, *row, call, (3, told));
-            }
-            first = end;
+    let mut first = 0;
+    for (end, told) in row.3 {
+        for call in first..*end {
+            assert_at(rt, alloc, row, call, (3, *told));
         }
-        assert_at(rt, alloc, *row, first, (0, ""));
+        first = *end;
     }
+    assert_at(rt, alloc, row, first, (0, ""));
 }
 
 /// Where no block holds two parts, the header is sought and read, the directory, the system, and the length of its
@@ -100,7 +78,7 @@ const SMALL: [FailingCalls<'static>; 2] = [
     (5, "mdmp: store failed at 0\n"),
 ];
 
-const PRINTS: [SystemCallsRow<'static>; 9] = [
+static ROWS: [SystemCallsRow<'static>; 11] = [
     (&["list", "system.dmp"], SYSTEM_TEXT, None, &SMALL),
     (&["list", "system.dmp", "--pdb"], SYSTEM_TEXT, None, &SMALL),
     (&["check", "system.dmp"], "entry 0: ok\n", None, &SMALL),
@@ -155,19 +133,7 @@ const PRINTS: [SystemCallsRow<'static>; 9] = [
             (17, "mdmp: store failed at 100000\n"),
         ],
     ),
-];
-
-#[test]
-fn each_call_behind_a_print_may_fail(rt: HostRuntime) {
-    write_files(&rt, rt.alloc());
-    write_spread(&rt, "spread.dmp", &SPREAD_SYSTEM);
-    write_spread(&rt, "name.dmp", &SPREAD_NAME);
-    write_spread(&rt, "memory.dmp", &SPREAD_MEMORY);
-    assert_calls(&rt, rt.alloc(), &PRINTS);
-}
-
-/// What is copied is looked up, opened and asked for its size, and the copy made.
-const COPIES: [SystemCallsRow<'static>; 2] = [
+    // What is copied is looked up, opened and asked for its size, and the copy made.
     (
         &["copy", "system.dmp", "copy.dmp", "7"],
         "",
@@ -200,28 +166,27 @@ const COPIES: [SystemCallsRow<'static>; 2] = [
 ];
 
 #[test]
-fn each_call_behind_a_copy_may_fail(rt: HostRuntime) {
+fn each_call_behind_a_command_may_fail(rt: HostRuntime) {
     write_files(&rt, rt.alloc());
     write_spread(&rt, "spread.dmp", &SPREAD_SYSTEM);
-    assert_calls(&rt, rt.alloc(), &COPIES);
-}
-
-/// How many bytes the file of this name has, where the call of this number fails.
-fn size_without<R: Files + AllocGlobal>(rt: &R, name: &str, fail_at: u64) -> Option<u64> {
-    let calls = FileCalls::none();
-    let system = FailingSystem::new(rt, &calls, fail_at);
-    match FileStore::open(&system, name) {
-        Ok(store) => Some(store.size()),
-        Err(_) => None,
+    write_spread(&rt, "name.dmp", &SPREAD_NAME);
+    write_spread(&rt, "memory.dmp", &SPREAD_MEMORY);
+    for row in &ROWS {
+        assert_calls(&rt, rt.alloc(), row);
     }
 }
+
+/// A file is opened, and asked for its size.
+static OPENED: [FileRow<'static>; 3] = [
+    ("system.dmp", 0, None, OpenedReads::Asked(&[])),
+    ("system.dmp", 1, None, OpenedReads::Asked(&[])),
+    ("system.dmp", 2, Some(136), OpenedReads::Asked(&[])),
+];
 
 #[test]
 fn file_store_open_tells_each_call_that_fails(rt: HostRuntime) {
     write_files(&rt, rt.alloc());
-    // It is opened, and asked for its size.
-    for (call, size) in [(0, None), (1, None), (2, Some(136))] {
-        let found = size_without(&rt, "system.dmp", call);
-        assert_same_at(&rt, &call, found, size);
+    for row in &OPENED {
+        assert_file(&rt, row);
     }
 }
