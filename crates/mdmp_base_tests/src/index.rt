@@ -1,8 +1,8 @@
 //! An index of ranges, and a search in it.
-use crate::same::{assert_same, assert_same_at};
+use crate::map::range;
+use crate::same::assert_same_at;
 use mdmp_index::{IndexSlot, Listed, index, read, slot_at};
 use mdmp_map::Range;
-use std::process::Abort;
 
 /// How many slots an index of these tests has at most.
 const ROOM: usize = 8;
@@ -14,17 +14,6 @@ const NONE: IndexSlot = IndexSlot {
     offset: 0,
     owner: 0,
 };
-
-/// A range: its start, its length and its offset in the file.
-macro_rules! range {
-    ($start:expr, $length:expr, $offset:expr) => {
-        Range {
-            start: $start,
-            length: $length,
-            offset: $offset,
-        }
-    };
-}
 
 /// A slot: its start, its length, its offset in the file and its owner.
 macro_rules! slot {
@@ -38,24 +27,10 @@ macro_rules! slot {
     };
 }
 
-/// Makes an index of ranges: how many slots it has, and the slots.
-fn index_of(rt: &impl Abort, ranges: &[Range]) -> (usize, [IndexSlot; ROOM]) {
-    assert!(rt; ranges.len() <= ROOM / 2);
-    let mut slots = [NONE; ROOM];
-    let listed = Listed::new(ranges).expect(rt, "ranges that fit");
-    let count = index(&listed, &mut slots);
-    (count, slots)
-}
-
-/// The first slots.
-fn first_slots(slots: &[IndexSlot], count: usize) -> &[IndexSlot] {
-    &slots[..count.min(slots.len())]
-}
-
-/// The owner of the slot of an address.
-fn owner_at(slots: &[IndexSlot], address: u64) -> Option<u64> {
+/// The slot that is found for an address.
+fn slot_of(slots: &[IndexSlot], address: u64) -> Option<IndexSlot> {
     let number = slot_at(slots, address)?;
-    Some(slots[number].owner)
+    Some(slots[number])
 }
 
 /// The first of these ranges is inside the second, and the third has no bytes.
@@ -65,86 +40,103 @@ const OVERLAPPING: &[Range] = &[
     range!(0x1000, 0, 300),
 ];
 
-/// Addresses, and the owner of the slot of each.
-const OWNERS: [(u64, Option<u64>); 10] = [
-    (0, None),
-    (0xfef, None),
-    (0xff0, Some(1)),
-    (0x1003, Some(1)),
-    (0x1004, Some(0)),
-    (0x1007, Some(0)),
-    (0x1008, Some(1)),
-    (0x102f, Some(1)),
-    (0x1030, None),
-    (u64::MAX, None),
+/// The slots of their index: where the range of no bytes stands a slot ends.
+const PIECES: &[IndexSlot] = &[
+    slot!(0xff0, 16, 200, 1),
+    slot!(0x1000, 4, 216, 1),
+    slot!(0x1004, 4, 100, 0),
+    slot!(0x1008, 40, 224, 1),
 ];
 
-#[test]
-fn the_first_range_has_an_address(rt: HostRuntime) {
-    let (count, slots) = index_of(&rt, OVERLAPPING);
-    for (address, owner) in &OWNERS {
-        let found = owner_at(first_slots(&slots, count), *address);
-        assert_same_at(&rt, address, found, *owner);
-    }
-}
+/// The slots of an index of three ranges.
+const INDEXED: &[IndexSlot] = &[
+    slot!(2, 2, 0, 1),
+    slot!(4, 2, 12, 0),
+    slot!(6, 1, 4, 1),
+    slot!(8, 1, 9, 2),
+];
 
-/// Ranges, and the slots of their index.
-const INDEXES: &[(&[Range], &[IndexSlot])] = &[
+/// Ranges, and the slots of their index, if their offsets fit.
+static INDEXES: &[(&[Range], Option<&[IndexSlot]>)] = &[
+    (OVERLAPPING, Some(PIECES)),
     // The first two of them.
     (
         &[range!(0x1004, 4, 100), range!(0xff0, 0x40, 200)],
-        &[
+        Some(&[
             slot!(0xff0, 20, 200, 1),
             slot!(0x1004, 4, 100, 0),
             slot!(0x1008, 40, 224, 1),
-        ],
+        ]),
     ),
     // Addresses end.
     (
         &[range!(u64::MAX - 1, 8, 100)],
-        &[slot!(u64::MAX - 1, 2, 100, 0)],
+        Some(&[slot!(u64::MAX - 1, 2, 100, 0)]),
     ),
-    (&[], &[]),
+    (&[], Some(&[])),
+    (
+        &[range!(4, 2, 12), range!(2, 5, 0), range!(8, 1, 9)],
+        Some(INDEXED),
+    ),
+    // An offset has to fit.
+    (&[range!(0, 2, u64::MAX - 1)], None),
+    (
+        &[range!(0, 1, u64::MAX - 1)],
+        Some(&[slot!(0, 1, u64::MAX - 1, 0)]),
+    ),
 ];
 
 #[test]
 fn a_slot_has_its_bytes(rt: HostRuntime) {
     for (ranges, expected) in INDEXES {
-        let (count, slots) = index_of(&rt, *ranges);
-        assert_same_at(&rt, ranges, first_slots(&slots, count), *expected);
+        assert!(rt; ranges.len() <= ROOM / 2);
+        let mut slots = [NONE; ROOM];
+        let found = match Listed::new(*ranges) {
+            Some(listed) => {
+                let count = index(&listed, &mut slots);
+                slots.get(..count)
+            }
+            None => None,
+        };
+        assert_same_at(&rt, ranges, found, *expected);
     }
 }
 
-#[test]
-fn an_offset_has_to_fit(rt: HostRuntime) {
-    let past = Listed::new(&[range!(0, 2, u64::MAX - 1)]).is_some();
-    let last = Listed::new(&[range!(0, 1, u64::MAX - 1)]).is_some();
-    assert_same(&rt, (past, last), (false, true));
-}
+/// Slots that are no index.
+const NO_INDEX: &[IndexSlot] = &[slot!(8, 8, 0, 5), slot!(0, 16, 0, 6), slot!(4, 2, 0, 7)];
 
-/// Whether the slot that is found for an address holds it, if one is found.
-fn is_right(slots: &[IndexSlot], address: u64) -> bool {
-    match slot_at(slots, address) {
-        Some(number) => slots[number].holds(address),
-        None => true,
+/// Slots, an address, and the owner of its slot.
+static OWNERS: [(&[IndexSlot], u64, Option<u64>); 11] = [
+    (PIECES, 0, None),
+    (PIECES, 0xfef, None),
+    (PIECES, 0xff0, Some(1)),
+    (PIECES, 0x1003, Some(1)),
+    (PIECES, 0x1004, Some(0)),
+    (PIECES, 0x1007, Some(0)),
+    (PIECES, 0x1008, Some(1)),
+    (PIECES, 0x102f, Some(1)),
+    (PIECES, 0x1030, None),
+    (PIECES, u64::MAX, None),
+    (NO_INDEX, 16, None),
+];
+
+#[test]
+fn the_first_range_has_an_address(rt: HostRuntime) {
+    for (slots, address, expected) in &OWNERS {
+        let owner = match slot_of(*slots, *address) {
+            Some(slot) => Some(slot.owner),
+            None => None,
+        };
+        assert_same_at(&rt, address, owner, *expected);
     }
-}
-
-#[test]
-fn slots_that_are_no_index_have_some_slot_or_none(rt: HostRuntime) {
-    let slots = [slot!(8, 8, 0, 5), slot!(0, 16, 0, 6), slot!(4, 2, 0, 7)];
+    // Slots that are no index have some slot that holds the address, or none.
     for address in 0..20 {
-        assert_same(&rt, is_right(&slots, address), true);
+        let is_right = match slot_of(NO_INDEX, address) {
+            Some(slot) => slot.holds(address),
+            None => true,
+        };
+        assert_same_at(&rt, &address, is_right, true);
     }
-    assert_same(&rt, owner_at(&slots, 16), None);
-}
-
-/// Reads eight bytes at an address by slots: these bytes, and whether each is known.
-fn read_by(file: &[u8], slots: &[IndexSlot], address: u64) -> ([u8; 8], [bool; 8]) {
-    let mut out = [7; 8];
-    let mut known = [true; 8];
-    read(file, slots, address, &mut out, &mut known);
-    (out, known)
 }
 
 /// The bytes of the file.
@@ -153,15 +145,9 @@ const FILE: &[u8] = b"ABCDEFGHIJKLMNOP";
 /// Slots, an address, the eight bytes that are read there by them, and whether each is known.
 type SlotsRow = (&'static [IndexSlot], u64, [u8; 8], [bool; 8]);
 
-const READS: &[SlotsRow] = &[
-    // An index of three ranges.
+static READS: &[SlotsRow] = &[
     (
-        &[
-            slot!(2, 2, 0, 1),
-            slot!(4, 2, 12, 0),
-            slot!(6, 1, 4, 1),
-            slot!(8, 1, 9, 2),
-        ],
+        INDEXED,
         1,
         *b"\0ABMNE\0J",
         [false, true, true, true, true, true, false, true],
@@ -177,12 +163,10 @@ const READS: &[SlotsRow] = &[
 
 #[test]
 fn memory_is_read_by_an_index(rt: HostRuntime) {
-    let ranges = [range!(4, 2, 12), range!(2, 5, 0), range!(8, 1, 9)];
-    let (count, slots) = index_of(&rt, &ranges);
-    for (by, address, out, known) in READS {
-        let found = read_by(FILE, *by, *address);
-        assert_same_at(&rt, address, found, (*out, *known));
+    for (slots, address, bytes, are_known) in READS {
+        let mut out = [7; 8];
+        let mut known = [true; 8];
+        read(FILE, *slots, *address, &mut out, &mut known);
+        assert_same_at(&rt, address, (out, known), (*bytes, *are_known));
     }
-    let (by, ..) = READS[0];
-    assert_same(&rt, first_slots(&slots, count), by);
 }

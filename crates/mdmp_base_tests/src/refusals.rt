@@ -1,73 +1,145 @@
-//! Calls that take memory, each of whose growths is refused.
-use crate::map::room::holds_map;
-use crate::same::{assert_same, assert_same_at};
-use crate::source::windows::holds_window;
-use crate::wire::units::{NINE, holds_bytes, holds_text, holds_text_of, holds_units};
-use mdmp_source::{FileStore, PatchyOut};
+//! Calls that take memory, each of whose growths is refused, and heaps that are too small for them.
+use crate::same::assert_same_at;
+use crate::wire::units::over;
+use linked_list_allocator::LocalHeap;
+use mdmp_map::AddressMap;
+use mdmp_source::{FileStore, PatchyOut, Window};
 use mdmp_test_support::{HeapCounts, MeteredHeap, Refusal};
+use mdmp_wire::{Units, text_survives_utf16};
 use std::alloc::{Allocator, Global};
 use std::fs;
 use std::process::Abort;
-use std::rt::Files;
 
 /// A call that takes memory.
-#[derive(Clone, Copy, Debug)]
 enum MemoryCall {
-    Window,
+    /// A window of that room.
+    Window(usize),
+    /// An output in memory.
     Patchy,
-    Map,
-    UnitsOfText,
-    UnitsOfBytes,
-    OwnUnits,
-    Text,
+    /// A map with that room.
+    Map(usize),
+    /// The units of a text.
+    UnitsOfText(&'static str),
+    /// The units of these bytes.
+    UnitsOfBytes(&'static [u8]),
+    /// The units that stand in these bytes, in memory of their own.
+    OwnUnits(&'static [u8]),
+    /// The text of the units that stand in these bytes.
+    Text(&'static [u8]),
 }
 
-/// Whether there is memory for an output in memory.
-fn holds_patchy<A: Allocator>(heap: A) -> bool {
-    PatchyOut::with_room(heap, 168, 7, None).is_ok()
-}
+/// The nine units of `symbol.db`.
+const NINE: &[u8] = b"s\0y\0m\0b\0o\0l\0.\0d\0b\0";
 
 /// Whether the call succeeds with memory of this heap.
-fn succeeds<A: Allocator + Copy>(rt: &impl Abort, heap: A, call: MemoryCall) -> bool {
+fn succeeds<A: Allocator + Copy>(rt: &impl Abort, heap: A, call: &MemoryCall) -> bool {
     match call {
-        MemoryCall::Window => holds_window(heap, 168),
-        MemoryCall::Patchy => holds_patchy(heap),
-        MemoryCall::Map => holds_map(heap, 2),
-        MemoryCall::UnitsOfText => holds_text(heap, "symbol.db"),
-        MemoryCall::UnitsOfBytes => holds_bytes(rt, heap, NINE),
-        MemoryCall::OwnUnits => holds_units(rt, heap, NINE),
-        MemoryCall::Text => holds_text_of(rt, heap, NINE),
+        MemoryCall::Window(room) => Window::with_room(heap, *room).is_ok(),
+        MemoryCall::Patchy => PatchyOut::with_room(heap, 168, 7, None).is_ok(),
+        MemoryCall::Map(room) => AddressMap::with_room(heap, *room).is_ok(),
+        MemoryCall::UnitsOfText(text) => {
+            text_survives_utf16(*text);
+            Units::from_str(heap, *text).is_ok()
+        }
+        MemoryCall::UnitsOfBytes(bytes) => {
+            assert!(rt; bytes.len() % 2 == 0);
+            Units::from_le(heap, *bytes).is_ok()
+        }
+        MemoryCall::OwnUnits(bytes) => over(rt, *bytes).to_owned(heap).is_ok(),
+        MemoryCall::Text(bytes) => over(rt, *bytes).to_utf8(heap).is_ok(),
     }
 }
 
-/// Whether a call succeeds while its growth with this number is refused, and no other. Asserts that a call
-/// which does not came to that growth and asked for none behind it, and that all that was taken is given back.
-fn succeeds_without(rt: &impl Abort, alloc: Global, growth: u32, call: MemoryCall) -> bool {
-    let growth = u64::from(growth);
-    let heap = MeteredHeap::new(alloc, Refusal::Only(growth));
-    let is_ok = succeeds(rt, &heap, call);
-    let counts = heap.counts();
-    let growths = if is_ok { growth } else { growth + 1 };
-    assert_same(rt, (counts.growths, counts.out), (growths, 0));
-    is_ok
-}
-
-/// By how many growths a call succeeds, each of which may be refused.
-fn growths_of(rt: &impl Abort, alloc: Global, call: MemoryCall) -> u32 {
-    for growth in 0..20 {
-        if succeeds_without(rt, alloc, growth, call) {
+/// Tells by how many growths a call succeeds, of which one that is refused is its last; each call gives back all that
+/// it takes.
+fn growths_of(rt: &impl Abort, alloc: Global, name: &str, call: &MemoryCall) -> u32 {
+    for growth in 0..20u32 {
+        let heap = MeteredHeap::new(alloc, Refusal::Only(u64::from(growth)));
+        let is_ok = succeeds(rt, &heap, call);
+        let counts = heap.counts();
+        let growths = if is_ok { growth } else { growth + 1 };
+        assert_same_at(
+            rt,
+            &(name, growth),
+            (counts.growths, counts.out),
+            (u64::from(growths), 0),
+        );
+        if is_ok {
             return growth;
         }
     }
     rt.panic("too many growths")
 }
 
-/// Whether there is memory for the block of a file of the system while the growth with this number is refused,
-/// and no other, and what was asked of the heap once all that was taken is given back.
-fn opened_without<R: Files>(rt: &R, alloc: Global, path: &str, growth: u64) -> (bool, HeapCounts) {
-    let heap = MeteredHeap::new(alloc, Refusal::Only(growth));
-    let is_opened = FileStore::open(&(rt, &heap), path).is_ok();
-    (is_opened, heap.counts())
+/// Calls, and by how many growths each succeeds, if not only by some.
+static CALLS: [(&str, MemoryCall, Option<u32>); 7] = [
+    ("a window", MemoryCall::Window(168), Some(1)),
+    ("an output", MemoryCall::Patchy, Some(1)),
+    ("a map", MemoryCall::Map(2), Some(1)),
+    ("units of bytes", MemoryCall::UnitsOfBytes(NINE), Some(1)),
+    ("own units", MemoryCall::OwnUnits(NINE), Some(1)),
+    (
+        "units of a text",
+        MemoryCall::UnitsOfText("symbol.db"),
+        None,
+    ),
+    ("a text", MemoryCall::Text(NINE), None),
+];
+
+#[test]
+fn each_growth_of_a_call_may_be_refused(rt: HostRuntime) {
+    for (name, call, expected) in &CALLS {
+        let growths = growths_of(&rt, rt.alloc(), *name, call);
+        assert_same_at(&rt, name, growths, expected.unwrap_or(growths.max(1)));
+    }
+}
+
+/// The size of a heap, and whether a call succeeds with its memory.
+static HEAPS: [(usize, &str, MemoryCall, bool); 13] = [
+    (16, "a window of 17 bytes", MemoryCall::Window(17), false),
+    // Two ranges have 48 bytes.
+    (32, "a map of two", MemoryCall::Map(2), false),
+    (32, "the largest map", MemoryCall::Map(usize::MAX), false),
+    // The smallest heap has 16 bytes, so 9 units do not fit. In 32 bytes they do, and no text beside them.
+    (
+        0,
+        "units of bytes",
+        MemoryCall::UnitsOfBytes(&[0; 18]),
+        false,
+    ),
+    (0, "own units", MemoryCall::OwnUnits(NINE), false),
+    (0, "a text", MemoryCall::Text(NINE), false),
+    (
+        0,
+        "units of a text",
+        MemoryCall::UnitsOfText("symbol.db"),
+        false,
+    ),
+    (
+        32,
+        "units of bytes",
+        MemoryCall::UnitsOfBytes(&[0; 18]),
+        true,
+    ),
+    (32, "own units", MemoryCall::OwnUnits(NINE), true),
+    (32, "a text", MemoryCall::Text(NINE), false),
+    // A text is made of its units as numbers, in 48 bytes with both: it takes no more.
+    (
+        48,
+        "units of bytes",
+        MemoryCall::UnitsOfBytes(&[0; 18]),
+        true,
+    ),
+    (48, "own units", MemoryCall::OwnUnits(NINE), true),
+    (48, "a text", MemoryCall::Text(NINE), true),
+];
+
+#[test]
+fn call_fails_in_a_heap_that_is_too_small(rt: HostRuntime) {
+    for (size, name, call, is_ok) in &HEAPS {
+        let heap = LocalHeap::new(rt.alloc(), *size).expect(&rt, "a heap");
+        assert_same_at(&rt, &(size, name), succeeds(&rt, &heap, call), *is_ok);
+    }
 }
 
 #[test]
@@ -81,27 +153,8 @@ fn block_of_a_file_is_one_growth_which_may_be_refused(rt: HostRuntime) {
             held: 0,
             peak: *peak,
         };
-        let found = opened_without(&rt, rt.alloc(), "block", *growth);
-        assert_same_at(&rt, growth, found, (*is_opened, counts));
-    }
-}
-
-#[test]
-fn room_is_one_growth_which_may_be_refused(rt: HostRuntime) {
-    for call in &[
-        MemoryCall::Window,
-        MemoryCall::Patchy,
-        MemoryCall::Map,
-        MemoryCall::UnitsOfBytes,
-        MemoryCall::OwnUnits,
-    ] {
-        assert_same_at(&rt, call, growths_of(&rt, rt.alloc(), *call), 1);
-    }
-}
-
-#[test]
-fn each_growth_of_a_text_may_be_refused(rt: HostRuntime) {
-    for call in &[MemoryCall::UnitsOfText, MemoryCall::Text] {
-        assert_same_at(&rt, call, growths_of(&rt, rt.alloc(), *call) > 0, true);
+        let heap = MeteredHeap::new(rt.alloc(), Refusal::Only(*growth));
+        let found = FileStore::open(&(&rt, &heap), "block").is_ok();
+        assert_same_at(&rt, growth, (found, heap.counts()), (*is_opened, counts));
     }
 }

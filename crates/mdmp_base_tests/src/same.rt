@@ -5,11 +5,6 @@
 use std::fmt::Debug;
 use std::process::Abort;
 
-/// Asserts that what was found is what was expected.
-pub fn assert_same<T: PartialEq + Debug + Drop>(rt: &impl Abort, found: T, expected: T) {
-    assert_eq!(rt; found, expected)
-}
-
 /// Asserts that what was found at this row, word or size is what was expected.
 pub fn assert_same_at<T: PartialEq + Debug + Drop>(
     rt: &impl Abort,
@@ -18,14 +13,4 @@ pub fn assert_same_at<T: PartialEq + Debug + Drop>(
     expected: T,
 ) {
     assert_eq!(rt; found, expected, "at {at:?}")
-}
-
-/// Asserts that what was found is not the other value.
-pub fn assert_different<T: PartialEq + Drop>(rt: &impl Abort, found: T, other: T) {
-    assert!(rt; found != other)
-}
-
-/// Asserts that this is so.
-pub fn assert_that(rt: &impl Abort, is_so: bool) {
-    assert!(rt; is_so)
 }

@@ -71,7 +71,7 @@ fn assert_rows(
     expected: &[RowSeen],
     stops: bool,
 ) {
-    let file = crash_file(rt, alloc, LINUX);
+    let file = crash_file(rt, alloc, &LINUX);
     assert!(rt; size <= file.len());
     let Some(told) = rows_over(alloc, MemoryStore::new(&file[..size]), most) else {
         panic!(rt; "a lister");
@@ -81,7 +81,7 @@ fn assert_rows(
     assert_eq!(rt; &rows[..], expected, "{size}");
 }
 
-const WHOLE: [RowSeen; 5] = [
+static WHOLE: [RowSeen; 5] = [
     (0, Ok(false), false),
     (1, Ok(true), false),
     (2, Ok(true), false),
@@ -90,7 +90,7 @@ const WHOLE: [RowSeen; 5] = [
 ];
 
 /// The rows if the last byte is cut off, which is the last one of a context.
-const CUT: [RowSeen; 6] = [
+static CUT: [RowSeen; 6] = [
     (0, Ok(false), false),
     (1, Ok(true), false),
     (2, Err((PartName::Context, 596, 272)), true),
@@ -114,7 +114,7 @@ fn sink_stops_at_each_row(rt: HostRuntime) {
 
 #[test]
 fn store_that_fails_at_a_call_ends_the_check(rt: HostRuntime) {
-    let file = crash_file(&rt, rt.alloc(), LINUX);
+    let file = crash_file(&rt, rt.alloc(), &LINUX);
     let mut calls = 0u32;
     for call in 0..40u64 {
         let store = PatchyStore::new(&file, &[1 << 20], Some(call));

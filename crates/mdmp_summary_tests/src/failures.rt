@@ -1,7 +1,7 @@
 //! Stores that fail, memory that is refused, and read limits.
 use crate::files::{LINUX, crash_file};
 use crate::same::assert_same_at;
-use crate::summing::{fetched_for, summary_in, summary_over};
+use crate::summing::{fetched_within, summary_in, summary_over};
 use mdmp_lister::{FaultKind, Limits, OpenFault};
 use mdmp_source::{MemoryStore, PatchyStore};
 use mdmp_summary::{FileSummary, SummaryFault};
@@ -30,7 +30,7 @@ fn end_of(told: Result<FileSummary, SummaryFault>) -> SummaryEnd {
 
 #[test]
 fn store_that_fails_at_a_call_ends_the_summary(rt: HostRuntime) {
-    let file = crash_file(&rt, rt.alloc(), LINUX);
+    let file = crash_file(&rt, rt.alloc(), &LINUX);
     let whole = Ok(summary_in(&rt, rt.alloc(), &file));
     let mut calls = 0u32;
     for call in 0..40u64 {
@@ -47,7 +47,7 @@ fn store_that_fails_at_a_call_ends_the_summary(rt: HostRuntime) {
 
 #[test]
 fn growth_of_memory_that_is_refused_ends_the_summary(rt: HostRuntime) {
-    let file = crash_file(&rt, rt.alloc(), LINUX);
+    let file = crash_file(&rt, rt.alloc(), &LINUX);
     let whole = Ok(summary_in(&rt, rt.alloc(), &file));
     for (growth, expected) in [(0, Err("memory")), (2, Err("memory")), (3, whole)] {
         let heap = MeteredHeap::new(rt.alloc(), Refusal::Only(growth));
@@ -59,14 +59,14 @@ fn growth_of_memory_that_is_refused_ends_the_summary(rt: HostRuntime) {
 
 #[test]
 fn budget_of_what_is_fetched_is_enough(rt: HostRuntime) {
-    let file = crash_file(&rt, rt.alloc(), LINUX);
+    let file = crash_file(&rt, rt.alloc(), &LINUX);
     let whole = Ok(summary_in(&rt, rt.alloc(), &file));
     // Header, directory, two exceptions, and twice a module list and a system: what is searched is among no exceptions.
     let fetched = 32 + 60 + 168 + 168 + 2 * (112 + 56);
     assert_same_at(
         &rt,
         &"fetched",
-        fetched_for(rt.alloc(), &file),
+        fetched_within(rt.alloc(), &file, Limits::default()),
         Some((fetched, 272)),
     );
     for (budget, expected) in [(fetched as u64, whole), (fetched as u64 - 1, Err("budget"))] {

@@ -4,7 +4,7 @@ use std::alloc::Global;
 use std::process::Abort;
 
 /// What differs in the files of these tests.
-#[derive(Clone, Copy)]
+#[derive(Drop)]
 pub struct Made {
     pub platform: u32,
     pub architecture: u16,
@@ -48,31 +48,18 @@ fn exception(thread: u32, code: u32, address: u64, size: u32, rva: u32) -> [u8; 
     bytes
 }
 
-/// A list of one module of this base and size.
-fn modules(base: u64, size: u32) -> [u8; 112] {
-    let mut bytes = [0; 112];
-    bytes[0] = 1;
-    bytes[4..12].copy_from_slice(&base.to_le_bytes());
-    bytes[12..16].copy_from_slice(&size.to_le_bytes());
-    bytes
-}
-
-/// A context whose instruction pointer is 0x5010, on x86, ARM, x64 and ARM64 alike.
-fn context() -> [u8; 272] {
-    let mut bytes = [0; 272];
-    bytes[64] = 0x10;
-    bytes[65] = 0x50;
-    bytes[184] = 0x10;
-    bytes[185] = 0x50;
-    bytes[248] = 0x10;
-    bytes[249] = 0x50;
-    bytes[264] = 0x10;
-    bytes[265] = 0x50;
-    bytes
-}
-
 /// An entry that lies outside, two exceptions, a module, the system, and the context of the second exception.
-pub fn crash_file(rt: &impl Abort, alloc: Global, made: Made) -> Vec<u8> {
+pub fn crash_file(rt: &impl Abort, alloc: Global, made: &Made) -> Vec<u8> {
+    let mut modules = [0; 112];
+    modules[0] = 1;
+    modules[4..12].copy_from_slice(&made.module_base.to_le_bytes());
+    modules[12..16].copy_from_slice(&made.module_size.to_le_bytes());
+    // The instruction pointer is 0x5010, on x86, ARM, x64 and ARM64 alike.
+    let mut context = [0; 272];
+    for at in [64, 184, 248, 264] {
+        context[at] = 0x10;
+        context[at + 1] = 0x50;
+    }
     let parts: [&[u8]; 11] = [
         &header_of(5, 32),
         &entry(3, 4, 4096),
@@ -82,9 +69,9 @@ pub fn crash_file(rt: &impl Abort, alloc: Global, made: Made) -> Vec<u8> {
         &entry(7, 56, 540),
         &exception(6, made.first_code, 5, 0, 0),
         &exception(7, made.code, 16, 272, 596),
-        &modules(made.module_base, made.module_size),
+        &modules,
         &system(made.platform, made.architecture),
-        &context(),
+        &context,
     ];
     file_of_parts(alloc, &parts, CRASH_SIZE).expect(rt, "a file")
 }

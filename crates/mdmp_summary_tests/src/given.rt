@@ -40,7 +40,7 @@ pub fn names(program: GivenName, owner: GivenName, thread: GivenName) -> Summary
 }
 
 /// The summary of a crash file that is whole.
-pub fn summary_of(rt: &impl Abort, alloc: Global, made: Made) -> FileSummary {
+pub fn summary_of(rt: &impl Abort, alloc: Global, made: &Made) -> FileSummary {
     let file = crash_file(rt, alloc, made);
     let mut summary = summary_in(rt, alloc, &file);
     summary.bad.count = 0;
@@ -50,7 +50,7 @@ pub fn summary_of(rt: &impl Abort, alloc: Global, made: Made) -> FileSummary {
 
 /// The summary of a file of Linux that has a time, and whose crash was a write to the address 16.
 pub fn summary_of_write(rt: &impl Abort, alloc: Global) -> FileSummary {
-    let mut summary = summary_of(rt, alloc, LINUX);
+    let mut summary = summary_of(rt, alloc, &LINUX);
     summary.header.time_date_stamp = 1735689600;
     if let Some(crash) = &mut summary.crash {
         crash.exception.fields.exception_flags = 1;

@@ -16,7 +16,7 @@ use std::process::Abort;
 /// growths they are taken.
 type SummaryHeapRow = (OneStream<'static>, u32, u32, u64, u64);
 
-const ROWS: [SummaryHeapRow; 5] = [
+static ROWS: [SummaryHeapRow; 5] = [
     (MANY_ENTRIES, 1 << 20, 4096, (1 << 20) + 12 * 5000 + 4096, 3),
     (MANY_RANGES, 70_000, 0, 70_000 + 12 * 5000, 2),
     (MANY_THREADS, 1 << 20, 0, (1 << 20) + 12, 2),

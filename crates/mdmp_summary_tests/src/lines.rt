@@ -1,23 +1,13 @@
 //! The lines of summaries.
 use crate::files::{LINUX, crash_file};
 use crate::given::{CPAD, EXE, GivenName, STACK_OUTSIDE, names, summary_of, summary_of_write};
-use crate::same::{assert_same, assert_same_at};
-use crate::summing::{summary_in, summary_of_first};
-use mdmp_print::Printer;
+use crate::same::assert_same_at;
+use crate::summing::summary_in;
 use mdmp_source::{OutFailed, PatchyOut};
 use mdmp_summary::{AccessKind, FileSummary, Reached, Registers};
 use mdmp_summary_lines::{SummaryNames, print_summary};
 use std::alloc::Global;
 use std::process::Abort;
-
-/// Prints a summary to an output.
-fn print_to<O: Printer>(
-    summary: &FileSummary,
-    names: &SummaryNames<'_>,
-    out: &mut O,
-) -> Result<(), OutFailed> {
-    print_summary(b"a.dmp", summary, names, out)
-}
 
 /// Asserts that a summary is printed so.
 fn assert_printed(
@@ -28,9 +18,13 @@ fn assert_printed(
     expected: &str,
 ) {
     let mut out = PatchyOut::with_room(alloc, 4096, 7, None).expect(rt, "room");
-    let answer = print_to(summary, names, &mut out);
-    assert_same(rt, answer, Ok(()));
-    assert_same_at(rt, &expected, out.bytes(), expected.as_bytes());
+    let answer = print_summary(b"a.dmp", summary, names, &mut out);
+    assert_same_at(
+        rt,
+        &expected,
+        (answer, out.bytes()),
+        (Ok(()), expected.as_bytes()),
+    );
 }
 
 /// The lines behind those of the crash and its registers, up to the file's health.
@@ -55,7 +49,7 @@ fn crash_in_a_module_succeeds(rt: HostRuntime) {
 fn crash_near_a_module_succeeds(rt: HostRuntime) {
     let mut made = LINUX;
     made.module_size = 16;
-    let mut summary = summary_of(&rt, rt.alloc(), made);
+    let mut summary = summary_of(&rt, rt.alloc(), &made);
     if let Some(crash) = &mut summary.crash {
         crash.exception.fields.exception_code = 999;
         crash.exception.fields.exception_flags = 0x80;
@@ -77,7 +71,7 @@ fn crash_near_a_module_succeeds(rt: HostRuntime) {
 
 #[test]
 fn crash_without_a_module_succeeds(rt: HostRuntime) {
-    let mut summary = summary_of(&rt, rt.alloc(), LINUX);
+    let mut summary = summary_of(&rt, rt.alloc(), &LINUX);
     summary.program = None;
     summary.system = None;
     if let Some(crash) = &mut summary.crash {
@@ -103,7 +97,7 @@ fn crash_without_a_module_succeeds(rt: HostRuntime) {
 
 #[test]
 fn file_without_a_crash_succeeds(rt: HostRuntime) {
-    let mut summary = summary_of(&rt, rt.alloc(), LINUX);
+    let mut summary = summary_of(&rt, rt.alloc(), &LINUX);
     summary.crash = None;
     if let Some(system) = &mut summary.system {
         system.platform_id = 2;
@@ -136,8 +130,9 @@ fn file_without_a_crash_succeeds(rt: HostRuntime) {
 
 #[test]
 fn bad_entries_are_told(rt: HostRuntime) {
-    let file = crash_file(&rt, rt.alloc(), LINUX);
-    let summary = summary_of_first(&rt, rt.alloc(), &file, 500);
+    let file = crash_file(&rt, rt.alloc(), &LINUX);
+    let first = file.get(..500).expect(&rt, "a first part");
+    let summary = summary_in(&rt, rt.alloc(), first);
     assert_printed(
         &rt,
         rt.alloc(),
@@ -147,29 +142,23 @@ fn bad_entries_are_told(rt: HostRuntime) {
     );
     let whole = summary_in(&rt, rt.alloc(), &file);
     let mut out = PatchyOut::with_room(rt.alloc(), 4096, 4096, None).expect(&rt, "room");
-    assert_same(
-        &rt,
-        print_to(
-            &whole,
-            &names(GivenName::None, GivenName::None, GivenName::None),
-            &mut out,
-        ),
-        Ok(()),
-    );
+    let none = names(GivenName::None, GivenName::None, GivenName::None);
+    let answer = print_summary(b"a.dmp", &whole, &none, &mut out);
+    assert_same_at(&rt, &"one bad entry", answer, Ok(()));
     let told = out.bytes();
     let end =
         b"  file damaged, 1 bad entry: entry 0: stream outside the file: offset 4096 size 4\n";
     assert!(rt; told.len() >= end.len());
-    assert_same(&rt, &told[told.len() - end.len()..], &end[..]);
+    assert_same_at(&rt, &"its end", &told[told.len() - end.len()..], &end[..]);
 }
 
 #[test]
 fn output_that_fails_has_a_first_part(rt: HostRuntime) {
-    let summary = summary_of(&rt, rt.alloc(), LINUX);
+    let summary = summary_of(&rt, rt.alloc(), &LINUX);
     let cpad = GivenName::Units(CPAD);
     for call in 0..30u64 {
         let mut out = PatchyOut::with_room(rt.alloc(), 4096, 12, Some(call)).expect(&rt, "room");
-        let answer = print_to(&summary, &names(cpad, cpad, cpad), &mut out);
+        let answer = print_summary(b"a.dmp", &summary, &names(cpad, cpad, cpad), &mut out);
         let most = 12 * call as usize;
         assert_same_at(
             &rt,

@@ -3,7 +3,7 @@ use crate::files::LINUX;
 use crate::given::{
     CPAD, EXE, GivenName, STACK_OUTSIDE, name, names, summary_of, summary_of_write,
 };
-use crate::same::{assert_same, assert_same_at};
+use crate::same::assert_same_at;
 use mdmp_lister::{CodeViewBytes, ModuleItem, Name};
 use mdmp_print::Printer;
 use mdmp_source::{Extent, OutFailed, PatchyOut};
@@ -90,8 +90,12 @@ fn assert_object(
 ) {
     let mut out = PatchyOut::with_room(alloc, 4096, 7, None).expect(rt, "room");
     let answer = print_object(file, summary, names, modules, &mut out);
-    assert_same(rt, answer, Ok(()));
-    assert_same_at(rt, &expected, out.bytes(), expected.as_bytes());
+    assert_same_at(
+        rt,
+        &expected,
+        (answer, out.bytes()),
+        (Ok(()), expected.as_bytes()),
+    );
 }
 
 /// A CodeView record with these first bytes, which has no others.
@@ -134,7 +138,7 @@ fn object_of_a_crash_succeeds(rt: HostRuntime) {
 
 #[test]
 fn object_without_a_crash_succeeds(rt: HostRuntime) {
-    let mut summary = summary_of(&rt, rt.alloc(), LINUX);
+    let mut summary = summary_of(&rt, rt.alloc(), &LINUX);
     summary.crash = None;
     summary.system = None;
     summary.program = None;
@@ -153,7 +157,7 @@ fn object_without_a_crash_succeeds(rt: HostRuntime) {
 
 #[test]
 fn modules_have_the_ids_of_their_records(rt: HostRuntime) {
-    let summary = summary_of(&rt, rt.alloc(), LINUX);
+    let summary = summary_of(&rt, rt.alloc(), &LINUX);
     let Some(mut fields) = summary.program else {
         return assert!(&rt; false);
     };
@@ -195,10 +199,15 @@ fn modules_have_the_ids_of_their_records(rt: HostRuntime) {
         },
     ];
     let mut out = PatchyOut::with_room(rt.alloc(), 4096, 7, None).expect(&rt, "room");
-    assert_same(&rt, print_modules(&modules, &mut out), Ok(()));
+    let answer = print_modules(&modules, &mut out);
     let expected =
         "{\"filename\":\"C:\\\\\u{e9}.exe\",\"base_addr\":\"0x0000000000005000\",\"end_addr\":\"0x0000000000005100\",\"version\":\"1.2.3.65535\",\"code_id\":\"0A53F100100\",\"debug_file\":\"C:\\\\a\u{fffd}.pdb\",\"debug_id\":\"33221100554477668899AABBCCDDEEFF1a\"},{\"filename\":null,\"base_addr\":\"0x0000000000005000\",\"end_addr\":\"0x0000000000005100\",\"version\":\"1.2.3.65535\",\"code_id\":\"0A53F100100\",\"debug_file\":null,\"debug_id\":\"0B7D84101f\"},{\"filename\":null,\"base_addr\":\"0x0000000000005000\",\"end_addr\":\"0x0000000000005100\",\"version\":\"1.2.3.65535\",\"code_id\":\"0A53F100100\",\"debug_file\":null,\"debug_id\":null},{\"filename\":\"\u{fffd}\",\"base_addr\":\"0xfffffffffffffffe\",\"end_addr\":\"0xffffffffffffffff\",\"version\":\"1.2.3.65535\",\"code_id\":\"0A53F100100\",\"debug_file\":null,\"debug_id\":null},{\"filename\":null,\"base_addr\":\"0x0000000000005000\",\"end_addr\":\"0x0000000000005100\",\"version\":\"1.2.3.65535\",\"code_id\":\"0A53F100100\",\"debug_file\":null,\"debug_id\":null}";
-    assert_same_at(&rt, &expected, out.bytes(), expected.as_bytes());
+    assert_same_at(
+        &rt,
+        &expected,
+        (answer, out.bytes()),
+        (Ok(()), expected.as_bytes()),
+    );
 }
 
 #[test]
@@ -207,7 +216,7 @@ fn crash_near_a_module_has_its_place(rt: HostRuntime) {
     made.module_size = 16;
     made.architecture = 12;
     made.code = 999;
-    let mut summary = summary_of(&rt, rt.alloc(), made);
+    let mut summary = summary_of(&rt, rt.alloc(), &made);
     if let Some(crash) = &mut summary.crash {
         crash.reached = None;
         crash.registers = Some(Registers {
@@ -219,19 +228,16 @@ fn crash_near_a_module_has_its_place(rt: HostRuntime) {
     let mut out = PatchyOut::with_room(rt.alloc(), 4096, 7, None).expect(&rt, "room");
     let exe = GivenName::Units(EXE);
     let given = names(GivenName::Long(8000), exe, GivenName::Long(9));
-    assert_same(
-        &rt,
-        print_object(b"a.dmp", &summary, &given, &[], &mut out),
-        Ok(()),
-    );
+    let answer = print_object(b"a.dmp", &summary, &given, &[], &mut out);
+    assert_same_at(&rt, &"a crash near a module", answer, Ok(()));
     let told = out.bytes();
     let front =
         b"{\"line\":\"summary\",\"file\":\"a.dmp\",\"status\":\"OK\",\"time\":0,\"system_info\":{\"os\":\"Linux\",\"os_ver\":\"0.0.0\",\"cpu_arch\":\"arm64\",\"cpu_count\":0},\"system\":{\"platform_id\":33281,\"processor_architecture\":12,\"processor_level\":0,\"processor_revision\":0,\"number_of_processors\":0,\"product_type\":0,\"major_version\":0,\"minor_version\":0,\"build_number\":0,\"suite_mask\":0},\"crash\":{\"code\":\"0x000003e7\",\"code_name\":null,\"flags\":\"0x00000000\",\"flags_name\":null,\"thread\":7,\"thread_name\":null,\"address\":\"0x0000000000005010\",\"exception_address\":\"0x0000000000000010\",\"registers\":{\"instruction\":\"0x0000000000000001\",\"stack\":\"0x0000000000000002\",\"frame\":\"0xffffffffffffffff\"},\"reached\":null,\"module\":null,\"near\":{\"name\":\"C:\\\\\xc3\xa9.exe\",\"file\":\"\xc3\xa9.exe\",\"version\":\"0.0.0.0\",\"offset\":\"16\"}},\"program\":{\"name\":null,\"file\":null,\"version\":\"0.0.0.0\"},";
     let end =
         b"\"crash_info\":{\"type\":\"0x000003e7\",\"address\":\"0x0000000000000010\",\"crashing_thread\":0}}\n";
     assert!(&rt; told.len() >= front.len() && told.len() >= end.len());
-    assert_same(&rt, &told[..front.len()], &front[..]);
-    assert_same(&rt, &told[told.len() - end.len()..], &end[..]);
+    assert_same_at(&rt, &"its front", &told[..front.len()], &front[..]);
+    assert_same_at(&rt, &"its end", &told[told.len() - end.len()..], &end[..]);
 }
 
 /// How many calls of an output, of 100 bytes at most, an object takes if the output fails at none of them.
@@ -255,7 +261,7 @@ fn calls_of_object(
 
 #[test]
 fn output_that_fails_has_a_first_part_of_the_object(rt: HostRuntime) {
-    let summary = summary_of(&rt, rt.alloc(), LINUX);
+    let summary = summary_of(&rt, rt.alloc(), &LINUX);
     let module = program_of(&rt, &summary, rsds(b"a.pdb"));
     let cpad = GivenName::Units(CPAD);
     let given = names(cpad, cpad, cpad);

@@ -28,11 +28,6 @@ fn regions_file(rt: &impl Abort, alloc: Global, told: u64) -> Vec<u8> {
     file
 }
 
-/// The least window, so that no more is fetched of a stream than is looked at, but for its first bytes.
-fn narrow(rt: &impl Abort) -> Limits {
-    Limits::new(168, 0).expect(rt, "limits")
-}
-
 /// How many items a listing gives, and how many bytes it fetches.
 fn listed(alloc: Global, file: &[u8], limits: Limits) -> Option<(u32, u128)> {
     let source = Source::new(MemoryStore::new(file));
@@ -53,23 +48,22 @@ fn listed(alloc: Global, file: &[u8], limits: Limits) -> Option<(u32, u128)> {
 #[test]
 fn regions_are_not_read_for_a_summary(rt: HostRuntime) {
     let file = regions_file(&rt, rt.alloc(), 1000);
+    // The least window, so that no more is fetched of a stream than is looked at, but for its first bytes.
+    let limits = Limits::new(168, 0).expect(&rt, "limits");
     // Header, directory, the threads, and the regions or as much of them as the window takes.
-    let all = listed(rt.alloc(), &file, narrow(&rt));
+    let all = listed(rt.alloc(), &file, limits);
     assert_same_at(&rt, &"listing", all, Some((1004, 32 + 24 + 100 + 48016)));
-    let few = fetched_within(rt.alloc(), &file, narrow(&rt));
+    let few = fetched_within(rt.alloc(), &file, limits);
     assert_same_at(&rt, &"summary", few, Some((32 + 24 + 100 + 168, 0)));
 }
 
 #[test]
-fn regions_change_no_summary(rt: HostRuntime) {
+fn regions_change_no_summary_but_by_a_bad_head(rt: HostRuntime) {
     let some = summary_in(&rt, rt.alloc(), &regions_file(&rt, rt.alloc(), 1000));
     let none = summary_in(&rt, rt.alloc(), &regions_file(&rt, rt.alloc(), 0));
     assert_same_at(&rt, &"regions", some, none);
     assert_same_at(&rt, &"threads", some.counts.threads, 2);
-}
-
-#[test]
-fn bad_head_of_regions_is_told(rt: HostRuntime) {
+    // But where their head tells too many.
     let summary = summary_in(&rt, rt.alloc(), &regions_file(&rt, rt.alloc(), 1001));
     let fault = ListFault {
         entry: 0,
@@ -86,7 +80,8 @@ fn bad_head_of_regions_is_told(rt: HostRuntime) {
 fn visitor_is_shown_what_it_wants(rt: HostRuntime) {
     let file = regions_file(&rt, rt.alloc(), 1000);
     let source = Source::new(MemoryStore::new(&file));
-    let walker = Walker::open(rt.alloc(), source, narrow(&rt), Choice::All);
+    let limits = Limits::new(168, 0).expect(&rt, "limits");
+    let walker = Walker::open(rt.alloc(), source, limits, Choice::All);
     let Ok(mut walker) = walker else {
         panic!(&rt; "a walker");
     };

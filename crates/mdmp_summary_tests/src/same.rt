@@ -5,11 +5,6 @@
 use std::fmt::Debug;
 use std::process::Abort;
 
-/// Asserts that what was found is what was expected.
-pub fn assert_same<T: PartialEq + Debug + Drop>(rt: &impl Abort, found: T, expected: T) {
-    assert_eq!(rt; found, expected)
-}
-
 /// Asserts that what was found at this row, word or size is what was expected.
 pub fn assert_same_at<T: PartialEq + Debug + Drop>(
     rt: &impl Abort,

@@ -1,10 +1,8 @@
 //! Summaries of small files.
-use crate::files::{LINUX, Made, crash_file, threads_file};
+use crate::files::{Made, crash_file, threads_file};
 use crate::same::assert_same_at;
 use crate::summing::summary_in;
 use mdmp_summary::{Crash, PlaceInModule};
-use std::alloc::Global;
-use std::process::Abort;
 
 /// The base of a module, and the offset of an address.
 fn place(at: Option<PlaceInModule>) -> Option<(u64, u64)> {
@@ -29,70 +27,82 @@ fn told(crash: Option<Crash>) -> Option<ToldCrash> {
     }
 }
 
-/// Asserts what is told of the crash in a file.
-fn assert_told(rt: &impl Abort, alloc: Global, made: Made, expected: Option<ToldCrash>) {
-    let file = crash_file(rt, alloc, made);
-    let summary = summary_in(rt, alloc, &file);
-    let at = (made.platform, made.architecture, made.first_code, made.code);
-    let place = (made.module_base, made.module_size);
-    assert_same_at(rt, &(at, place), told(summary.crash), expected);
+/// A crash like `LINUX` of this platform and architecture, with these codes, and a module of this base and size.
+macro_rules! made {
+    ($platform:expr, $architecture:expr, $first_code:expr, $code:expr, $base:expr, $size:expr) => {
+        Made {
+            platform: $platform,
+            architecture: $architecture,
+            first_code: $first_code,
+            code: $code,
+            module_base: $base,
+            module_size: $size,
+        }
+    };
 }
 
-/// A crash like `LINUX` of this platform and architecture, and with these codes.
-fn made(platform: u32, architecture: u16, first_code: u32, code: u32) -> Made {
-    Made {
-        platform,
-        architecture,
-        first_code,
-        code,
-        module_base: 0,
-        module_size: 0x100,
-    }
-}
+/// The module that is near.
+const NEAR: Option<(u64, u64)> = Some((0, 0x5010));
+
+/// Crashes behind a bad entry, and what is told of each.
+static CRASHES: [(Made, Option<ToldCrash>); 12] = [
+    // A module holds the address that ran, or is near, or is behind it.
+    (
+        made!(0x8201, 9, 19, 11, 0x5000, 0x100),
+        Some((7, 0x5010, Some((0x5000, 0x10)), None)),
+    ),
+    (
+        made!(0x8201, 9, 19, 11, 0x5000, 0x10),
+        Some((7, 0x5010, None, Some((0x5000, 0x10)))),
+    ),
+    (
+        made!(0x8201, 9, 19, 11, 0x5011, 0x10),
+        Some((7, 0x5010, None, None)),
+    ),
+    // The address that ran goes by the platform and the architecture.
+    (
+        made!(0x8201, 9, 19, 11, 0, 0x100),
+        Some((7, 0x5010, None, NEAR)),
+    ),
+    (
+        made!(0x8201, 12, 17, 11, 0, 0x100),
+        Some((7, 0x5010, None, NEAR)),
+    ),
+    (
+        made!(0x8203, 5, 28, 7, 0, 0x100),
+        Some((7, 0x5010, None, NEAR)),
+    ),
+    (
+        made!(0x8201, 0, 0xffffffff, 6, 0, 0x100),
+        Some((7, 0x5010, None, NEAR)),
+    ),
+    (
+        made!(0x8201, 1, 23, 24, 0, 0x100),
+        Some((7, 16, Some((0, 16)), None)),
+    ),
+    (made!(0x8203, 9, 28, 23, 0, 0x100), None),
+    (
+        made!(0x8101, 12, 1, 1, 0, 0x100),
+        Some((6, 5, Some((0, 5)), None)),
+    ),
+    (
+        made!(2, 9, 0x80000003, 0xc0000005, 0, 0x100),
+        Some((7, 16, Some((0, 16)), None)),
+    ),
+    (
+        made!(2, 0, 0x80000004, 0x80000003, 0, 0x100),
+        Some((6, 5, Some((0, 5)), None)),
+    ),
+];
 
 #[test]
 fn summary_succeeds_after_a_bad_entry(rt: HostRuntime) {
-    for (base, size, holder, near) in [
-        (0x5000, 0x100, Some((0x5000, 0x10)), None),
-        (0x5000, 0x10, None, Some((0x5000, 0x10))),
-        (0x5011, 0x10, None, None),
-    ] {
-        let mut of_linux = LINUX;
-        of_linux.module_base = base;
-        of_linux.module_size = size;
-        let expected = Some((7, 0x5010, holder, near));
-        assert_told(&rt, rt.alloc(), of_linux, expected);
-    }
-}
-
-#[test]
-fn address_that_ran_goes_by_platform_and_architecture(rt: HostRuntime) {
-    let near = Some((0, 0x5010));
-    for (platform, architecture, first_code, code, expected) in [
-        (0x8201, 9, 19, 11, Some((7, 0x5010, None, near))),
-        (0x8201, 12, 17, 11, Some((7, 0x5010, None, near))),
-        (0x8203, 5, 28, 7, Some((7, 0x5010, None, near))),
-        (0x8201, 0, 0xffffffff, 6, Some((7, 0x5010, None, near))),
-        (0x8201, 1, 23, 24, Some((7, 16, Some((0, 16)), None))),
-        (0x8203, 9, 28, 23, None),
-        (0x8101, 12, 1, 1, Some((6, 5, Some((0, 5)), None))),
-        (
-            2,
-            9,
-            0x80000003,
-            0xc0000005,
-            Some((7, 16, Some((0, 16)), None)),
-        ),
-        (
-            2,
-            0,
-            0x80000004,
-            0x80000003,
-            Some((6, 5, Some((0, 5)), None)),
-        ),
-    ] {
-        let file = made(platform, architecture, first_code, code);
-        assert_told(&rt, rt.alloc(), file, expected);
+    for (made, expected) in &CRASHES {
+        let file = crash_file(&rt, rt.alloc(), made);
+        let summary = summary_in(&rt, rt.alloc(), &file);
+        let at = (made.platform, made.architecture, made.code);
+        let module = (made.module_base, made.module_size);
+        assert_same_at(&rt, &(at, module), told(summary.crash), *expected);
     }
 }
 

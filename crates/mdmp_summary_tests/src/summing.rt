@@ -19,18 +19,7 @@ pub fn summary_in(rt: &impl Abort, alloc: Global, file: &[u8]) -> FileSummary {
     summary_over(alloc, MemoryStore::new(file), Limits::default()).expect(rt, "a summary")
 }
 
-/// The summary of the first bytes of a file in memory.
-pub fn summary_of_first(rt: &impl Abort, alloc: Global, file: &[u8], len: usize) -> FileSummary {
-    assert!(rt; len <= file.len());
-    summary_in(rt, alloc, &file[..len])
-}
-
-/// How many bytes the listing of a file and its summary have fetched together, and how many aside.
-pub fn fetched_for(alloc: Global, file: &[u8]) -> Option<(u128, u128)> {
-    fetched_within(alloc, file, Limits::default())
-}
-
-/// The same within these limits.
+/// How many bytes the listing of a file and its summary have fetched together within these limits, and how many aside.
 pub fn fetched_within(alloc: Global, file: &[u8], limits: Limits) -> Option<(u128, u128)> {
     let source = Source::new(MemoryStore::new(file));
     let Ok(mut walker) = Walker::open(alloc, source, limits, Choice::All) else {

@@ -2,9 +2,9 @@
 ghost use Rattle.std.specs.Prelude.{◌≡◌, ◌≤◌, ◌<◌, ◌+◌, length};
 ghost use Rattle.mdmp_map.specs.Ranges.{AreSorted};
 
-use super::{MapRange, PlaceRow, assert_places, assert_sorted, map_of, push};
+use super::{PlaceRow, assert_places, map_of};
 use crate::same::assert_same_at;
-use mdmp_map::{AddressMap, Found, Place, Steps};
+use mdmp_map::{AddressMap, Found, Place, Range, Steps};
 use std::alloc::Allocator;
 use std::marker::Brand;
 use std::process::Abort;
@@ -84,25 +84,13 @@ fn answers_in_four_steps<A: Allocator>(
     answers_under::<Brand, A>(map, address, Blank::new(1))
 }
 
-/// Asserts that such a map answers of each address as its row says.
-fn assert_answers<A: Allocator>(rt: &impl Abort, map: &AddressMap<A>, rows: &[(u64, StepAnswers)]) {
-    for (address, expected) in rows {
-        assert_same_at(
-            rt,
-            &address,
-            answers_in_four_steps(rt, map, *address),
-            *expected,
-        );
-    }
-}
-
 /// Five sorted ranges.
-const FIVE: [MapRange; 5] = [
-    (0x1000, 4, 80),
-    (0x1004, 4, 84),
-    (0x2000, 16, 100),
-    (0x3000, 1, 120),
-    (0x4000, 1, 121),
+static FIVE: [Range; 5] = [
+    range!(0x1000, 4, 80),
+    range!(0x1004, 4, 84),
+    range!(0x2000, 16, 100),
+    range!(0x3000, 1, 120),
+    range!(0x4000, 1, 121),
 ];
 
 /// Where the second of them holds an address.
@@ -112,25 +100,29 @@ const HELD: Place = Place {
 };
 
 /// What is answered of one address that is held, and of two that are not.
-const ANSWERS: [(u64, StepAnswers); 3] = [
+static ANSWERS: [(u64, StepAnswers); 3] = [
     (0x1006, (Some(HELD), Found::Held(HELD), 0)),
     (0x1fff, (None, Found::Gap(1), 1)),
     (0xff8, (None, Found::Gap(8), 8)),
 ];
 
 /// An address that none of them holds.
-const FREE: [PlaceRow; 1] = [(0x1fff, None)];
+static FREE: [PlaceRow; 1] = [(0x1fff, None)];
 
 /// The place of an address that the first of them holds, as a sixth does that is pushed behind them.
-const FIRST: [PlaceRow; 1] = [(0x1002, Some((82, 2)))];
+static FIRST: [PlaceRow; 1] = [(0x1002, place!(82, 2))];
 
 #[test]
 fn range_that_begins_before_the_last_one_ends_the_order(rt: HostRuntime) {
     let mut map = map_of(&rt, rt.alloc(), 6, &FIVE);
-    assert_answers(&rt, &map, &ANSWERS);
+    for (address, expected) in &ANSWERS {
+        let found = answers_in_four_steps(&rt, &map, *address);
+        assert_same_at(&rt, address, found, *expected);
+    }
     assert_places(&rt, &map, &FREE);
 
-    push(&rt, &mut map, (0x1002, 4, 200));
-    assert_sorted(&rt, &map, false);
+    assert!(rt; 0 < map.free());
+    map.push(0x1002, 4, 200);
+    assert_same_at(&rt, &"a sixth", map.is_sorted(), false);
     assert_places(&rt, &map, &FIRST);
 }

@@ -2,7 +2,7 @@
 ghost use Rattle.std.specs.Prelude.{◌≡◌, ◌<◌, All};
 ghost use Rattle.mdmp_map.specs.Ranges.{IsPlaced};
 
-use super::{push, with_room};
+use super::map_of;
 use crate::same::assert_same_at;
 use mdmp_map::{AddressMap, Place, Range, Steps, place_of};
 use std::alloc::{Allocator, Global};
@@ -50,14 +50,6 @@ fn free_from(ranges: &[Range], address: u8) -> u128
     u128::from(FAR)
 }
 
-/// What is to be found.
-fn expected(ranges: &[Range], address: u8) -> TableAnswers
-    requires { All IsPlaced ranges.now }
-{
-    let place = place_of(ranges, u64::from(address));
-    (place, place, free_from(ranges, address))
-}
-
 /// Finds an address and counts the steps under a ledger that nothing reads.
 fn find_under<G: Ledger, A: Allocator>(
     map: &AddressMap<A>,
@@ -78,27 +70,19 @@ fn found<A: Allocator>(map: &AddressMap<A>, address: u64) -> TableAnswers {
     (map.find(address), counted, gap)
 }
 
-/// A map of these ranges.
-fn map_of(rt: &impl Abort, alloc: Global, ranges: &[Range]) -> AddressMap<Global> {
-    let mut map = with_room(rt, alloc, ranges.len());
-    for range in ranges {
-        push(rt, &mut map, (range.start, range.length, range.offset));
-    }
-    map
-}
-
 /// Asserts that a map of these ranges finds the addresses up to 12 where the ranges have them.
 fn assert_agrees(rt: &impl Abort, alloc: Global, ranges: &[Range])
     requires { All IsPlaced ranges.now }
 {
-    let map = map_of(rt, alloc, ranges);
+    let map = map_of(rt, alloc, ranges.len(), ranges);
     assert_same_at(rt, &ranges, map.is_sorted(), are_sorted(ranges));
     for address in 0..13 {
+        let place = place_of(ranges, u64::from(address));
         assert_same_at(
             rt,
             &(address, ranges),
             found(&map, u64::from(address)),
-            expected(ranges, address),
+            (place, place, free_from(ranges, address)),
         );
     }
 }

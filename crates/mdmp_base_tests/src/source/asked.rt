@@ -3,7 +3,6 @@ use super::{Fetched, four_at_one};
 use crate::same::assert_same_at;
 use mdmp_source::{PatchyStore, Source, SourceFault, Store, StoreFailed};
 use std::cell::Cell;
-use std::process::Abort;
 
 /// A store that adds up in a cell of the test's how many bytes it is asked for.
 #[derive(Drop)]
@@ -26,21 +25,9 @@ impl<'a> Store for Asked<'a> {
     }
 }
 
-/// A fetch of four bytes from a store whose calls give so many, and how many bytes that asks for.
-fn asked_by(rt: &impl Abort, caps: &[usize]) -> (Fetched, u64) {
-    assert!(rt; !caps.is_empty());
-    let bytes = Cell::new(0);
-    let store = Asked {
-        store: PatchyStore::new(b"abcdef", caps, None),
-        bytes: &bytes,
-    };
-    let fetched = four_at_one(rt, &mut Source::new(store));
-    (fetched, bytes.get())
-}
-
 /// How many bytes the calls of a store give, what a fetch of four gives then, and how many bytes it asks for: each
 /// call for just those that were not given yet.
-const ROWS: [(&[usize], Fetched, u64); 4] = [
+static ROWS: [(&[usize], Fetched, u64); 4] = [
     (&[6], (None, *b"bcde"), 4),
     (&[3], (None, *b"bcde"), 4 + 1),
     (&[1], (None, *b"bcde"), 4 + 3 + 2 + 1),
@@ -54,6 +41,13 @@ const ROWS: [(&[usize], Fetched, u64); 4] = [
 #[test]
 fn fetch_asks_for_just_what_was_not_given(rt: HostRuntime) {
     for (caps, fetched, asked) in &ROWS {
-        assert_same_at(&rt, caps, asked_by(&rt, *caps), (*fetched, *asked));
+        assert!(rt; !caps.is_empty());
+        let bytes = Cell::new(0);
+        let store = Asked {
+            store: PatchyStore::new(b"abcdef", *caps, None),
+            bytes: &bytes,
+        };
+        let found = four_at_one(&rt, &mut Source::new(store));
+        assert_same_at(&rt, caps, (found, bytes.get()), (*fetched, *asked));
     }
 }

@@ -1,6 +1,6 @@
 //! Outputs that take what they are given, and such as refuse.
-use super::{OutStep, assert_out, assert_taken};
-use crate::same::assert_same;
+use super::{OutStep, assert_out};
+use crate::same::assert_same_at;
 use mdmp_source::{OutFailed, PatchyOut, WriteOut};
 use std::io::Write;
 use std::{fs, io};
@@ -8,7 +8,7 @@ use std::{fs, io};
 /// How many bytes an output in memory takes in all and a call, which call fails, its calls, and what it has taken then.
 type TakenRow = (usize, usize, Option<u64>, &'static [OutStep], &'static [u8]);
 
-const TAKEN: &[TakenRow] = &[
+static TAKEN: &[TakenRow] = &[
     // Writes of which one fails, and the last two come to the end of the room.
     (
         4,
@@ -50,23 +50,16 @@ fn output_that_fails_once_takes_what_it_can(rt: HostRuntime) {
             "an output",
         );
         assert_out(&rt, &mut out, *steps);
-        assert_taken(&rt, &out, *taken);
+        assert_same_at(&rt, &(room, fail_at), out.bytes(), *taken);
     }
 }
 
 /// Writes that all succeed.
-const SUCCEEDS: [OutStep; 3] = [
+static SUCCEEDS: [OutStep; 3] = [
     OutStep::Write(b"xy", Ok(2)),
     OutStep::WriteAll(b"z", Ok(())),
     OutStep::Send(b"abc", 3),
 ];
-
-#[test]
-fn write_out_writes_to_its_writer(rt: HostRuntime) {
-    let mut out = WriteOut::new(Vec::new(rt.alloc()));
-    assert_out(&rt, &mut out, &SUCCEEDS);
-    assert_same(&rt, out.into_inner().as_slice(), b"xyzabc".as_slice());
-}
 
 /// Writes that are all refused.
 const REFUSED: [OutStep; 3] = [
@@ -75,28 +68,12 @@ const REFUSED: [OutStep; 3] = [
     OutStep::Send(b"xy", 0),
 ];
 
-#[test]
-fn write_out_tells_that_a_write_failed(rt: HostRuntime) {
-    // The system opens a folder for reading, and refuses each write to it.
-    let mut out = WriteOut::new(fs::open(&rt, ".").expect(&rt, "a folder"));
-    assert_out(&rt, &mut out, &REFUSED);
-}
-
 /// A writer that takes at most `cap` bytes a call, or fails if there is no cap, and counts what it was handed.
 #[derive(Drop)]
 struct CountingWriter {
     cap: Option<usize>,
     /// Its calls, and the bytes that it was handed by all of them together.
     handed: (u32, usize),
-}
-
-impl CountingWriter {
-    fn new(cap: Option<usize>) -> Self {
-        CountingWriter {
-            cap,
-            handed: (0, 0),
-        }
-    }
 }
 
 impl Write for CountingWriter {
@@ -114,17 +91,33 @@ impl Write for CountingWriter {
     }
 }
 
-#[test]
-fn writer_that_fails_is_asked_once(rt: HostRuntime) {
-    let mut out = WriteOut::new(CountingWriter::new(None));
-    assert_out(&rt, &mut out, &REFUSED);
-    assert_same(&rt, out.into_inner().handed, (3, 6));
-}
+/// How many bytes a writer takes a call, the calls of an output over it, and what calls and bytes it is handed.
+static HANDED: [(Option<usize>, &[OutStep], (u32, usize)); 2] = [
+    // A writer that fails is asked once a call.
+    (None, &REFUSED, (3, 6)),
+    // Each call hands over all that is left: ten bytes, then six, then two.
+    (Some(4), &[OutStep::Send(b"abcdefghij", 10)], (3, 18)),
+];
 
 #[test]
-fn each_call_hands_over_all_that_is_left(rt: HostRuntime) {
-    let mut out = WriteOut::new(CountingWriter::new(Some(4)));
-    assert_out(&rt, &mut out, &[OutStep::Send(b"abcdefghij", 10)]);
-    // Ten bytes, then six, then two.
-    assert_same(&rt, out.into_inner().handed, (3, 18));
+fn write_out_answers_as_its_writer_does(rt: HostRuntime) {
+    let mut out = WriteOut::new(Vec::new(rt.alloc()));
+    assert_out(&rt, &mut out, &SUCCEEDS);
+    assert_same_at(
+        &rt,
+        &"a list",
+        out.into_inner().as_slice(),
+        b"xyzabc".as_slice(),
+    );
+    // The system opens a folder for reading, and refuses each write to it.
+    let mut out = WriteOut::new(fs::open(&rt, ".").expect(&rt, "a folder"));
+    assert_out(&rt, &mut out, &REFUSED);
+    for (cap, steps, handed) in &HANDED {
+        let mut out = WriteOut::new(CountingWriter {
+            cap: *cap,
+            handed: (0, 0),
+        });
+        assert_out(&rt, &mut out, *steps);
+        assert_same_at(&rt, cap, out.into_inner().handed, *handed);
+    }
 }

@@ -1,17 +1,9 @@
 //! Tests of place.
-use crate::same::{assert_same, assert_same_at};
+use crate::same::assert_same_at;
 use mdmp_source::{Extent, Location, inside};
 
-#[test]
-fn inside_does_not_wrap(rt: HostRuntime) {
-    let past = inside(u64::MAX, 2, u64::MAX);
-    let nothing = inside(9, 0, 3);
-    let last = inside(4294967295, 1, 4294967296);
-    assert_same(&rt, [past, nothing, last], [false, true, true]);
-}
-
 /// A location, the size of a file, and the class of the one in the other.
-const CLASSES: [(Location, u64, Extent); 4] = [
+static CLASSES: [(Location, u64, Extent); 4] = [
     (
         Location {
             size: 0,
@@ -26,7 +18,11 @@ const CLASSES: [(Location, u64, Extent); 4] = [
 ];
 
 #[test]
-fn locations_have_one_class(rt: HostRuntime) {
+fn places_do_not_wrap_and_locations_have_one_class(rt: HostRuntime) {
+    let past = inside(u64::MAX, 2, u64::MAX);
+    let nothing = inside(9, 0, 3);
+    let last = inside(4294967295, 1, 4294967296);
+    assert_same_at(&rt, &"places", [past, nothing, last], [false, true, true]);
     for (part, file_size, class) in &CLASSES {
         assert_same_at(&rt, part, part.classify(*file_size), *class);
     }

@@ -1,25 +1,15 @@
 //! Windows that slide over a stretch of a file.
-use crate::same::{assert_same, assert_same_at};
+use crate::same::assert_same_at;
 use linked_list_allocator::LocalHeap;
 use mdmp_source::{MemoryStore, PatchyStore, Source, SourceFault, Store, Window};
-use std::alloc::{Allocator, Global};
+use std::alloc::Allocator;
+use std::fmt::Debug;
 use std::process::Abort;
 
 /// The file of these tests.
 const FILE: &[u8] = b"abcdef";
 
-/// A source of the file whose store gives one byte a call, and may fail once.
-fn byte_by_byte(fail_at: Option<u64>) -> Source<PatchyStore<'static>> {
-    Source::new(PatchyStore::new(FILE, &[1], fail_at))
-}
-
-/// A window of that room.
-fn window_of<A: Allocator>(rt: &impl Abort, alloc: A, room: usize) -> Window<A> {
-    Window::with_room(alloc, room).expect(rt, "a window")
-}
-
 /// A step with a window over a source, and what it answers.
-#[derive(Clone, Copy)]
 enum WindowStep {
     /// Begins the stretch from one place up to another.
     Start(u64, u64),
@@ -37,10 +27,38 @@ enum WindowStep {
     Bounds(u64, usize),
 }
 
-/// Begins the stretch from `at` up to `end`.
-fn start<A: Allocator>(rt: &impl Abort, window: &mut Window<A>, at: u64, end: u64) {
-    assert!(rt; at <= end);
-    window.start(at, end);
+/// Takes steps one behind the other, each of which answers as it says.
+fn assert_steps<A: Allocator, S: Store>(
+    rt: &impl Abort,
+    at: &impl Debug,
+    window: &mut Window<A>,
+    source: &mut Source<S>,
+    steps: &[WindowStep],
+) {
+    for step in steps {
+        match step {
+            WindowStep::Start(from, to) => {
+                assert!(rt; *from <= *to);
+                window.start(*from, *to);
+            }
+            WindowStep::NextLen(len) => assert_same_at(rt, at, window.next_len(), *len),
+            WindowStep::Fill => assert_same_at(rt, at, fill(rt, window, source), Ok(())),
+            WindowStep::FailsAt(byte) => {
+                let fault = SourceFault::Failed { at: *byte };
+                assert_same_at(rt, at, fill(rt, window, source), Err(fault))
+            }
+            WindowStep::Consume(count) => {
+                assert!(rt; *count <= window.bytes().len());
+                window.consume(*count);
+            }
+            WindowStep::Holds(place, bytes) => {
+                assert_same_at(rt, at, (window.place(), window.bytes()), (*place, *bytes))
+            }
+            WindowStep::Bounds(end, room) => {
+                assert_same_at(rt, at, (window.end(), window.room()), (*end, *room))
+            }
+        }
+    }
 }
 
 /// Fetches what comes next.
@@ -51,56 +69,6 @@ fn fill<A: Allocator, S: Store>(
 ) -> Result<(), SourceFault> {
     assert!(rt; window.end() <= source.size());
     window.fill(source)
-}
-
-/// Drops the first bytes.
-fn consume<A: Allocator>(rt: &impl Abort, window: &mut Window<A>, count: usize) {
-    assert!(rt; count <= window.bytes().len());
-    window.consume(count);
-}
-
-/// Takes a step, and asserts that it answers as it says.
-fn assert_step<A: Allocator, S: Store>(
-    rt: &impl Abort,
-    window: &mut Window<A>,
-    source: &mut Source<S>,
-    step: WindowStep,
-) {
-    match step {
-        WindowStep::Start(at, end) => start(rt, window, at, end),
-        WindowStep::NextLen(len) => assert_same(rt, window.next_len(), len),
-        WindowStep::Fill => assert_same(rt, fill(rt, window, source), Ok(())),
-        WindowStep::FailsAt(at) => {
-            assert_same(
-                rt,
-                fill(rt, window, source),
-                Err(SourceFault::Failed { at }),
-            )
-        }
-        WindowStep::Consume(count) => consume(rt, window, count),
-        WindowStep::Holds(place, bytes) => assert_same(
-            rt,
-            (window.place(), window.bytes()),
-            (place, bytes),
-        ),
-        WindowStep::Bounds(end, room) => assert_same(
-            rt,
-            (window.end(), window.room()),
-            (end, room),
-        ),
-    }
-}
-
-/// Takes steps one behind the other, each of which answers as it says.
-fn assert_steps<A: Allocator, S: Store>(
-    rt: &impl Abort,
-    window: &mut Window<A>,
-    source: &mut Source<S>,
-    steps: &[WindowStep],
-) {
-    for step in steps {
-        assert_step(rt, window, source, *step);
-    }
 }
 
 /// Steps over the whole file.
@@ -166,7 +134,7 @@ const EMPTY_STRETCH: [WindowStep; 4] = [
 ];
 
 /// The room of a window, its steps over the file, and how often is fetched then, and how many bytes.
-const SLIDING: [(usize, &[WindowStep], u128, u128); 7] = [
+static SLIDING: [(usize, &[WindowStep], u128, u128); 7] = [
     (4, &SLIDES, 2, 6),
     (4, &BEGINS_ANEW, 4, 10),
     // Without room or rest nothing is fetched.
@@ -182,70 +150,11 @@ const SLIDING: [(usize, &[WindowStep], u128, u128); 7] = [
 fn with_room_succeeds_and_the_window_slides(rt: HostRuntime) {
     for (room, steps, calls, fetched) in &SLIDING {
         let mut source = Source::new(MemoryStore::new(FILE));
-        let mut window = window_of(&rt, rt.alloc(), *room);
-        assert_steps(&rt, &mut window, &mut source, *steps);
+        let mut window = Window::with_room(rt.alloc(), *room).expect(&rt, "a window");
+        assert_steps(&rt, room, &mut window, &mut source, *steps);
         let found = (source.calls(), source.fetched());
         assert_same_at(&rt, room, found, (*calls, *fetched));
     }
-}
-
-/// Steps whose first fill fails at this byte, and is tried again.
-fn first_fails(at: u64) -> [WindowStep; 7] {
-    [
-        WindowStep::Start(0, 6),
-        WindowStep::FailsAt(at),
-        WindowStep::Holds(0, b""),
-        WindowStep::Fill,
-        WindowStep::Consume(3),
-        WindowStep::Fill,
-        WindowStep::Holds(3, b"def"),
-    ]
-}
-
-/// Steps whose second fill fails at this byte, and is tried again.
-fn second_fails(at: u64) -> [WindowStep; 7] {
-    [
-        WindowStep::Start(0, 6),
-        WindowStep::Fill,
-        WindowStep::Consume(3),
-        WindowStep::FailsAt(at),
-        WindowStep::Holds(3, b"d"),
-        WindowStep::Fill,
-        WindowStep::Holds(3, b"def"),
-    ]
-}
-
-/// The steps over a store of which no call fails.
-const NONE_FAILS: [WindowStep; 5] = [
-    WindowStep::Start(0, 6),
-    WindowStep::Fill,
-    WindowStep::Consume(3),
-    WindowStep::Fill,
-    WindowStep::Holds(3, b"def"),
-];
-
-/// Asserts that a window is as it was behind a fault of this call of a store that gives one byte a call: of one
-/// in the first fill, or in the second, or of none in the two.
-fn assert_fault(rt: &impl Abort, window: &mut Window<Global>, fail_at: u64) {
-    let mut source = byte_by_byte(Some(fail_at));
-    match fail_at {
-        0..=3 => assert_steps(rt, window, &mut source, &first_fails(fail_at)),
-        4 | 5 => assert_steps(rt, window, &mut source, &second_fails(fail_at)),
-        _ => assert_steps(rt, window, &mut source, &NONE_FAILS),
-    }
-}
-
-#[test]
-fn window_is_as_it_was_behind_a_fault(rt: HostRuntime) {
-    let mut window = window_of(&rt, rt.alloc(), 4);
-    for fail_at in 0..7 {
-        assert_fault(&rt, &mut window, fail_at);
-    }
-}
-
-/// Whether there is memory for a window of that room.
-pub fn holds_window<A: Allocator>(alloc: A, room: usize) -> bool {
-    Window::with_room(alloc, room).is_ok()
 }
 
 /// Steps that hold the whole file.
@@ -259,8 +168,70 @@ const FILLED: [WindowStep; 3] = [
 fn window_takes_memory_once(rt: HostRuntime) {
     // A window takes the room of a heap of 16 bytes, and no more.
     let heap = LocalHeap::new(rt.alloc(), 16).expect(&rt, "a heap");
-    assert_same(&rt, holds_window(&heap, 17), false);
-    let mut source = byte_by_byte(None);
-    assert_steps(&rt, &mut window_of(&rt, &heap, 16), &mut source, &FILLED);
-    assert_same(&rt, (source.calls(), source.fetched()), (1, 6));
+    let is_made = Window::with_room(&heap, 17).is_ok();
+    assert_same_at(&rt, &17, is_made, false);
+    let mut window = Window::with_room(&heap, 16).expect(&rt, "a window");
+    let mut source = Source::new(PatchyStore::new(FILE, &[1], None));
+    assert_steps(&rt, &16, &mut window, &mut source, &FILLED);
+    assert_same_at(&rt, &16, (source.calls(), source.fetched()), (1, 6));
+}
+
+/// Steps whose first fill fails at this byte, and is tried again.
+macro_rules! first_fails {
+    ($at:expr) => {
+        &[
+            WindowStep::Start(0, 6),
+            WindowStep::FailsAt($at),
+            WindowStep::Holds(0, b""),
+            WindowStep::Fill,
+            WindowStep::Consume(3),
+            WindowStep::Fill,
+            WindowStep::Holds(3, b"def"),
+        ]
+    };
+}
+
+/// Steps whose second fill fails at this byte, and is tried again.
+macro_rules! second_fails {
+    ($at:expr) => {
+        &[
+            WindowStep::Start(0, 6),
+            WindowStep::Fill,
+            WindowStep::Consume(3),
+            WindowStep::FailsAt($at),
+            WindowStep::Holds(3, b"d"),
+            WindowStep::Fill,
+            WindowStep::Holds(3, b"def"),
+        ]
+    };
+}
+
+/// The steps over a store of which no call fails.
+const NONE_FAILS: [WindowStep; 5] = [
+    WindowStep::Start(0, 6),
+    WindowStep::Fill,
+    WindowStep::Consume(3),
+    WindowStep::Fill,
+    WindowStep::Holds(3, b"def"),
+];
+
+/// Which call of a store of one byte a call fails, in the first fill, the second or none, and the steps over that
+/// store.
+static FAULTS: [(u64, &[WindowStep]); 7] = [
+    (0, first_fails!(0)),
+    (1, first_fails!(1)),
+    (2, first_fails!(2)),
+    (3, first_fails!(3)),
+    (4, second_fails!(4)),
+    (5, second_fails!(5)),
+    (6, &NONE_FAILS),
+];
+
+#[test]
+fn window_is_as_it_was_behind_a_fault(rt: HostRuntime) {
+    let mut window = Window::with_room(rt.alloc(), 4).expect(&rt, "a window");
+    for (call, steps) in &FAULTS {
+        let mut source = Source::new(PatchyStore::new(FILE, &[1], Some(*call)));
+        assert_steps(&rt, call, &mut window, &mut source, *steps);
+    }
 }

@@ -119,62 +119,73 @@ const FIVE_BYTES: Descriptor64 = Descriptor64 {
     data_size: 5,
 };
 
-/// A record, where its name stands, and its slots, in the order of its fields.
-const RECORDS: [(AnyRecord, Option<u64>, [Slot; 3]); 6] = [
+/// A record, where its name stands, its slots, in the order of its fields, and the record with no place in it.
+static RECORDS: [(AnyRecord, Option<u64>, &[Slot], AnyRecord); 7] = [
     (
         AnyRecord::Thread(THREAD),
         None,
-        [
+        &[
             Slot::Part(PartName::Stack, FIRST),
             Slot::Part(PartName::Context, SECOND),
             Slot::Empty,
         ],
+        AnyRecord::Thread(NO_THREAD),
     ),
     (
         AnyRecord::Module(MODULE),
         Some(7),
-        [
+        &[
             Slot::Name(7),
             Slot::Part(PartName::CodeView, FIRST),
             Slot::Part(PartName::Misc, SECOND),
         ],
+        AnyRecord::Module(NO_MODULE),
     ),
     (
         AnyRecord::System(SYSTEM),
         Some(8),
-        [Slot::Name(8), Slot::Empty, Slot::Empty],
+        &[Slot::Name(8), Slot::Empty, Slot::Empty],
+        AnyRecord::System(NO_SYSTEM),
     ),
     (
         AnyRecord::ThreadName(THREAD_NAME),
         Some(u64::MAX),
-        [Slot::Name(u64::MAX), Slot::Empty, Slot::Empty],
+        &[Slot::Name(u64::MAX), Slot::Empty, Slot::Empty],
+        AnyRecord::ThreadName(ThreadNameRecord {
+            thread_id: 9,
+            rva_of_thread_name: 0,
+        }),
     ),
     (
         AnyRecord::Memory(NO_RANGE),
         None,
-        [
+        &[
             Slot::Part(PartName::Memory, NOWHERE),
             Slot::Empty,
             Slot::Empty,
         ],
+        AnyRecord::Memory(NO_RANGE),
     ),
     (
         AnyRecord::Memory64(NO_RANGE_64),
         None,
-        [
-            Slot::Behind(NO_RANGE_64.data_size),
-            Slot::Empty,
-            Slot::Empty,
-        ],
+        &[Slot::Behind(0), Slot::Empty, Slot::Empty],
+        AnyRecord::Memory64(NO_RANGE_64),
+    ),
+    (
+        AnyRecord::Memory64(FIVE_BYTES),
+        None,
+        &[Slot::Behind(5), Slot::Empty, Slot::Empty],
+        AnyRecord::Memory64(FIVE_BYTES),
     ),
 ];
 
 #[test]
 fn slots_of_a_record_are_in_the_order_of_its_fields(rt: HostRuntime) {
-    let records = RECORDS;
-    for (record, name, slots) in &records {
-        let found = (record.name_rva(), record.slots());
-        assert_same_at(&rt, record, found, (*name, *slots));
+    for (record, name, slots, bare) in &RECORDS {
+        let own = record.slots();
+        let found = (record.name_rva(), own.as_slice(), record.bare());
+        assert_same_at(&rt, record, found, (*name, *slots, *bare));
     }
 }
 
@@ -218,21 +229,6 @@ fn slots_are_put_into_a_record(rt: HostRuntime) {
     let records = PUT;
     for (record, slots, put) in &records {
         assert_same_at(&rt, record, record.with_slots(*slots), *put);
-    }
-}
-
-#[test]
-fn bare_record_has_no_place_in_it(rt: HostRuntime) {
-    let records = [
-        (AnyRecord::Module(MODULE), AnyRecord::Module(NO_MODULE)),
-        (AnyRecord::System(SYSTEM), AnyRecord::System(NO_SYSTEM)),
-        (
-            AnyRecord::Memory64(FIVE_BYTES),
-            AnyRecord::Memory64(FIVE_BYTES),
-        ),
-    ];
-    for (record, bare) in &records {
-        assert_same_at(&rt, record, record.bare(), *bare);
     }
 }
 

@@ -2,7 +2,6 @@
 use crate::same::assert_same_at;
 use crate::source::part;
 use mdmp_wire::CodeView;
-use std::process::Abort;
 
 /// The first 24 bytes of a CodeView record of 30, whose name is `a.pdb` and a zero byte.
 const HEAD: [u8; 24] =
@@ -19,24 +18,9 @@ const OTHER_HEAD: [u8; 24] =
 /// its signature, where it has one, and its size.
 type CodeViewTold<'a> = Result<([u8; 16], u32, &'a [u8], bool), (Option<[u8; 4]>, u32)>;
 
-/// What a record of `size` bytes tells, of which these are the first 24 and some of the rest.
-fn told_of<'a>(rt: &impl Abort, head: &[u8], rest: &'a [u8], size: u32) -> CodeViewTold<'a> {
-    assert!(rt; head.len() == (size as usize).min(24));
-    match CodeView::read(head, rest, size) {
-        CodeView::Rsds {
-            guid,
-            age,
-            name,
-            ended,
-        } => Ok((guid.into_bytes(), age, name, ended)),
-        CodeView::Other { signature, size } => Err((Some(signature), size)),
-        CodeView::Short { size } => Err((None, size)),
-    }
-}
-
 /// The first 24 bytes of a record, which has fewer if it is short, what was fetched of the rest, its size, and what it
 /// tells.
-const CODEVIEWS: &[(&[u8; 24], &[u8], u32, CodeViewTold<'static>)] = &[
+static CODEVIEWS: &[(&[u8; 24], &[u8], u32, CodeViewTold<'static>)] = &[
     // A symbol file is named up to its zero byte, or as far as it was fetched.
     (&HEAD, b"a.pdb\0", 30, Ok((GUID, 1, b"a.pdb", true))),
     (&HEAD, b"a.p", 30, Ok((GUID, 1, b"a.p", false))),
@@ -51,7 +35,17 @@ const CODEVIEWS: &[(&[u8; 24], &[u8], u32, CodeViewTold<'static>)] = &[
 fn symbol_file_is_named_up_to_its_zero_byte(rt: HostRuntime) {
     for (head, rest, size, expected) in CODEVIEWS {
         let first = part(&rt, head.as_slice(), 0, (*size as usize).min(24));
-        let told = told_of(&rt, first, *rest, *size);
+        assert!(rt; first.len() == (*size as usize).min(24));
+        let told = match CodeView::read(first, *rest, *size) {
+            CodeView::Rsds {
+                guid,
+                age,
+                name,
+                ended,
+            } => Ok((guid.into_bytes(), age, name, ended)),
+            CodeView::Other { signature, size } => Err((Some(signature), size)),
+            CodeView::Short { size } => Err((None, size)),
+        };
         assert_same_at(&rt, &(rest, size), told, *expected);
     }
 }

@@ -4,7 +4,7 @@ use mdmp_wire::{Header, HeaderFault};
 
 /// The head of a file, and what the test of it answers. The signature is tested before the version, whose high half is
 /// the producer's.
-const HEADS: &[(&[u8; 32], Result<Header, HeaderFault>)] = &[
+static HEADS: &[(&[u8; 32], Result<Header, HeaderFault>)] = &[
     (
         b"PMDM\x94\xa7\0\0\0\0\0\0\0\0\0\0\0\0\0\0\0\0\0\0\0\0\0\0\0\0\0\0",
         Err(HeaderFault::BadSignature),

@@ -1,5 +1,5 @@
 //! The records of the lists, read and written.
-use super::fields::assert_fields;
+use super::fields::{COUNTED, assert_fields};
 use mdmp_source::Location;
 use mdmp_wire::{
     Descriptor, MemoryInfoRecord, ModuleRecord, ThreadNameRecord, ThreadRecord, UnloadedRecord,
@@ -99,10 +99,10 @@ const MEMORY_INFO: MemoryInfoRecord = MemoryInfoRecord {
 
 #[test]
 fn records_have_their_fields_at_their_offsets(rt: HostRuntime) {
-    assert_fields(&rt, 48, &[], THREAD);
-    assert_fields(&rt, 52, &[], VERSION_INFO);
-    assert_fields(&rt, 108, &[], MODULE);
-    assert_fields(&rt, 24, &[], UNLOADED);
-    assert_fields(&rt, 12, &[], THREAD_NAME);
-    assert_fields(&rt, 48, &[20, 44], MEMORY_INFO);
+    assert_fields(&rt, &COUNTED, 48, &[], THREAD);
+    assert_fields(&rt, &COUNTED, 52, &[], VERSION_INFO);
+    assert_fields(&rt, &COUNTED, 108, &[], MODULE);
+    assert_fields(&rt, &COUNTED, 24, &[], UNLOADED);
+    assert_fields(&rt, &COUNTED, 12, &[], THREAD_NAME);
+    assert_fields(&rt, &COUNTED, 48, &[20, 44], MEMORY_INFO);
 }

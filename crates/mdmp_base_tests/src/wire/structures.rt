@@ -1,5 +1,5 @@
 //! Heads, places, the system and an exception, read and written.
-use super::fields::assert_fields;
+use super::fields::{COUNTED, assert_fields};
 use mdmp_source::Location;
 use mdmp_wire::{
     Descriptor, Descriptor64, Entry, ExceptionRecord, Header, Memory64List, MemoryInfoList,
@@ -91,6 +91,21 @@ const EXCEPTION: ExceptionRecord = ExceptionRecord {
     },
 };
 
+/// An exception whose bits are all set.
+const EXCEPTION_OF_ONES: ExceptionRecord = ExceptionRecord {
+    thread_id: u32::MAX,
+    exception_code: u32::MAX,
+    exception_flags: u32::MAX,
+    exception_record: u64::MAX,
+    exception_address: u64::MAX,
+    number_parameters: u32::MAX,
+    exception_information: [u64::MAX; 15],
+    thread_context: Location {
+        size: u32::MAX,
+        rva: u32::MAX,
+    },
+};
+
 const UNLOADED_LIST: UnloadedList = UnloadedList {
     size_of_header: 0x03020100,
     size_of_entry: 0x07060504,
@@ -110,14 +125,16 @@ const MEMORY64_LIST: Memory64List = Memory64List {
 
 #[test]
 fn structures_have_their_fields_at_their_offsets(rt: HostRuntime) {
-    assert_fields(&rt, 32, &[], HEADER);
-    assert_fields(&rt, 12, &[], ENTRY);
-    assert_fields(&rt, 8, &[], LOCATION);
-    assert_fields(&rt, 16, &[], DESCRIPTOR);
-    assert_fields(&rt, 16, &[], DESCRIPTOR64);
-    assert_fields(&rt, 56, &[], SYSTEM);
-    assert_fields(&rt, 168, &[4, 36], EXCEPTION);
-    assert_fields(&rt, 12, &[], UNLOADED_LIST);
-    assert_fields(&rt, 16, &[], MEMORY_INFO_LIST);
-    assert_fields(&rt, 16, &[], MEMORY64_LIST);
+    assert_fields(&rt, &COUNTED, 32, &[], HEADER);
+    assert_fields(&rt, &COUNTED, 12, &[], ENTRY);
+    assert_fields(&rt, &COUNTED, 8, &[], LOCATION);
+    assert_fields(&rt, &COUNTED, 16, &[], DESCRIPTOR);
+    assert_fields(&rt, &COUNTED, 16, &[], DESCRIPTOR64);
+    assert_fields(&rt, &COUNTED, 56, &[], SYSTEM);
+    assert_fields(&rt, &COUNTED, 168, &[4, 36], EXCEPTION);
+    assert_fields(&rt, &COUNTED, 12, &[], UNLOADED_LIST);
+    assert_fields(&rt, &COUNTED, 16, &[], MEMORY_INFO_LIST);
+    assert_fields(&rt, &COUNTED, 16, &[], MEMORY64_LIST);
+    // Alignment is ignored, and written as zeros.
+    assert_fields(&rt, &[0xff; 168], 168, &[4, 36], EXCEPTION_OF_ONES);
 }

@@ -1,179 +1,90 @@
 //! Names, and the digits of printed numbers.
-use crate::same::{assert_different, assert_same, assert_same_at, assert_that};
+use crate::same::assert_same_at;
 use crate::source::part;
-use linked_list_allocator::LocalHeap;
 use mdmp_source::{OutFailed, PatchyOut};
 use mdmp_wire::{Units, UnitsRef, hex_digits, text_survives_utf16};
-use std::alloc::{AllocError, Allocator, Global};
+use std::alloc::Global;
 use std::process::Abort;
 
-/// The nine units of `symbol.db`.
-pub const NINE: &[u8] = b"s\0y\0m\0b\0o\0l\0.\0d\0b\0";
-
 /// The units that stand in these bytes.
-fn over<'a>(rt: &impl Abort, bytes: &'a [u8]) -> UnitsRef<'a> {
+pub fn over<'a>(rt: &impl Abort, bytes: &'a [u8]) -> UnitsRef<'a> {
     assert!(rt; bytes.len() % 2 == 0);
     UnitsRef::over(bytes)
 }
 
 /// The units of a text, which has no unit that is lost.
-fn from_text<A: Allocator>(alloc: A, text: &str) -> Result<Units<A>, AllocError> {
-    text_survives_utf16(text);
-    Units::from_str(alloc, text)
-}
-
-/// The units of these bytes in memory of their own.
-fn from_bytes<A: Allocator>(
-    rt: &impl Abort,
-    alloc: A,
-    bytes: &[u8],
-) -> Result<Units<A>, AllocError> {
-    assert!(rt; bytes.len() % 2 == 0);
-    Units::from_le(alloc, bytes)
-}
-
-/// The same units in memory of their own.
-fn owned<A: Allocator>(alloc: A, units: &UnitsRef<'_>) -> Result<Units<A>, AllocError> {
-    units.to_owned(alloc)
-}
-
-/// The text of the units.
-fn text_of<A: Allocator + Copy>(alloc: A, units: &UnitsRef<'_>) -> Result<String<A>, AllocError> {
-    units.to_utf8(alloc)
-}
-
-/// The units of a text.
 fn units_of(rt: &impl Abort, alloc: Global, text: &str) -> Units<Global> {
-    from_text(alloc, text).expect(rt, "units")
-}
-
-/// Whether there is memory for the units of a text.
-pub fn holds_text<A: Allocator>(alloc: A, text: &str) -> bool {
-    from_text(alloc, text).is_ok()
-}
-
-/// Whether there is memory for the units of these bytes.
-pub fn holds_bytes<A: Allocator>(rt: &impl Abort, alloc: A, bytes: &[u8]) -> bool {
-    from_bytes(rt, alloc, bytes).is_ok()
-}
-
-/// Whether there is memory for the units that stand in these bytes.
-pub fn holds_units<A: Allocator>(rt: &impl Abort, alloc: A, bytes: &[u8]) -> bool {
-    owned(alloc, &over(rt, bytes)).is_ok()
-}
-
-/// Whether there is memory for the text of the units that stand in these bytes.
-pub fn holds_text_of<A: Allocator + Copy>(rt: &impl Abort, alloc: A, bytes: &[u8]) -> bool {
-    text_of(alloc, &over(rt, bytes)).is_ok()
-}
-
-/// Asserts that the units are these, one by one.
-fn assert_units(rt: &impl Abort, units: &UnitsRef<'_>, expected: &[u16]) {
-    assert_same(rt, units.is_empty(), expected.is_empty());
-    assert_same(rt, units.len(), expected.len());
-    for (index, unit) in expected.iter().enumerate() {
-        assert!(rt; index < units.len());
-        assert_same_at(rt, &index, units.get(index), *unit);
-    }
-}
-
-/// Asserts that this is the text of the units.
-fn assert_text(rt: &impl Abort, alloc: Global, units: &UnitsRef<'_>, expected: &str) {
-    let text = text_of(alloc, units).expect(rt, "a text");
-    assert_same(rt, text.as_str(), expected);
+    text_survives_utf16(text);
+    Units::from_str(alloc, text).expect(rt, "units")
 }
 
 #[test]
 fn hexadecimal_digits_are_the_last_ones(rt: HostRuntime) {
     let mut digits = [0; 4];
     hex_digits(0x1_fa09, &mut digits);
-    assert_same(&rt, digits, *b"fa09");
+    assert_same_at(&rt, &0x1_fa09, digits, *b"fa09");
 }
 
-/// Asserts that the units of these bytes are printed as this text to an output that takes so much.
-fn assert_escaped(
-    rt: &impl Abort,
-    alloc: Global,
-    bytes: &[u8],
-    taking: (usize, usize, Option<u64>),
-    answer: Result<(), OutFailed>,
-    text: &[u8],
-) {
-    let (room, cap, fail_at) = taking;
-    let mut out = PatchyOut::with_room(alloc, room, cap, fail_at).expect(rt, "an output");
-    let found = (over(rt, bytes).escape_into(&mut out), out.bytes());
-    assert_same_at(rt, &(bytes, fail_at), found, (answer, text));
-}
-
-/// Units, how many bytes an output takes in all and a call, what it answers, and the text that it has then.
+/// Units, how many bytes an output takes in all and a call, which call fails, what it answers, and the text that it has then.
 type EscapeRow = (
     &'static [u8],
     usize,
     usize,
+    Option<u64>,
     Result<(), OutFailed>,
     &'static [u8],
 );
 
-const ESCAPES: &[EscapeRow] = &[
+/// A unit, and a pair of surrogates.
+const PAIR: &[u8] = b"\x61\x00\x3d\xd8\x00\xde";
+
+static ESCAPES: &[EscapeRow] = &[
     (
         b"\x22\x00\x5c\x00\x7f\x00",
         100,
         5,
+        None,
         Ok(()),
         b"\"\\u005c\\u007f",
     ),
-    (
-        b"\x61\x00\x3d\xd8\x00\xde",
-        100,
-        5,
-        Ok(()),
-        b"a\\ud83d\\ude00",
-    ),
+    (PAIR, 100, 5, None, Ok(()), b"a\\ud83d\\ude00"),
     (
         b"\x1f\x00\x20\x00\x7e\x00\x41\x01",
         100,
         5,
+        None,
         Ok(()),
         b"\\u001f ~\\u0141",
     ),
     // An escape that is refused leaves its first part.
-    (b"\x61\x00\x3d\xd8\x00\xde", 4, 3, Err(OutFailed), b"a\\ud"),
+    (PAIR, 4, 3, None, Err(OutFailed), b"a\\ud"),
+    // Each call fails in turn.
+    (PAIR, 100, 1, Some(0), Err(OutFailed), b""),
+    (PAIR, 100, 1, Some(1), Err(OutFailed), b"a"),
+    (PAIR, 100, 1, Some(2), Err(OutFailed), b"a\\"),
+    (PAIR, 100, 1, Some(3), Err(OutFailed), b"a\\u"),
+    (PAIR, 100, 1, Some(4), Err(OutFailed), b"a\\ud"),
+    (PAIR, 100, 1, Some(5), Err(OutFailed), b"a\\ud8"),
+    (PAIR, 100, 1, Some(6), Err(OutFailed), b"a\\ud83"),
+    (PAIR, 100, 1, Some(7), Err(OutFailed), b"a\\ud83d"),
+    (PAIR, 100, 1, Some(8), Err(OutFailed), b"a\\ud83d\\"),
+    (PAIR, 100, 1, Some(9), Err(OutFailed), b"a\\ud83d\\u"),
+    (PAIR, 100, 1, Some(10), Err(OutFailed), b"a\\ud83d\\ud"),
+    (PAIR, 100, 1, Some(11), Err(OutFailed), b"a\\ud83d\\ude"),
+    (PAIR, 100, 1, Some(12), Err(OutFailed), b"a\\ud83d\\ude0"),
+    (PAIR, 100, 1, Some(13), Ok(()), b"a\\ud83d\\ude00"),
 ];
 
 #[test]
-fn units_are_escaped_one_by_one(rt: HostRuntime) {
-    for (bytes, room, cap, answer, text) in ESCAPES {
-        assert_escaped(&rt, rt.alloc(), *bytes, (*room, *cap, None), *answer, *text);
-    }
-}
-
-#[test]
 fn each_call_of_an_escape_may_fail(rt: HostRuntime) {
-    let bytes = b"\x61\x00\x3d\xd8\x00\xde";
-    let text = b"a\\ud83d\\ude00";
-    for call in 0..14 {
-        let answer = if call < 13 { Err(OutFailed) } else { Ok(()) };
-        let first = part(&rt, text, 0, call);
-        assert_escaped(
+    for (bytes, room, cap, fail_at, answer, text) in ESCAPES {
+        let mut out = PatchyOut::with_room(rt.alloc(), *room, *cap, *fail_at).expect(
             &rt,
-            rt.alloc(),
-            bytes,
-            (100, 1, Some(call as u64)),
-            answer,
-            first,
+            "an output",
         );
+        let found = (over(&rt, *bytes).escape_into(&mut out), out.bytes());
+        assert_same_at(&rt, &(bytes, fail_at), found, (*answer, *text));
     }
-}
-
-/// Asserts that this stands in a buffer once the units between two indexes are put behind `at `.
-fn assert_put(rt: &impl Abort, row: &PutRow) {
-    let (bytes, start, end, expected) = *row;
-    let units = over(rt, bytes);
-    assert!(rt; start <= end && end <= units.len() && end <= 30);
-    let mut text = [0; 200];
-    text[..3].copy_from_slice(b"at ");
-    let len = units.escape_at(&mut text, 3, start, end);
-    assert_same_at(rt, row, part(rt, &text, 0, len), expected);
 }
 
 /// The units of a path.
@@ -191,7 +102,7 @@ const UPPER: &[u8] = b"A\x01A\0A\x80A\x7f\x5c\x01A\x20B\0C\0";
 /// Units, two indexes, and what stands in a buffer once the units between them are put behind `at `.
 type PutRow = (&'static [u8], usize, usize, &'static [u8]);
 
-const PUTS: &[PutRow] = &[
+static PUTS: &[PutRow] = &[
     (PATH, 0, 20, b"at C:\\u005cWindows\\u005csystem32\\u005c"),
     (PATH, 3, 10, b"at Windows"),
     (PATH, 11, 19, b"at system32"),
@@ -205,66 +116,79 @@ const PUTS: &[PutRow] = &[
 
 #[test]
 fn units_are_escaped_behind_a_text(rt: HostRuntime) {
-    for row in PUTS {
-        assert_put(&rt, row);
+    for (bytes, start, end, expected) in PUTS {
+        let units = over(&rt, *bytes);
+        assert!(rt; *start <= *end && *end <= units.len() && *end <= 30);
+        let mut text = [0; 200];
+        text[..3].copy_from_slice(b"at ");
+        let len = units.escape_at(&mut text, 3, *start, *end);
+        assert_same_at(
+            &rt,
+            &(bytes, start, end),
+            part(&rt, &text, 0, len),
+            *expected,
+        );
     }
 }
 
-#[test]
-fn units_of_a_text_succeed(rt: HostRuntime) {
-    let text = "a\u{1F600}";
-    let units = units_of(&rt, rt.alloc(), text);
-    assert_units(&rt, &units.view(), &[0x0061, 0xd83d, 0xde00]);
-    assert_text(&rt, rt.alloc(), &units.view(), text);
+/// Asserts that the units are these, one by one, and that this is their text.
+fn assert_units(
+    rt: &impl Abort,
+    alloc: Global,
+    units: &UnitsRef<'_>,
+    expected: &[u16],
+    text: &str,
+) {
+    assert_same_at(
+        rt,
+        &text,
+        (units.is_empty(), units.len()),
+        (expected.is_empty(), expected.len()),
+    );
+    for (index, unit) in expected.iter().enumerate() {
+        assert!(rt; index < units.len());
+        assert_same_at(rt, &(text, index), units.get(index), *unit);
+    }
+    let found = units.to_utf8(alloc).expect(rt, "a text");
+    assert_same_at(rt, &text, found.as_str(), text);
+}
+
+/// Bytes, the units that stand in them, and their text.
+static UNITS: [(&[u8], &[u16], &str); 4] = [
+    (PAIR, &[0x0061, 0xd83d, 0xde00], "a\u{1F600}"),
     // A lone surrogate becomes the replacement character.
-    assert_text(&rt, rt.alloc(), &over(&rt, &[0x3d, 0xd8]), "\u{FFFD}");
-}
+    (&[0x3d, 0xd8], &[0xd83d], "\u{FFFD}"),
+    (b"\x34\x12\x00\xdc", &[0x1234, 0xdc00], "\u{1234}\u{FFFD}"),
+    (b"", &[], ""),
+];
 
 #[test]
-fn units_of_bytes_succeed(rt: HostRuntime) {
-    // They are copied from memory of their own to such memory.
-    let units = from_bytes(&rt, rt.alloc(), b"\x34\x12\x00\xdc").expect(&rt, "units");
-    let again = owned(rt.alloc(), &units.view()).expect(&rt, "units");
-    assert_units(&rt, &again.view(), &[0x1234, 0xdc00]);
-    assert_units(&rt, &over(&rt, b""), &[]);
-}
-
-/// Asserts that the units of these bytes are printed as this text.
-fn assert_printed(rt: &impl Abort, alloc: Global, bytes: &[u8], expected: &str) {
-    let units = over(rt, bytes);
-    let text = format!(in alloc; "{units:?}").expect(rt, "a text");
-    assert_same(rt, text.as_str(), expected);
+fn units_of_bytes_and_of_a_text_succeed(rt: HostRuntime) {
+    for (bytes, expected, text) in &UNITS {
+        let units = over(&rt, *bytes);
+        assert_units(&rt, rt.alloc(), &units, *expected, *text);
+        // They are copied from memory of their own to such memory.
+        assert!(rt; bytes.len() % 2 == 0);
+        let own = Units::from_le(rt.alloc(), *bytes).expect(&rt, "units");
+        let again = own.view().to_owned(rt.alloc()).expect(&rt, "units");
+        assert_units(&rt, rt.alloc(), &again.view(), *expected, *text);
+    }
+    let (_, expected, text) = UNITS[0];
+    let units = units_of(&rt, rt.alloc(), text);
+    assert_units(&rt, rt.alloc(), &units.view(), expected, text);
 }
 
 #[test]
 fn units_are_compared_and_printed(rt: HostRuntime) {
-    let bytes = b"a\0\x5c\0";
-    assert_same(&rt, over(&rt, bytes), over(&rt, b"a\0\x5c\0"));
-    assert_different(&rt, over(&rt, bytes), over(&rt, b"a\0\x5c\x01"));
-    assert_different(&rt, over(&rt, bytes), over(&rt, b"a\0"));
-    let alloc = rt.alloc();
-    let own = owned(alloc, &over(&rt, bytes)).expect(&rt, "units");
-    assert_that(&rt, own != units_of(&rt, alloc, "b\\"));
-    assert_same(&rt, own, units_of(&rt, alloc, "a\\"));
-    assert_printed(&rt, alloc, bytes, "\"a\\u005c\"");
-}
-
-/// The size of a heap, whether it has memory for nine units, however they are made, and whether for their text. The
-/// smallest heap has 16 bytes, so 9 units do not fit; in 32 bytes they do, and no text beside them. A text is made
-/// of its units as numbers, in 48 bytes with both: it takes no more.
-const HEAPS: [(usize, bool, bool); 3] = [(0, false, false), (32, true, false), (48, true, true)];
-
-#[test]
-fn refused_memory_is_told(rt: HostRuntime) {
-    for (size, holds, holds_text_too) in &HEAPS {
-        let heap = LocalHeap::new(rt.alloc(), *size).expect(&rt, "a heap");
-        let found = [
-            holds_bytes(&rt, &heap, &[0; 18]),
-            holds_units(&rt, &heap, NINE),
-            holds_text_of(&rt, &heap, NINE),
-        ];
-        assert_same_at(&rt, size, found, [*holds, *holds, *holds_text_too]);
+    let units = over(&rt, b"a\0\x5c\0");
+    assert_same_at(&rt, &"the same", units, over(&rt, b"a\0\x5c\0"));
+    for other in &[b"a\0\x5c\x01".as_slice(), b"a\0".as_slice()] {
+        assert_same_at(&rt, other, units != over(&rt, *other), true);
     }
-    let heap = LocalHeap::new(rt.alloc(), 0).expect(&rt, "a heap");
-    assert_same(&rt, holds_text(&heap, "symbol.db"), false);
+    let alloc = rt.alloc();
+    let own = units.to_owned(alloc).expect(&rt, "units");
+    assert_same_at(&rt, &"b", own != units_of(&rt, alloc, "b\\"), true);
+    assert_same_at(&rt, &"a", own, units_of(&rt, alloc, "a\\"));
+    let text = format!(in alloc; "{units:?}").expect(&rt, "a text");
+    assert_same_at(&rt, &"printed", text.as_str(), "\"a\\u005c\"");
 }
