@@ -76,7 +76,7 @@ pub const NO_LIMIT: &str = "a limit is reached without one";
 const THINGS: usize = 58;
 
 /// What is printed of each.
-const TOLD: [&str; THINGS] = [
+static TOLD: [&str; THINGS] = [
     "files",
     "bytes of files",
     "files that were damaged",

@@ -4,7 +4,7 @@ use crate::chance::Chance;
 use crate::draft::{Belongs, Draft, DraftNumber};
 
 /// Numbers at the edges of their fields, and counts whose records pass 2^32 or 2^64 bytes.
-const EDGES: [u64; 16] = [
+static EDGES: [u64; 16] = [
     0,
     1,
     2,

@@ -14,7 +14,7 @@ pub struct Chosen {
 }
 
 /// Those which another program copied too.
-pub const CHOSEN: [Chosen; 6] = [
+pub static CHOSEN: [Chosen; 6] = [
     Chosen {
         dump: "crashpad-one.dmp",
         types: &[3, 4, 5, 6, 7, 15, 24, 1129316353, 1265303554],

@@ -33,7 +33,7 @@ use crate::written::{tell_value, tell_view};
 use std::process::ExitCode;
 
 /// The dumps, each named for the program that wrote it.
-const DUMPS: [&str; 6] = [
+static DUMPS: [&str; 6] = [
     "crashpad-one.dmp",
     "lldb19-crash-stack.dmp",
     "llvm-all-kinds.dmp",
@@ -58,7 +58,7 @@ enum Aspect {
 }
 
 /// What is told of all dumps, one behind the other.
-const ASPECTS: [Aspect; 10] = [
+static ASPECTS: [Aspect; 10] = [
     Aspect::List,
     Aspect::Check,
     Aspect::Symbols,

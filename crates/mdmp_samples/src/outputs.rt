@@ -7,7 +7,7 @@ use std::alloc::Global;
 use std::io::Write;
 
 /// Command lines, of which one prints and two tell why they don't.
-const LINES: [[&str; 3]; 3] = [
+static LINES: [[&str; 3]; 3] = [
     ["mdmp", "list", "llvm-empty.dmp"],
     ["mdmp", "list", "/dev/null"],
     ["mdmp", "list", "none.dmp"],
