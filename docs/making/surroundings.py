@@ -23,7 +23,7 @@ SHOWN = [
     ("an allocation", r"growth|name_was_refused|want_of_memory|memory::memory_is"),
     ("a truncated file", r"prefixes::"),
     ("a sink that stops", r"sinks::|sink_stops"),
-    ("success", r"succeed|are_read$|is_read_back|copy_stands|by_no_fetch"),
+    ("success", r"succeed|are_read$|_read_and_written$|is_read_back|copy_stands|by_no_fetch"),
     ("a call of the system", r"system_calls::"),
     ("a write", r"output|an_escape|line_outs::"),
     ("a read", r"store|_may_fail|read_failed|small_reads|windows::window_is_as_it_was"),
