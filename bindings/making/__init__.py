@@ -1,1 +1,1 @@
-"""Makes the declarations of each language from interface.toml."""
+"""Makes the files of each language, and the lines in others, from the tables in bindings/."""

@@ -6,7 +6,7 @@ import textwrap
 
 from lib.generated import Stretches, filled
 
-from .interface import Argument, Call, Enum, Interface, Structure
+from .interface import MADE, Argument, Call, Enum, Interface, Structure
 from .lines import WIDTH, wrapped
 
 TYPES = {"bool": "bool", "u8": "uint8_t", "u32": "uint32_t", "u64": "uint64_t"}
@@ -96,7 +96,7 @@ def header_text(interface: Interface) -> str:
     others = [call for call in interface.calls if call.name != call.symbol]
     parts = [
         f"/*{page[2:]}\n */",
-        "/* Made by bindings/generate from bindings/interface.toml. */\n#ifndef MDMP_H\n#define MDMP_H",
+        f"/* {MADE} */\n#ifndef MDMP_H\n#define MDMP_H",
         "#include <stdbool.h>\n#include <stddef.h>\n#include <stdint.h>",
         '#ifdef __cplusplus\nextern "C" {\n#endif',
         f"/* What mdmp_abi() returns for the library of this header. */\n#define MDMP_ABI {interface.abi}",
@@ -137,6 +137,6 @@ def map_text(interface: Interface) -> str:
     """The names that the shared library exports."""
     names = "".join(f"    {call.symbol};\n" for call in interface.calls)
     return (
-        "# Made by bindings/generate from bindings/interface.toml.\n"
+        f"# {MADE}\n"
         f"MDMP_{interface.abi} {{\nglobal:\n{names}local:\n    *;\n}};\n"
     )

@@ -8,6 +8,9 @@ from dataclasses import dataclass
 
 from lib.generated import Mistake
 
+from .spelling import camel
+
+MADE = "Made by bindings/generate from bindings/interface.toml."
 HERE = os.path.dirname(os.path.dirname(os.path.abspath(__file__)))
 # The order in which pages have the tables. Others come before the ranges.
 ORDER = ["thread", "module", "unloaded", "exception", "system", "region", "thread_name"]
@@ -124,10 +127,6 @@ class Call:
     def symbol(self) -> str:
         """The exported name. It ends in _ where the header has a function of the plain name before it."""
         return self.name + "_" if self.arguments else self.name
-
-
-def camel(name: str) -> str:
-    return "".join(word.capitalize() for word in name.removeprefix("mdmp_").split("_"))
 
 
 class Interface:

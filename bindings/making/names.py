@@ -11,6 +11,8 @@ from lib.generated import Mistake
 
 from .interface import HERE
 
+MADE = "Made by bindings/generate from bindings/names.toml."
+
 
 def number_text(number: int, digits: int) -> str:
     """A number with so many hexadecimal digits, or a small one that is decimal."""

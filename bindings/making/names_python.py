@@ -2,9 +2,8 @@
 
 from __future__ import annotations
 
-from .names import Codes, Group, Names
+from .names import MADE, Codes, Group, Names
 
-MADE = "Made by bindings/generate from bindings/names.toml."
 
 
 def group_text(group: Group) -> str:

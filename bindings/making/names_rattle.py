@@ -4,10 +4,9 @@ from __future__ import annotations
 
 from dataclasses import dataclass
 
-from .names import Codes, Group, Names, number_text
+from .names import MADE, Codes, Group, Names, number_text
 
 CRATE = "crates/mdmp_names"
-MADE = "Made by bindings/generate from bindings/names.toml."
 # How long the words of a row are at most that `rt fmt` leaves on one line.
 ROW_WIDTH = 60
 

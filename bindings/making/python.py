@@ -7,11 +7,10 @@ import textwrap
 
 from lib.generated import Mistake, Stretches
 
-from .interface import Argument, Call, Enum, Field, Interface, Structure, Table
-from .kind_rows import record_sizes
+from .interface import MADE, Argument, Call, Enum, Field, Interface, Structure, Table
+from .kinds.table import Kinds
 from .lines import wrapped
 
-MADE = "Made by bindings/generate from bindings/interface.toml."
 TYPES = {"bool": "c_bool", "u8": "c_uint8", "u32": "c_uint32", "u64": "c_uint64"}
 
 
@@ -60,12 +59,13 @@ def declare_text(interface: Interface, call: Call) -> str:
 def table_text(structure: Structure, table: Table) -> str:
     """A row of TABLES."""
     places = [(field, part.removeprefix("MDMP_PART_").lower()) for field, part in table.parts if field != "extent"]
-    return f'    "{table.name}": Table({structure.face}, "{table.words}", {tuple(table.types)}, {tuple(structure.names)}, {tuple(places)}),'.replace("'", '"')
+    values = f'{structure.face}, "{table.words}", {tuple(table.types)}, {tuple(structure.names)}, {tuple(places)}'
+    return f'    "{table.name}": Table({values}),'.replace("'", '"')
 
 
 def structures_text(interface: Interface) -> str:
     structures = interface.structures.values()
-    known, sizes = {kind for _, table in interface.tables for kind in table.types}, record_sizes()
+    known, sizes = {kind for _, table in interface.tables for kind in table.types}, Kinds().record_sizes
     if known != {*sizes}:
         raise Mistake(f"the tables have the types {sorted(known)}, and the kinds {sorted(sizes)}")
     return (

@@ -2,10 +2,9 @@
 
 from __future__ import annotations
 
-from .interface import Enum, Field, Interface, Structure
+from .interface import MADE, Enum, Field, Interface, Structure
 from .rust import variant
 
-MADE = "Made by bindings/generate from bindings/interface.toml."
 
 
 def shown(name: str) -> str:

@@ -3,20 +3,17 @@
 from __future__ import annotations
 
 import re
-from functools import cache
 
 from lib.generated import Mistake, Stretches
-from lib.needs import TOP
 
-from .interface import Field, Interface, Structure, Table, camel
-from .lines import used
+from .interface import MADE, Field, Interface, Structure, Table
+from .kinds.records import NUMBERS, field_at
+from .lines import used, used_names
 from .rust import sentence
+from .spelling import camel
 
 CRATE = "crates/mdmp_c"
-MADE = "Made by bindings/generate from bindings/interface.toml."
-RECORDS = "crates/mdmp_wire/src"
 TYPES = {"mdmp_place": "PartPlace", "mdmp_name_place": "NamePlace"}
-WIDTHS = {"u8": 8, "u16": 16, "u32": 32, "u64": 64}
 # The choice of streams of one type, and of ranges of memory: in code, in a definition, and what a proof calls it.
 MEMORY_LISTS = [5, 9]
 
@@ -36,23 +33,6 @@ def field_text(field: Field) -> str:
     return f"    /// {doc}\n    pub {field.name}: {f'[{base}; {field.count}]' if field.count else base},\n"
 
 
-@cache
-def records() -> dict[str, dict[str, str]]:
-    """The fields of each record of mdmp_wire, and their types."""
-    texts = [path.read_text(encoding="utf-8") for path in sorted((TOP / RECORDS).glob("*.rt"))]
-    found = [one for text in texts for one in re.findall(r"pub struct (\w+) \{\n(.*?)\n\}", text, re.S)]
-    return {name: dict(re.findall(r"^    pub (\w+): (.+),$", body, re.M)) for name, body in found}
-
-
-def type_at(record: str, path: str) -> str:
-    """The type of a field of a record, which may be a field of a field."""
-    first, _, rest = path.partition(".")
-    if first not in records().get(record, {}):
-        raise Mistake(f"{RECORDS} has no {record} with {first}")
-    kind = records()[record][first]
-    return type_at(kind, rest) if rest else kind
-
-
 def values(structure: Structure, table: Table, field: Field) -> tuple[str, str]:
     """What a field is, in code and in the definition."""
     name = field.name.removesuffix("_high")
@@ -68,13 +48,13 @@ def values(structure: Structure, table: Table, field: Field) -> tuple[str, str]:
         return f"extent_number(item{path})", f"extent_number x{path}"
     if path.startswith("."):
         return f"item{path}", f"x{path}"
-    code, spec, there = f"item.fields.{path}", f"x.fields.{path}", type_at(f"{table.item}Record", path)
+    code, spec, there = f"item.fields.{path}", f"x.fields.{path}", field_at(f"{table.item}Record", path).type
     if (field.base == "mdmp_place") != (there == "Location"):
         raise Mistake(f"{structure.name}.{name} is {field.base}, and {path} of its record {there}")
     if field.base == "mdmp_place":
         return f"part_place({code}, item.{name})", f"part_place {spec} x.{name}"
     here = "u64" if field.base == "mdmp_name_place" else field.base
-    if WIDTHS.get(there, 64) < WIDTHS[here]:
+    if NUMBERS.get(there, 64) < NUMBERS[here]:
         code = f"{here}::from({code})"
     if field.base == "mdmp_name_place":
         return f"name_place({code}, &item.name)", f"name_place {spec} x.name"
@@ -252,4 +232,4 @@ def put_exports(files: Stretches, interface: Interface) -> None:
     tables = [table for _, table in interface.tables]
     for module, names in (("records", [f"{table.call}_" for table in tables]), ("rows", list(map(row_type, tables)))):
         before = f"pub use crate::{module}"
-        files.put(f"{CRATE}/src/lib.rt", f"{before}::", ";\n", used(before, sorted(names)).removeprefix(f"{before}::").removesuffix(";\n"))
+        files.put(f"{CRATE}/src/lib.rt", f"{before}::", ";\n", used_names(before, sorted(names)))

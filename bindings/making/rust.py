@@ -4,10 +4,9 @@ from __future__ import annotations
 
 from lib.generated import Stretches
 
-from .interface import Argument, Call, Enum, Field, Interface, Structure
-from .lines import used
+from .interface import MADE, Argument, Call, Enum, Field, Interface, Structure
+from .lines import used_names
 
-MADE = "Made by bindings/generate from bindings/interface.toml."
 
 
 def type_of(interface: Interface, base: str) -> str:
@@ -180,20 +179,15 @@ def records_text(interface: Interface) -> str:
 # ---- stretches of files that are written by hand, and what tests know of each table
 
 
-def used_names(before: str, names: set[str]) -> str:
-    """What follows `before::` in a `use` of these names, up to its end."""
-    return used(before, sorted(names)).removeprefix(f"{before}::").removesuffix(";\n")
-
-
 def put_crate(files: Stretches, interface: Interface) -> None:
     """What the crate uses and gives out, and the methods of `Dump` that give records."""
     faces = {structure.face for structure, _ in interface.tables}
     others = {"Extent", "FaultKind", "Header", "NamePlace", "NameState", "Place", "Stream", "SymbolKind"}
-    files.put("bindings/rust/src/dump.rs", "\nuse crate::records::", ";\n", used_names("use crate::records", faces | others))
+    files.put("bindings/rust/src/dump.rs", "\nuse crate::records::", ";\n", used_names("use crate::records", sorted(faces | others)))
     rows = [f"    /// {table.face_doc}\n    {table.name}: {table.call} gives {structure.face};\n" for structure, table in interface.listed]
     files.put("bindings/rust/src/dump.rs", "\ntables! {\n", "}", "".join(rows))
     shown = {enum.face for enum in interface.enums.values()} | {structure.face for structure in interface.records}
-    files.put("bindings/rust/src/lib.rs", "\npub use records::", ";\n", used_names("pub use records", shown - {"Status"}))
+    files.put("bindings/rust/src/lib.rs", "\npub use records::", ";\n", used_names("pub use records", sorted(shown - {"Status"})))
 
 
 def put_page(files: Stretches, interface: Interface) -> None:

@@ -2,9 +2,8 @@
 
 from __future__ import annotations
 
-from .interface import Interface
+from .interface import MADE, Interface
 
-MADE = "Made by bindings/generate from bindings/interface.toml."
 
 
 def define(name: str, rows: list[str]) -> str:

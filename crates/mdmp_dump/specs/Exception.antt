@@ -1,4 +1,5 @@
 -- The exception of a dump: MINIDUMP_EXCEPTION_STREAM, with the MINIDUMP_EXCEPTION inside it.
+-- Made by bindings/generate from bindings/kinds.toml.
 use Rattle.std.specs.Prelude.{◌≡◌, ℕ, List, ◌<◌, ◌^◌, [], ◌∷◌, slice_index, length}
 use Rattle.mdmp_source.specs.declared.location.Location.{Location}
 use Rattle.mdmp_wire.specs.declared.exception.ExceptionRecord.{ExceptionRecord}
@@ -23,7 +24,7 @@ module _ {Z : Type 0} where
     thread_context = context;
   }
 
-  -- the record at o is that of the exception, and its location names the context
+  -- the record at o is that of the exception, with its context where it says
   pub record IsException (F : List ℕ) (o : ℕ) (x : Exception Z) : Type 0 where
     pub fields : exception_at F o ≡ exception_record x (exception_at F o).thread_context
     pub context : IsPart F (exception_at F o).thread_context x.context
@@ -31,7 +32,8 @@ module _ {Z : Type 0} where
   -- as a view gives it
   abbrev pub exception_seen : Exception Z → Seen
   exception_seen x =
-      seen (any.Exception (exception_record x nowhere)) (size_of x.context ∷ NoPart ∷ NoPart ∷ []) (bytes_of x.context ∷ [] ∷ [] ∷ [])
+      seen (any.Exception (exception_record x nowhere)) (size_of x.context ∷ NoPart ∷ NoPart ∷ [])
+      (bytes_of x.context ∷ [] ∷ [] ∷ [])
 
   -- its numbers fit their fields
   pub record ExceptionFits (x : Exception Z) : Type 0 where

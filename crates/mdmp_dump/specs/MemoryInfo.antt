@@ -1,4 +1,5 @@
 -- A region of memory of a dump: MINIDUMP_MEMORY_INFO.
+-- Made by bindings/generate from bindings/kinds.toml.
 use Rattle.std.specs.Prelude.{◌<◌, ◌^◌, [], ◌∷◌}
 use Rattle.mdmp_wire.specs.declared.memory_info.MemoryInfoRecord.{MemoryInfoRecord}
 use Rattle.mdmp_wire.specs.declared.any_record.AnyRecord.TheVariants as any
@@ -7,7 +8,9 @@ use Rattle.mdmp_dump.specs.declared.view.PartSize.TheVariants.{NoPart}
 
 -- as a view gives it
 abbrev pub memory_info_seen : MemoryInfoRecord → Seen
-memory_info_seen x = seen (any.MemoryInfo x) (NoPart ∷ NoPart ∷ NoPart ∷ []) ([] ∷ [] ∷ [] ∷ [])
+memory_info_seen x =
+    seen (any.MemoryInfo x) (NoPart ∷ NoPart ∷ NoPart ∷ [])
+    ([] ∷ [] ∷ [] ∷ [])
 
 -- its numbers fit their fields
 pub record MemoryInfoFits (x : MemoryInfoRecord) : Type 0 where

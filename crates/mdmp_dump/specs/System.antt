@@ -1,4 +1,5 @@
 -- The system of a dump: MINIDUMP_SYSTEM_INFO.
+-- Made by bindings/generate from bindings/kinds.toml.
 use Rattle.std.specs.Prelude.{◌≡◌, ℕ, List, ◌<◌, ◌^◌, [], ◌∷◌, length}
 use Rattle.mdmp_wire.specs.declared.system.SystemRecord.{SystemRecord}
 use Rattle.mdmp_wire.specs.System.{system_at}
@@ -9,7 +10,7 @@ use Rattle.mdmp_dump.specs.Seen.{Seen, seen, name_size, unit_bytes}
 use Rattle.mdmp_dump.specs.declared.view.PartSize.TheVariants.{NoPart}
 
 module _ {Z : Type 0} where
-  -- its record in a file, with the RVA of its service pack's name
+  -- its record in a file, with the RVA of its name
   abbrev pub system_record : System Z → ℕ → SystemRecord
   system_record x name = record {
     processor_architecture = x.processor_architecture;
@@ -27,14 +28,16 @@ module _ {Z : Type 0} where
     cpu = x.cpu;
   }
 
-  -- the record at o is that of the system, whose name stands where it says
+  -- the record at o is that of the system, with its name where it says
   pub record IsSystem (F : List ℕ) (o : ℕ) (x : System Z) : Type 0 where
     pub fields : system_at F o ≡ system_record x (system_at F o).csd_version_rva
     pub name : IsName F (system_at F o).csd_version_rva x.name
 
   -- as a view gives it
   abbrev pub system_seen : System Z → Seen
-  system_seen x = seen (any.System (system_record x 0)) (name_size x.name ∷ NoPart ∷ NoPart ∷ []) (unit_bytes x.name ∷ [] ∷ [] ∷ [])
+  system_seen x =
+      seen (any.System (system_record x 0)) (name_size x.name ∷ NoPart ∷ NoPart ∷ [])
+      (unit_bytes x.name ∷ [] ∷ [] ∷ [])
 
   -- its numbers fit their fields
   pub record SystemFits (x : System Z) : Type 0 where

@@ -1,4 +1,5 @@
 -- A thread of a dump: MINIDUMP_THREAD.
+-- Made by bindings/generate from bindings/kinds.toml.
 use Rattle.std.specs.Prelude.{◌≡◌, ℕ, List, ◌<◌, ◌^◌, [], ◌∷◌}
 use Rattle.mdmp_source.specs.declared.location.Location.{Location}
 use Rattle.mdmp_wire.specs.declared.thread.ThreadRecord.{ThreadRecord}
@@ -22,7 +23,7 @@ module _ {Z : Type 0} where
     thread_context = context;
   }
 
-  -- the record at o is that of the thread, and its locations name the stack and the context
+  -- the record at o is that of the thread, with its stack and its context where it says
   pub record IsThread (F : List ℕ) (o : ℕ) (x : Thread Z) : Type 0 where
     pub fields : thread_at F o ≡ thread_record x (thread_at F o).stack.memory (thread_at F o).thread_context
     pub stack : IsPart F (thread_at F o).stack.memory x.stack

@@ -1,4 +1,5 @@
 -- An unloaded module of a dump: MINIDUMP_UNLOADED_MODULE.
+-- Made by bindings/generate from bindings/kinds.toml.
 use Rattle.std.specs.Prelude.{◌≡◌, ℕ, List, ◌<◌, ◌^◌, [], ◌∷◌}
 use Rattle.mdmp_wire.specs.declared.unloaded.UnloadedRecord.{UnloadedRecord}
 use Rattle.mdmp_wire.specs.Unloaded.{unloaded_at}
@@ -19,14 +20,16 @@ module _ {Z : Type 0} where
     module_name_rva = name;
   }
 
-  -- the record at o is that of the unloaded module, whose name stands where it says
+  -- the record at o is that of the module, with its name where it says
   pub record IsUnloaded (F : List ℕ) (o : ℕ) (x : Unloaded Z) : Type 0 where
     pub fields : unloaded_at F o ≡ unloaded_record x (unloaded_at F o).module_name_rva
     pub name : IsName F (unloaded_at F o).module_name_rva x.name
 
   -- as a view gives it
   abbrev pub unloaded_seen : Unloaded Z → Seen
-  unloaded_seen x = seen (any.Unloaded (unloaded_record x 0)) (name_size x.name ∷ NoPart ∷ NoPart ∷ []) (unit_bytes x.name ∷ [] ∷ [] ∷ [])
+  unloaded_seen x =
+      seen (any.Unloaded (unloaded_record x 0)) (name_size x.name ∷ NoPart ∷ NoPart ∷ [])
+      (unit_bytes x.name ∷ [] ∷ [] ∷ [])
 
   -- its numbers fit their fields
   pub record UnloadedFits (x : Unloaded Z) : Type 0 where

@@ -1,7 +1,8 @@
 //! The exception of a dump.
+//! Made by bindings/generate from bindings/kinds.toml.
+ghost use Rattle.std.specs.Prelude.{◌≡◌, ◌<◌, ◌^◌, ℕ, length, slice_index};
 ghost use Rattle.mdmp_lister.specs.declared.kind.StreamKind.TheVariants as kinds;
 ghost use Rattle.mdmp_dump.specs.Exception.{ExceptionFits, IsException, exception_seen};
-ghost use Rattle.std.specs.Prelude.{◌≡◌, ◌<◌, ◌^◌, ℕ, length, slice_index};
 
 use crate::fits::Fitting;
 use crate::given::{Given, bytes_of, nowhere, size_of};
@@ -12,8 +13,8 @@ use crate::view::{Fields, PartSize};
 use mdmp_wire::{AnyRecord, ExceptionRecord};
 use std::alloc::Allocator;
 
-/// An exception of the dumped process: `MINIDUMP_EXCEPTION_STREAM`, with the
-/// `MINIDUMP_EXCEPTION` inside it.
+/// An exception of the dumped process: `MINIDUMP_EXCEPTION_STREAM`, with the `MINIDUMP_EXCEPTION`
+/// inside it.
 #[derive(Drop)]
 #[derive_where(Debug, PartialEq, Eq)]
 pub struct Exception<A: Allocator> {
@@ -49,12 +50,12 @@ impl<A: Allocator> Fitting for Exception<A> {
     ghost Fit = { ExceptionFits };
 
     fn fits(&self) {
-        let _thread_id = self.thread_id;
-        let _exception_code = self.exception_code;
-        let _exception_flags = self.exception_flags;
-        let _exception_record = self.exception_record;
-        let _exception_address = self.exception_address;
-        let _number_parameters = self.number_parameters;
+        self.thread_id.fits();
+        self.exception_code.fits();
+        self.exception_flags.fits();
+        self.exception_record.fits();
+        self.exception_address.fits();
+        self.number_parameters.fits();
         values_fit(&self.exception_information);
         values_are_15(&self.exception_information);
         self.context.fits();

@@ -42,6 +42,14 @@ impl Fitting for u32 {
     }
 }
 
+impl Fitting for u64 {
+    ghost Fit = { λ n. n < 2 ^ 64 };
+
+    fn fits(&self) {
+        let _number = *self;
+    }
+}
+
 impl<A: Allocator> Fitting for Part<A> {
     ghost Fit = { PartFits };
 

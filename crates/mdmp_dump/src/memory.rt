@@ -1,4 +1,5 @@
 //! A range of memory of a dump.
+//! Made by bindings/generate from bindings/kinds.toml.
 ghost use Rattle.mdmp_lister.specs.declared.kind.StreamKind.TheVariants as kinds;
 ghost use Rattle.mdmp_dump.specs.Memory.{IsMemory, MemoryFits, memory_seen};
 
@@ -25,7 +26,7 @@ impl<A: Allocator> Fitting for MemoryRange<A> {
     ghost Fit = { MemoryFits };
 
     fn fits(&self) {
-        let _start = self.start;
+        self.start.fits();
         self.bytes.fits();
     }
 }

@@ -1,4 +1,5 @@
 //! A region of memory of a dump, which is the record itself.
+//! Made by bindings/generate from bindings/kinds.toml.
 ghost use Rattle.std.specs.Prelude.{◌≡◌};
 ghost use Rattle.mdmp_lister.specs.declared.kind.StreamKind.TheVariants as kinds;
 ghost use Rattle.mdmp_wire.specs.MemoryInfo.{memory_info_at};
@@ -16,13 +17,13 @@ impl Fitting for MemoryInfoRecord {
     ghost Fit = { MemoryInfoFits };
 
     fn fits(&self) {
-        let _base_address = self.base_address;
-        let _allocation_base = self.allocation_base;
-        let _allocation_protect = self.allocation_protect;
-        let _region_size = self.region_size;
-        let _state = self.state;
-        let _protect = self.protect;
-        let _memory_type = self.memory_type;
+        self.base_address.fits();
+        self.allocation_base.fits();
+        self.allocation_protect.fits();
+        self.region_size.fits();
+        self.state.fits();
+        self.protect.fits();
+        self.memory_type.fits();
     }
 }
 

@@ -1,4 +1,5 @@
 //! A module of a dump.
+//! Made by bindings/generate from bindings/kinds.toml.
 ghost use Rattle.mdmp_lister.specs.declared.kind.StreamKind.TheVariants as kinds;
 ghost use Rattle.mdmp_dump.specs.Module.{IsModule, ModuleFits, VersionFits, module_seen};
 
@@ -31,9 +32,9 @@ pub struct Module<A: Allocator> {
     pub codeview: Part<A>,
     /// Its miscellaneous debug record, `MiscRecord`.
     pub misc: Part<A>,
-    /// `Reserved0`.
+    /// `Reserved0`, which is kept.
     pub reserved0: u64,
-    /// `Reserved1`.
+    /// `Reserved1`, which is kept.
     pub reserved1: u64,
 }
 
@@ -61,12 +62,12 @@ impl<A: Allocator> Fitting for Module<A> {
     ghost Fit = { ModuleFits };
 
     fn fits(&self) {
-        let _base_of_image = self.base_of_image;
-        let _size_of_image = self.size_of_image;
-        let _checksum = self.checksum;
-        let _time_date_stamp = self.time_date_stamp;
-        let _reserved0 = self.reserved0;
-        let _reserved1 = self.reserved1;
+        self.base_of_image.fits();
+        self.size_of_image.fits();
+        self.checksum.fits();
+        self.time_date_stamp.fits();
+        self.reserved0.fits();
+        self.reserved1.fits();
         name_fits(&self.name);
         self.version_info.fits();
         self.codeview.fits();
@@ -102,20 +103,19 @@ impl<A: Allocator> Given for Module<A> {
     ghost see = { module_seen };
 
     fn fields(&self) -> Fields {
-        let module = ModuleRecord {
-            base_of_image: self.base_of_image,
-            size_of_image: self.size_of_image,
-            checksum: self.checksum,
-            time_date_stamp: self.time_date_stamp,
-            module_name_rva: 0,
-            version_info: self.version_info,
-            cv_record: nowhere(),
-            misc_record: nowhere(),
-            reserved0: self.reserved0,
-            reserved1: self.reserved1,
-        };
         Fields {
-            wire: AnyRecord::Module(module),
+            wire: AnyRecord::Module(ModuleRecord {
+                base_of_image: self.base_of_image,
+                size_of_image: self.size_of_image,
+                checksum: self.checksum,
+                time_date_stamp: self.time_date_stamp,
+                module_name_rva: 0,
+                version_info: self.version_info,
+                cv_record: nowhere(),
+                misc_record: nowhere(),
+                reserved0: self.reserved0,
+                reserved1: self.reserved1,
+            }),
             parts: [
                 name_size(&self.name),
                 size_of(&self.codeview),

@@ -1,4 +1,5 @@
 //! The system of a dump.
+//! Made by bindings/generate from bindings/kinds.toml.
 ghost use Rattle.std.specs.Prelude.{◌≡◌, length};
 ghost use Rattle.mdmp_lister.specs.declared.kind.StreamKind.TheVariants as kinds;
 ghost use Rattle.mdmp_dump.specs.System.{IsSystem, SystemFits, system_seen};
@@ -37,7 +38,7 @@ pub struct System<A: Allocator> {
     pub name: Option<Units<A>>,
     /// `SuiteMask`.
     pub suite_mask: u16,
-    /// `Reserved2`.
+    /// `Reserved2`, which is kept.
     pub reserved2: u16,
     /// `Cpu`, whose 24 bytes are kept as they are.
     pub cpu: [u8; 24],
@@ -100,23 +101,22 @@ impl<A: Allocator> Given for System<A> {
     ghost see = { system_seen };
 
     fn fields(&self) -> Fields {
-        let system = SystemRecord {
-            processor_architecture: self.processor_architecture,
-            processor_level: self.processor_level,
-            processor_revision: self.processor_revision,
-            number_of_processors: self.number_of_processors,
-            product_type: self.product_type,
-            major_version: self.major_version,
-            minor_version: self.minor_version,
-            build_number: self.build_number,
-            platform_id: self.platform_id,
-            csd_version_rva: 0,
-            suite_mask: self.suite_mask,
-            reserved2: self.reserved2,
-            cpu: self.cpu,
-        };
         Fields {
-            wire: AnyRecord::System(system),
+            wire: AnyRecord::System(SystemRecord {
+                processor_architecture: self.processor_architecture,
+                processor_level: self.processor_level,
+                processor_revision: self.processor_revision,
+                number_of_processors: self.number_of_processors,
+                product_type: self.product_type,
+                major_version: self.major_version,
+                minor_version: self.minor_version,
+                build_number: self.build_number,
+                platform_id: self.platform_id,
+                csd_version_rva: 0,
+                suite_mask: self.suite_mask,
+                reserved2: self.reserved2,
+                cpu: self.cpu,
+            }),
             parts: [name_size(&self.name), PartSize::NoPart, PartSize::NoPart],
         }
     }

@@ -1,4 +1,5 @@
 //! A thread of a dump.
+//! Made by bindings/generate from bindings/kinds.toml.
 ghost use Rattle.mdmp_lister.specs.declared.kind.StreamKind.TheVariants as kinds;
 ghost use Rattle.mdmp_dump.specs.Thread.{IsThread, ThreadFits, thread_seen};
 
@@ -37,12 +38,12 @@ impl<A: Allocator> Fitting for Thread<A> {
     ghost Fit = { ThreadFits };
 
     fn fits(&self) {
-        let _thread_id = self.thread_id;
-        let _suspend_count = self.suspend_count;
-        let _priority_class = self.priority_class;
-        let _priority = self.priority;
-        let _teb = self.teb;
-        let _stack_start = self.stack_start;
+        self.thread_id.fits();
+        self.suspend_count.fits();
+        self.priority_class.fits();
+        self.priority.fits();
+        self.teb.fits();
+        self.stack_start.fits();
         self.stack.fits();
         self.context.fits();
     }

@@ -1,4 +1,5 @@
 //! The name of a thread of a dump.
+//! Made by bindings/generate from bindings/kinds.toml.
 ghost use Rattle.mdmp_lister.specs.declared.kind.StreamKind.TheVariants as kinds;
 ghost use Rattle.mdmp_dump.specs.ThreadName.{IsThreadName, ThreadNameFits, thread_name_seen};
 
@@ -24,7 +25,7 @@ impl<A: Allocator> Fitting for ThreadName<A> {
     ghost Fit = { ThreadNameFits };
 
     fn fits(&self) {
-        let _thread_id = self.thread_id;
+        self.thread_id.fits();
         name_fits(&self.name);
     }
 }

@@ -1,4 +1,5 @@
 //! An unloaded module of a dump.
+//! Made by bindings/generate from bindings/kinds.toml.
 ghost use Rattle.mdmp_lister.specs.declared.kind.StreamKind.TheVariants as kinds;
 ghost use Rattle.mdmp_dump.specs.Unloaded.{IsUnloaded, UnloadedFits, unloaded_seen};
 
@@ -30,10 +31,10 @@ impl<A: Allocator> Fitting for Unloaded<A> {
     ghost Fit = { UnloadedFits };
 
     fn fits(&self) {
-        let _base_of_image = self.base_of_image;
-        let _size_of_image = self.size_of_image;
-        let _checksum = self.checksum;
-        let _time_date_stamp = self.time_date_stamp;
+        self.base_of_image.fits();
+        self.size_of_image.fits();
+        self.checksum.fits();
+        self.time_date_stamp.fits();
         name_fits(&self.name);
     }
 }

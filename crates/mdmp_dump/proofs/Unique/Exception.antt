@@ -1,4 +1,5 @@
 -- One exception stands at a place.
+-- Made by bindings/generate from bindings/kinds.toml.
 use Rattle.std.proofs.Common.{ℕ, List, sym, ◌∙◌}
 use Rattle.mdmp_wire.specs.Exception.{exception_at}
 use Rattle.mdmp_dump.specs.Exception.{IsException}

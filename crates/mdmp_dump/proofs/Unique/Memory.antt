@@ -1,4 +1,5 @@
 -- One range of memory stands at a place.
+-- Made by bindings/generate from bindings/kinds.toml.
 use Rattle.std.proofs.Common.{ℕ, List, sym, ◌∙◌}
 use Rattle.mdmp_wire.specs.Descriptor.{descriptor_at}
 use Rattle.mdmp_dump.specs.Memory.{IsMemory}

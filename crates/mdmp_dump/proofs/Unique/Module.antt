@@ -1,4 +1,5 @@
 -- One module stands at a place.
+-- Made by bindings/generate from bindings/kinds.toml.
 use Rattle.std.proofs.Common.{ℕ, List, sym, ◌∙◌}
 use Rattle.mdmp_wire.specs.Module.{module_at}
 use Rattle.mdmp_dump.specs.Module.{IsModule}

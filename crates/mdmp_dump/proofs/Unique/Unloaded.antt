@@ -1,4 +1,5 @@
--- One unloaded module stands at a place.
+-- One module that was unloaded stands at a place.
+-- Made by bindings/generate from bindings/kinds.toml.
 use Rattle.std.proofs.Common.{ℕ, List, sym, ◌∙◌}
 use Rattle.mdmp_wire.specs.Unloaded.{unloaded_at}
 use Rattle.mdmp_dump.specs.Unloaded.{IsUnloaded}

@@ -1,10 +1,11 @@
--- The item of a module has its name, and asks for its CodeView and misc records.
+-- The item of a module is given, and what it asks for is taken.
+-- Made by bindings/generate from bindings/kinds.toml.
 use Rattle.std.proofs.Common.{ℕ, ◌+◌, List, length, refl}
 use Rattle.mdmp_wire.specs.Module.{module_at}
 use Rattle.mdmp_lister.specs.declared.item.Item.TheVariants as items
 use Rattle.mdmp_lister.specs.declared.kind.StreamKind.TheVariants as kinds
 use Rattle.mdmp_lister.specs.Format.Item.{module_item}
-use Rattle.mdmp_wire.specs.declared.slot.PartName.TheVariants.{CodeView, Misc}
+use Rattle.mdmp_wire.specs.declared.slot.PartName.TheVariants as names
 use Rattle.mdmp_dump.specs.Module.{IsModule}
 use Rattle.mdmp_dump.specs.Within.{IsNameWithin, part_size}
 use Rattle.mdmp_dump.proofs.Within.Name.{name_short}
@@ -20,6 +21,6 @@ module_taken F limit e at k o x is fits =
       item = items.Module (module_item (length F) e k (module_at F o) short.name);
       given = rw short.given refl;
       steps = rw (short.asked e k) (both_taken
-          (location_taken F (module_at F o).cv_record e k CodeView x.codeview is.codeview)
-          (location_taken F (module_at F o).misc_record e k Misc x.misc is.misc));
+          (location_taken F (module_at F o).cv_record e k names.CodeView x.codeview is.codeview)
+          (location_taken F (module_at F o).misc_record e k names.Misc x.misc is.misc));
     }

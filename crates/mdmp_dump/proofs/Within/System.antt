@@ -1,4 +1,5 @@
--- The item of a system has its name.
+-- The item of the system is given, and what it asks for is taken.
+-- Made by bindings/generate from bindings/kinds.toml.
 use Rattle.std.proofs.Common.{ℕ, List, refl}
 use Rattle.mdmp_wire.specs.System.{system_at}
 use Rattle.mdmp_lister.specs.declared.item.Item.TheVariants as items
@@ -14,4 +15,8 @@ pub system_taken : {Z : Type 0} (F : List ℕ) (limit e at : ℕ)
     → AreTaken F limit e at kinds.System (λ k o. IsSystem {Z = Z} F o) (λ x. IsNameWithin limit x.name) (λ x. 0)
 system_taken F limit e at k o x is fits =
     let short = name_short F (system_at F o).csd_version_rva limit x.name is.name fits in
-    record { item = items.System (system_item e k (system_at F o) short.name); given = rw short.given refl; steps = rw (short.asked e k) none_taken }
+    record {
+      item = items.System (system_item e k (system_at F o) short.name);
+      given = rw short.given refl;
+      steps = rw (short.asked e k) none_taken;
+    }

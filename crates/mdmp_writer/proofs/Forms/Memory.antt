@@ -1,10 +1,11 @@
--- A list of ranges of memory is written, and read again.
-use Rattle.std.proofs.Common.{◌≡◌, [], length, refl, ap, sym, subst, ◌∙◌, arith, ◌*◌, ◌+◌, List, map}
+-- A list of MINIDUMP_MEMORY_DESCRIPTOR is written, and read again.
+-- Made by bindings/generate from bindings/kinds.toml.
+use Rattle.std.proofs.Common.{◌≡◌, ◌+◌, ◌*◌, [], List, length, map, refl, ap, sym, subst, ◌∙◌, arith}
 use Rattle.std.specs.Prelude.{All}
 use Rattle.mdmp_source.specs.declared.location.Location.{Location}
-use Rattle.mdmp_wire.specs.declared.descriptor.Descriptor.{Descriptor}
 use Rattle.mdmp_wire.specs.Number.{number_at, le}
 use Rattle.mdmp_wire.specs.NumberLaws.{number_at-le, length-le}
+use Rattle.mdmp_wire.specs.declared.descriptor.Descriptor.{Descriptor}
 use Rattle.mdmp_wire.specs.Descriptor.{descriptor_at, descriptor_at-part, descriptor_bytes}
 use Rattle.mdmp_lister.specs.declared.kind.StreamKind.TheVariants as kinds
 use Rattle.mdmp_lister.specs.Format.Shape.{shape_of}
@@ -23,9 +24,13 @@ use Rattle.mdmp_writer.proofs.ReadBack.{IsReadBack, length-listed, records_stand
 use Rattle.mdmp_writer.proofs.Heads.{counted_shape}
 
 module _ {Z : Type 0} where
-  memory_back : (x : MemoryRange Z) (bytes : Location) → MemoryFits x → LocationFits bytes → descriptor_at (descriptor_bytes (memory_record x bytes)) 0 ≡ memory_record x bytes
+  memory_back : (x : MemoryRange Z) (bytes : Location) → MemoryFits x → LocationFits bytes
+      → descriptor_at (descriptor_bytes (memory_record x bytes)) 0 ≡ memory_record x bytes
   unfolding number_at le
-  memory_back x bytes f b = λ i. record { start_of_memory_range = number_at-le 8 x.start [] f.start i; memory = location_back bytes b i }
+  memory_back x bytes f bytes_fits = λ i. record {
+    start_of_memory_range = number_at-le 8 x.start [] f.start i;
+    memory = location_back bytes bytes_fits i;
+  }
 
   length-memory : (x : MemoryRange Z) (bytes : Location) → length (descriptor_bytes (memory_record x bytes)) ≡ 16
   unfolding le

@@ -1,9 +1,10 @@
--- A list of regions of memory is written, and read again.
-use Rattle.std.proofs.Common.{◌≡◌, [], length, refl, ◌<◌, ◌^◌, ◌*◌, ◌+◌, ◌++◌, ℕ, List, ap, arith, map}
+-- A list of MINIDUMP_MEMORY_INFO is written, and read again.
+-- Made by bindings/generate from bindings/kinds.toml.
+use Rattle.std.proofs.Common.{◌≡◌, ◌<◌, ◌^◌, ℕ, ◌+◌, ◌*◌, [], ◌++◌, List, length, map, refl, ap, arith}
 use Rattle.std.specs.Prelude.{All, Ok}
-use Rattle.mdmp_wire.specs.declared.memory_info.MemoryInfoRecord.{MemoryInfoRecord}
 use Rattle.mdmp_wire.specs.Number.{number_at, le}
 use Rattle.mdmp_wire.specs.NumberLaws.{number_at-le}
+use Rattle.mdmp_wire.specs.declared.memory_info.MemoryInfoRecord.{MemoryInfoRecord}
 use Rattle.mdmp_wire.specs.MemoryInfo.{memory_info_at, memory_info_at-part, memory_info_bytes}
 use Rattle.mdmp_wire.specs.declared.memory_info_list.MemoryInfoList.{MemoryInfoList}
 use Rattle.mdmp_wire.specs.MemoryInfoList.{memory_info_list_at, memory_info_list_at-part, memory_info_list_bytes}
@@ -25,7 +26,8 @@ length-head : (c : ℕ) → length (memory_info_list_bytes (head c)) ≡ 16
 unfolding le
 length-head c = refl
 
-head_shape : (F : List ℕ) (at c : ℕ) (rest : List ℕ) → c < 2 ^ 64 → Stands F at (memory_info_list_bytes (head c) ++ rest) → shape_of F at (16 + c * 48) kinds.MemoryInfo ≡ Ok (shape_from 16 48 c)
+head_shape : (F : List ℕ) (at c : ℕ) (rest : List ℕ) → c < 2 ^ 64 → Stands F at (memory_info_list_bytes (head c) ++ rest)
+    → shape_of F at (16 + c * 48) kinds.MemoryInfo ≡ Ok (shape_from 16 48 c)
 unfolding shape_of number_at le
 head_shape F at c rest low s =
     let back : memory_info_list_at (memory_info_list_bytes (head c)) 0 ≡ head c = λ i. record {
@@ -36,7 +38,8 @@ head_shape F at c rest low s =
     let read : memory_info_list_at F at ≡ head c = stands_record memory_info_list_at 16 memory_info_list_at-part F at (memory_info_list_bytes (head c)) (head c) refl back (stands_first F at (memory_info_list_bytes (head c)) rest s) in
     sized_shape at 16 48 c _ _ _ _ (ap (λ h. h.size_of_header) read) (ap (λ h. h.size_of_entry) read) (ap (λ h. h.number_of_entries) read)
 
-memory_info_back : (x : MemoryInfoRecord) → MemoryInfoFits x → memory_info_at (memory_info_bytes x) 0 ≡ x
+memory_info_back : (x : MemoryInfoRecord) → MemoryInfoFits x
+    → memory_info_at (memory_info_bytes x) 0 ≡ x
 unfolding number_at le
 memory_info_back x f = λ i. record {
   base_address = number_at-le 8 x.base_address [] f.base_address i;

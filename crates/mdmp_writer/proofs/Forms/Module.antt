@@ -1,12 +1,13 @@
--- A list of modules is written, and read again.
-use Rattle.std.proofs.Common.{◌≡◌, ◌<◌, ◌^◌, ◌+◌, ℕ, [], length, refl, ap, sym, subst, ◌∙◌, arith, ◌*◌, List, map}
+-- A list of MINIDUMP_MODULE is written, and read again.
+-- Made by bindings/generate from bindings/kinds.toml.
+use Rattle.std.proofs.Common.{◌≡◌, ◌<◌, ◌^◌, ℕ, ◌+◌, ◌*◌, [], List, length, map, refl, ap, sym, subst, ◌∙◌, arith}
 use Rattle.std.specs.Prelude.{All}
 use Rattle.mdmp_source.specs.declared.location.Location.{Location}
-use Rattle.mdmp_wire.specs.declared.module.ModuleRecord.{ModuleRecord}
-use Rattle.mdmp_wire.specs.declared.version.VersionInfo.{VersionInfo}
 use Rattle.mdmp_wire.specs.Number.{number_at, le}
 use Rattle.mdmp_wire.specs.NumberLaws.{number_at-le, length-le}
+use Rattle.mdmp_wire.specs.declared.module.ModuleRecord.{ModuleRecord}
 use Rattle.mdmp_wire.specs.Module.{module_at, module_at-part, module_bytes}
+use Rattle.mdmp_wire.specs.declared.version.VersionInfo.{VersionInfo}
 use Rattle.mdmp_wire.specs.Version.{version_at, version_bytes}
 use Rattle.mdmp_lister.specs.declared.kind.StreamKind.TheVariants as kinds
 use Rattle.mdmp_lister.specs.Format.Shape.{shape_of}
@@ -47,15 +48,15 @@ module _ {Z : Type 0} where
   module_back : (x : Module Z) (name : ℕ) (codeview misc : Location) → ModuleFits x → name < 2 ^ 32 → LocationFits codeview → LocationFits misc
       → module_at (module_bytes (module_record x name codeview misc)) 0 ≡ module_record x name codeview misc
   unfolding number_at le
-  module_back x name codeview misc f n c s = λ i. record {
+  module_back x name codeview misc f name_fits codeview_fits misc_fits = λ i. record {
     base_of_image = number_at-le 8 x.base_of_image [] f.base_of_image i;
     size_of_image = number_at-le 4 x.size_of_image [] f.size_of_image i;
     checksum = number_at-le 4 x.checksum [] f.checksum i;
     time_date_stamp = number_at-le 4 x.time_date_stamp [] f.time_date_stamp i;
-    module_name_rva = number_at-le 4 name [] n i;
+    module_name_rva = number_at-le 4 name [] name_fits i;
     version_info = version_back x.version_info f.version_info i;
-    cv_record = location_back codeview c i;
-    misc_record = location_back misc s i;
+    cv_record = location_back codeview codeview_fits i;
+    misc_record = location_back misc misc_fits i;
     reserved0 = number_at-le 8 x.reserved0 [] f.reserved0 i;
     reserved1 = number_at-le 8 x.reserved1 [] f.reserved1 i;
   }

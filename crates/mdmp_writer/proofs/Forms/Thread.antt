@@ -1,18 +1,19 @@
--- A list of threads is written, and read again.
-use Rattle.std.proofs.Common.{◌≡◌, ◌+◌, [], length, refl, ap, sym, subst, ◌∙◌, arith, ◌*◌, List, map}
+-- A list of MINIDUMP_THREAD is written, and read again.
+-- Made by bindings/generate from bindings/kinds.toml.
+use Rattle.std.proofs.Common.{◌≡◌, ◌+◌, ◌*◌, [], List, length, map, refl, ap, sym, subst, ◌∙◌, arith}
 use Rattle.std.specs.Prelude.{All}
 use Rattle.mdmp_source.specs.declared.location.Location.{Location}
-use Rattle.mdmp_wire.specs.declared.thread.ThreadRecord.{ThreadRecord}
 use Rattle.mdmp_wire.specs.Number.{number_at, le}
 use Rattle.mdmp_wire.specs.NumberLaws.{number_at-le, length-le}
+use Rattle.mdmp_wire.specs.declared.thread.ThreadRecord.{ThreadRecord}
 use Rattle.mdmp_wire.specs.Thread.{thread_at, thread_at-part, thread_bytes}
 use Rattle.mdmp_lister.specs.declared.kind.StreamKind.TheVariants as kinds
 use Rattle.mdmp_lister.specs.Format.Shape.{shape_of}
 use Rattle.mdmp_dump.specs.declared.thread.Thread.{Thread}
+use Rattle.mdmp_dump.specs.Thread.{IsThread, ThreadFits, thread_record, thread_seen}
 use Rattle.mdmp_dump.specs.Part.{IsPart}
 use Rattle.mdmp_dump.specs.Placed.{location_of, part_room}
 use Rattle.mdmp_dump.specs.Seen.{size_of}
-use Rattle.mdmp_dump.specs.Thread.{IsThread, ThreadFits, thread_record, thread_seen}
 use Rattle.mdmp_dump.specs.declared.dump.Stream.TheVariants as streams
 use Rattle.mdmp_dump.specs.ShapeLaws.{part_sized, three_sized}
 use Rattle.mdmp_writer.proofs.Standing.{stands_record}
@@ -26,14 +27,14 @@ module _ {Z : Type 0} where
   thread_back : (x : Thread Z) (stack context : Location) → ThreadFits x → LocationFits stack → LocationFits context
       → thread_at (thread_bytes (thread_record x stack context)) 0 ≡ thread_record x stack context
   unfolding number_at le
-  thread_back x stack context f s c = λ i. record {
+  thread_back x stack context f stack_fits context_fits = λ i. record {
     thread_id = number_at-le 4 x.thread_id [] f.thread_id i;
     suspend_count = number_at-le 4 x.suspend_count [] f.suspend_count i;
     priority_class = number_at-le 4 x.priority_class [] f.priority_class i;
     priority = number_at-le 4 x.priority [] f.priority i;
     teb = number_at-le 8 x.teb [] f.teb i;
-    stack = record { start_of_memory_range = number_at-le 8 x.stack_start [] f.stack_start i; memory = location_back stack s i };
-    thread_context = location_back context c i;
+    stack = record { start_of_memory_range = number_at-le 8 x.stack_start [] f.stack_start i; memory = location_back stack stack_fits i };
+    thread_context = location_back context context_fits i;
   }
 
   length-thread : (x : Thread Z) (stack context : Location) → length (thread_bytes (thread_record x stack context)) ≡ 48

@@ -1,17 +1,18 @@
--- A list of names of threads is written, and read again.
-use Rattle.std.proofs.Common.{◌≡◌, ◌<◌, ◌^◌, ◌+◌, ◌*◌, ℕ, [], length, refl, ap, sym, subst, ◌∙◌, arith, List, map}
+-- A list of MINIDUMP_THREAD_NAME is written, and read again.
+-- Made by bindings/generate from bindings/kinds.toml.
+use Rattle.std.proofs.Common.{◌≡◌, ◌<◌, ◌^◌, ℕ, ◌+◌, ◌*◌, [], List, length, map, refl, ap, sym, subst, ◌∙◌, arith}
 use Rattle.std.specs.Prelude.{All}
-use Rattle.mdmp_wire.specs.declared.thread_name.ThreadNameRecord.{ThreadNameRecord}
 use Rattle.mdmp_wire.specs.Number.{number_at, le}
 use Rattle.mdmp_wire.specs.NumberLaws.{number_at-le, length-le}
+use Rattle.mdmp_wire.specs.declared.thread_name.ThreadNameRecord.{ThreadNameRecord}
 use Rattle.mdmp_wire.specs.ThreadName.{thread_name_at, thread_name_at-part, thread_name_bytes}
 use Rattle.mdmp_lister.specs.declared.kind.StreamKind.TheVariants as kinds
 use Rattle.mdmp_lister.specs.Format.Shape.{shape_of}
 use Rattle.mdmp_dump.specs.declared.thread_name.ThreadName.{ThreadName}
+use Rattle.mdmp_dump.specs.ThreadName.{IsThreadName, ThreadNameFits, thread_name_record, thread_name_seen}
 use Rattle.mdmp_dump.specs.Name.{IsName}
 use Rattle.mdmp_dump.specs.Placed.{address_of}
 use Rattle.mdmp_dump.specs.Seen.{name_size}
-use Rattle.mdmp_dump.specs.ThreadName.{IsThreadName, ThreadNameFits, thread_name_record, thread_name_seen}
 use Rattle.mdmp_dump.specs.declared.dump.Stream.TheVariants as streams
 use Rattle.mdmp_dump.specs.ShapeLaws.{name_sized, three_sized}
 use Rattle.mdmp_writer.proofs.Standing.{stands_record}
@@ -21,11 +22,12 @@ use Rattle.mdmp_writer.proofs.ReadBack.{IsReadBack, length-listed, records_stand
 use Rattle.mdmp_writer.proofs.Heads.{counted_shape}
 
 module _ {Z : Type 0} where
-  thread_name_back : (x : ThreadName Z) (name : ℕ) → ThreadNameFits x → name < 2 ^ 64 → thread_name_at (thread_name_bytes (thread_name_record x name)) 0 ≡ thread_name_record x name
+  thread_name_back : (x : ThreadName Z) (name : ℕ) → ThreadNameFits x → name < 2 ^ 64
+      → thread_name_at (thread_name_bytes (thread_name_record x name)) 0 ≡ thread_name_record x name
   unfolding number_at le
-  thread_name_back x name f n = λ i. record {
+  thread_name_back x name f name_fits = λ i. record {
     thread_id = number_at-le 4 x.thread_id [] f.thread_id i;
-    rva_of_thread_name = number_at-le 8 name [] n i;
+    rva_of_thread_name = number_at-le 8 name [] name_fits i;
   }
 
   length-thread_name : (x : ThreadName Z) (name : ℕ) → length (thread_name_bytes (thread_name_record x name)) ≡ 12

@@ -1,19 +1,20 @@
--- A list of unloaded modules is written, and read again.
-use Rattle.std.proofs.Common.{◌≡◌, ◌<◌, ◌^◌, ℕ, [], length, refl, ap, sym, subst, ◌∙◌, arith, ◌*◌, ◌+◌, ◌++◌, List, map}
+-- A list of MINIDUMP_UNLOADED_MODULE is written, and read again.
+-- Made by bindings/generate from bindings/kinds.toml.
+use Rattle.std.proofs.Common.{◌≡◌, ◌<◌, ◌^◌, ℕ, ◌+◌, ◌*◌, [], ◌++◌, List, length, map, refl, ap, sym, subst, ◌∙◌, arith}
 use Rattle.std.specs.Prelude.{All, Ok}
-use Rattle.mdmp_wire.specs.declared.unloaded.UnloadedRecord.{UnloadedRecord}
 use Rattle.mdmp_wire.specs.Number.{number_at, le}
 use Rattle.mdmp_wire.specs.NumberLaws.{number_at-le}
+use Rattle.mdmp_wire.specs.declared.unloaded.UnloadedRecord.{UnloadedRecord}
 use Rattle.mdmp_wire.specs.Unloaded.{unloaded_at, unloaded_at-part, unloaded_bytes}
 use Rattle.mdmp_wire.specs.declared.unloaded_list.UnloadedList.{UnloadedList}
 use Rattle.mdmp_wire.specs.UnloadedList.{unloaded_list_at, unloaded_list_at-part, unloaded_list_bytes}
 use Rattle.mdmp_lister.specs.declared.kind.StreamKind.TheVariants as kinds
 use Rattle.mdmp_lister.specs.Format.Shape.{shape_of}
 use Rattle.mdmp_dump.specs.declared.unloaded.Unloaded.{Unloaded}
+use Rattle.mdmp_dump.specs.Unloaded.{IsUnloaded, UnloadedFits, unloaded_record, unloaded_seen}
 use Rattle.mdmp_dump.specs.Name.{IsName}
 use Rattle.mdmp_dump.specs.Placed.{address_of}
 use Rattle.mdmp_dump.specs.Seen.{name_size}
-use Rattle.mdmp_dump.specs.Unloaded.{IsUnloaded, UnloadedFits, unloaded_record, unloaded_seen}
 use Rattle.mdmp_dump.specs.declared.dump.Stream.TheVariants as streams
 use Rattle.mdmp_dump.specs.ShapeLaws.{name_sized, three_sized}
 use Rattle.mdmp_writer.proofs.Standing.{stands_record, Stands, stands_first}
@@ -29,7 +30,8 @@ length-head : (c : ℕ) → length (unloaded_list_bytes (head c)) ≡ 12
 unfolding le
 length-head c = refl
 
-head_shape : (F : List ℕ) (at c : ℕ) (rest : List ℕ) → c < 2 ^ 32 → Stands F at (unloaded_list_bytes (head c) ++ rest) → shape_of F at (12 + c * 24) kinds.Unloaded ≡ Ok (shape_from 12 24 c)
+head_shape : (F : List ℕ) (at c : ℕ) (rest : List ℕ) → c < 2 ^ 32 → Stands F at (unloaded_list_bytes (head c) ++ rest)
+    → shape_of F at (12 + c * 24) kinds.Unloaded ≡ Ok (shape_from 12 24 c)
 unfolding shape_of number_at le
 head_shape F at c rest low s =
     let back : unloaded_list_at (unloaded_list_bytes (head c)) 0 ≡ head c = λ i. record {
@@ -41,14 +43,15 @@ head_shape F at c rest low s =
     sized_shape at 12 24 c _ _ _ _ (ap (λ h. h.size_of_header) read) (ap (λ h. h.size_of_entry) read) (ap (λ h. h.number_of_entries) read)
 
 module _ {Z : Type 0} where
-  unloaded_back : (x : Unloaded Z) (name : ℕ) → UnloadedFits x → name < 2 ^ 32 → unloaded_at (unloaded_bytes (unloaded_record x name)) 0 ≡ unloaded_record x name
+  unloaded_back : (x : Unloaded Z) (name : ℕ) → UnloadedFits x → name < 2 ^ 32
+      → unloaded_at (unloaded_bytes (unloaded_record x name)) 0 ≡ unloaded_record x name
   unfolding number_at le
-  unloaded_back x name f n = λ i. record {
+  unloaded_back x name f name_fits = λ i. record {
     base_of_image = number_at-le 8 x.base_of_image [] f.base_of_image i;
     size_of_image = number_at-le 4 x.size_of_image [] f.size_of_image i;
     checksum = number_at-le 4 x.checksum [] f.checksum i;
     time_date_stamp = number_at-le 4 x.time_date_stamp [] f.time_date_stamp i;
-    module_name_rva = number_at-le 4 name [] n i;
+    module_name_rva = number_at-le 4 name [] name_fits i;
   }
 
   length-unloaded : (x : Unloaded Z) (name : ℕ) → length (unloaded_bytes (unloaded_record x name)) ≡ 24

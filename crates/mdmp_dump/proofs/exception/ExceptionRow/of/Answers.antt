@@ -1,4 +1,5 @@
--- The fields of an exception, and its context.
+-- The fields of an exception, and what it points at.
+-- Made by bindings/generate from bindings/kinds.toml.
 use Rattle.std.proofs.Common.{ℕ, ◌≡◌, List, refl, subst}
 use Rattle.mdmp_wire.specs.Exception.{exception_at}
 use Rattle.mdmp_wire.specs.declared.exception.ExceptionRecord.{ExceptionRecord}

@@ -1,4 +1,5 @@
--- The fields of a module, its name and its two records.
+-- The fields of a module, and what it points at.
+-- Made by bindings/generate from bindings/kinds.toml.
 use Rattle.std.proofs.Common.{ℕ, ◌≡◌, List, refl, subst}
 use Rattle.mdmp_wire.specs.Module.{module_at}
 use Rattle.mdmp_wire.specs.declared.module.ModuleRecord.{ModuleRecord}

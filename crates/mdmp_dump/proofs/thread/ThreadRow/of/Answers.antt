@@ -1,4 +1,5 @@
--- The fields of a thread, its stack and its registers.
+-- The fields of a thread, and what it points at.
+-- Made by bindings/generate from bindings/kinds.toml.
 use Rattle.std.proofs.Common.{ℕ, ◌≡◌, List, refl, subst}
 use Rattle.mdmp_wire.specs.Thread.{thread_at}
 use Rattle.mdmp_wire.specs.declared.thread.ThreadRecord.{ThreadRecord}

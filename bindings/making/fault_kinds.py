@@ -2,7 +2,7 @@
 
 from __future__ import annotations
 
-from .interface import Enum, Interface
+from .interface import MADE, Enum, Interface
 
 # The enums, and what their constants begin with there.
 ENUMS = {"mdmp_fault_kind": "MDMP_FAULT_", "mdmp_part": "MDMP_"}
@@ -14,10 +14,10 @@ def constants_of(enum: Enum, prefix: str) -> str:
     )
 
 
-def kinds_text(interface: Interface) -> str:
+def numbers_text(interface: Interface) -> str:
     """The text of the file that has these constants."""
     head = (
         "//! The numbers of the kinds of faults, and of the parts of records. include/mdmp.h says what each means.\n"
-        "// Made by bindings/generate from bindings/interface.toml.\n"
+        f"// {MADE}\n"
     )
     return head + "".join(constants_of(interface.enums[name], prefix) for name, prefix in ENUMS.items())

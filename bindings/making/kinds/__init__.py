@@ -1,0 +1,1 @@
+"""Of bindings/kinds.toml: what the crates of Rattle say of each kind of streams."""
