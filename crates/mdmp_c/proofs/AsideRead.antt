@@ -16,7 +16,7 @@ use Rattle.mdmp_lister.specs.Memory.{is_within}
 use Rattle.mdmp_print.specs.declared.form.LineForm.{LineForm}
 use Rattle.mdmp_engines.specs.declared.fault.ToolFault.{ToolFault}
 use Rattle.mdmp_engines.specs.declared.fault.ToolFault.TheVariants.{List as BadList, AsideLimit, Memory}
-use Rattle.mdmp_engines.specs.Engines.{WhereToldToEnd}
+use Rattle.mdmp_engines.specs.ReadThrough.{WhereToldToEnd}
 use Rattle.mdmp_engines.specs.Runs.{ListsNext, ReadsRequested, RestsAside}
 use Rattle.mdmp_engines.specs.Symbols.{IsRecordAmong, symbols_bytes, symbols_of, symbols_read, symbols_taken, taken_bytes}
 

@@ -15,7 +15,7 @@ use Rattle.mdmp_lister.specs.Format.Refusal.{behind_directory, directory_refusal
 use Rattle.mdmp_lister.specs.Lister.{IsNewLister, ListerState}
 use Rattle.mdmp_lister.specs.Memory.{earlier_fault, is_within, leaving, mapped_fault, opening_fault_within, unmapped_fault}
 use Rattle.mdmp_engines.specs.CheckRuns.{Checks}
-use Rattle.mdmp_engines.specs.Engines.{IsReadThrough, check_access}
+use Rattle.mdmp_engines.specs.ReadThrough.{IsReadThrough, check_access}
 use Rattle.mdmp_engines.specs.declared.fault.ToolFault.{ToolFault}
 use Rattle.mdmp_engines.specs.declared.fault.ToolFault.TheVariants.{AsideLimit, Budget, MemoryLimit, Opening}
 use Rattle.mdmp_print.specs.declared.form.LineForm.{LineForm}

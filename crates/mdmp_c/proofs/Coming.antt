@@ -11,7 +11,7 @@ use Rattle.mdmp_lister.specs.Lister.{IsNewList, IsSameLister, ListerState, Rooms
 use Rattle.mdmp_lister.specs.NextFetch.{IsOpeningFetch, TellsSomeFetch}
 use Rattle.mdmp_summary.specs.InEntry.{IsChosenEntry, IsInChosen, StandsInChosen}
 use Rattle.mdmp_summary.specs.Walking.{IsSameListing}
-use Rattle.mdmp_engines.specs.Engines.{IsSameRun}
+use Rattle.mdmp_engines.specs.ReadThrough.{IsSameRun}
 use Rattle.mdmp_c.specs.declared.limits.PlainLimits.{PlainLimits}
 use Rattle.mdmp_c.specs.Limits.{AreGiven}
 use Rattle.mdmp_c.specs.NextRead.{CameNext, IsEntryOf, IsNextRead, of_listing, of_opening}

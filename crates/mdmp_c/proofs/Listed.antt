@@ -26,7 +26,7 @@ use Rattle.mdmp_source.specs.Output.{OutState, PutsAll}
 use Rattle.mdmp_engines.specs.Causes.{IsNoSourceFault}
 use Rattle.mdmp_engines.specs.declared.fault.ToolFault.{ToolFault}
 use Rattle.mdmp_engines.specs.declared.fault.ToolFault.TheVariants.{List as BadList, Budget, Memory, Source, Out, AsideLimit}
-use Rattle.mdmp_engines.specs.Engines.{WhereToldToEnd}
+use Rattle.mdmp_engines.specs.ReadThrough.{WhereToldToEnd}
 use Rattle.mdmp_engines.specs.Runs.{ListsNext}
 use Rattle.mdmp_engines.specs.Text.{item_lines, list_text, next_lines, run_text}
 use Rattle.mdmp_print.specs.declared.form.LineForm.{LineForm}

@@ -18,7 +18,7 @@ use Rattle.mdmp_lister.specs.Memory.{is_within}
 use Rattle.mdmp_lister.specs.Sink.{names_of_all}
 use Rattle.mdmp_engines.specs.declared.fault.ToolFault.{ToolFault}
 use Rattle.mdmp_engines.specs.declared.fault.ToolFault.TheVariants.{List as BadList, Budget, AsideLimit, Memory, Out}
-use Rattle.mdmp_engines.specs.Engines.{HasRequested, WhereToldToEnd}
+use Rattle.mdmp_engines.specs.ReadThrough.{HasRequested, WhereToldToEnd}
 use Rattle.mdmp_engines.specs.Symbols.{IsRecordAmong, symbols_bytes, taken_bytes}
 use Rattle.mdmp_engines.specs.Text.{list_text}
 use Rattle.mdmp_print.specs.declared.form.LineForm.{LineForm}

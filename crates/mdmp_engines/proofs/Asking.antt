@@ -13,7 +13,8 @@ use Rattle.mdmp_lister.specs.Requested.EndsRequests.{asks_in_vain, stops_asking}
 use Rattle.mdmp_lister.proofs.Requested.{all_items, aside_none, given_aside, requested_append, requested_left, run_given, whole_fault, whole_none}
 use Rattle.mdmp_engines.specs.declared.fault.ToolFault.{ToolFault}
 use Rattle.mdmp_engines.specs.declared.fault.ToolFault.TheVariants.{List as BadList, Memory, Out}
-use Rattle.mdmp_engines.specs.Engines.{HasRequested, KeepsRequests, Pace, WhereToldToEnd, WhereToldToFault, at_the_end, past_faults, up_to_a_fault}
+use Rattle.mdmp_engines.specs.Engines.{Pace, at_the_end, past_faults, up_to_a_fault}
+use Rattle.mdmp_engines.specs.ReadThrough.{HasRequested, KeepsRequests, WhereToldToEnd, WhereToldToFault}
 use Rattle.mdmp_engines.specs.Runs.{RequestsNext}
 use Rattle.mdmp_engines.specs.Telling.{listing_told, told_by}
 

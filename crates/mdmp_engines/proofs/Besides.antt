@@ -29,7 +29,8 @@ use Rattle.mdmp_lister.specs.Format.Refusal.{most_ranges}
 use Rattle.mdmp_lister.specs.Lister.{IsNewLister, IsSameLister, ListerState, Rooms, tail}
 use Rattle.mdmp_lister.specs.Memory.{leaving}
 use Rattle.mdmp_engines.specs.declared.list.ModuleSymbols.{ModuleSymbols}
-use Rattle.mdmp_engines.specs.Engines.{Beside, IsListerOf, IsOpened, IsSameRun, KeepsBeside, Pace, list_beside, source_over}
+use Rattle.mdmp_engines.specs.Engines.{IsOpened, Pace}
+use Rattle.mdmp_engines.specs.ReadThrough.{Beside, IsListerOf, IsSameRun, KeepsBeside, list_beside, source_over}
 use Rattle.mdmp_engines.specs.Runs.{ReadsLeft, ReadsNext, RestsAside}
 use Rattle.mdmp_engines.specs.Symbols.{codeview_taken, symbols_bytes, symbols_of, symbols_read, symbols_taken, taken_bytes}
 use Rattle.mdmp_engines.specs.Telling.{listing_told, told_by}

@@ -35,7 +35,8 @@ use Rattle.mdmp_engines.specs.declared.fault.ToolFault.TheVariants.{Source, Budg
 use Rattle.mdmp_summary.specs.Checking.{TellsRun}
 use Rattle.mdmp_engines.specs.CheckRuns.{AreFirstChecked, HandsChecked, TakesLine}
 use Rattle.mdmp_engines.specs.CheckText.{bad_count, fault_count, verdict_count}
-use Rattle.mdmp_engines.specs.Engines.{FetchesAllNames, StopsShort}
+use Rattle.mdmp_engines.specs.Engines.{StopsShort}
+use Rattle.mdmp_engines.specs.ReadThrough.{FetchesAllNames}
 use Rattle.mdmp_engines.specs.Telling.{told_by}
 use Rattle.mdmp_print.specs.declared.form.LineForm.{LineForm}
 

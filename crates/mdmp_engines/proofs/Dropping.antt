@@ -7,7 +7,8 @@ use Rattle.mdmp_lister.specs.declared.limits.Limits.{Limits}
 use Rattle.mdmp_engines.specs.declared.fault.ToolFault.{ToolFault}
 use Rattle.mdmp_engines.specs.Copying.{SpendsCopy, SpendsWithin, first_not_copied}
 use Rattle.mdmp_engines.specs.Dropping.{DropsCopied, DropsStore}
-use Rattle.mdmp_engines.specs.Engines.{Access, IsReadThrough, ReadsSource, source_over}
+use Rattle.mdmp_engines.specs.Engines.{ReadsSource}
+use Rattle.mdmp_engines.specs.ReadThrough.{Access, IsReadThrough, source_over}
 
 pub drops_copied : (may_go : SourceState → Type 0) (Z : Type 0) (types : List ℕ) (limits : Limits) (store : StoreState) (old gone : SourceState) (answer : Result ℕ ToolFault)
     → old ≡ source_over store → may_go gone → ReadsSource old answer gone → ((t : ℕ) → first_not_copied types ≡ Some t → gone ≡ old)

@@ -20,7 +20,8 @@ use Rattle.mdmp_summary.specs.declared.check_row.CheckRow.TheVariants.{Part}
 use Rattle.mdmp_summary.specs.declared.part.PartOutside.{PartOutside}
 use Rattle.mdmp_engines.specs.CheckParts.{bad_rows, loss_count, row_count}
 use Rattle.mdmp_engines.specs.CheckRuns.{AreFirstChecked, HandsChecked}
-use Rattle.mdmp_engines.specs.Engines.{FetchesAllNames, IsOpened, KeepsReads, at_most, past_faults}
+use Rattle.mdmp_engines.specs.Engines.{IsOpened, past_faults}
+use Rattle.mdmp_engines.specs.ReadThrough.{FetchesAllNames, KeepsReads, at_most}
 use Rattle.mdmp_engines.proofs.Checking.{all_chosen, count_entries}
 
 -- its first rows are the first rows of a check

@@ -24,7 +24,8 @@ use Rattle.mdmp_lister.specs.declared.meter.Amount.{Amount}
 use Rattle.mdmp_lister.specs.Sink.{names_of_all}
 use Rattle.mdmp_lister.proofs.Handing.{rose_exactly}
 use Rattle.mdmp_lister.proofs.Naming.{names_of-plain}
-use Rattle.mdmp_engines.specs.Engines.{IsOpened, IsSameRun, KeepsNames, KeepsReads, at_most, past_faults, up_to_a_fault}
+use Rattle.mdmp_engines.specs.Engines.{IsOpened, past_faults, up_to_a_fault}
+use Rattle.mdmp_engines.specs.ReadThrough.{IsSameRun, KeepsNames, KeepsReads, at_most}
 use Rattle.mdmp_engines.proofs.Symbols.{first_then}
 
 -- ---- of a check

@@ -30,7 +30,8 @@ use Rattle.mdmp_engines.specs.Causes.{EndsByBudget, HasAsideCause, HasBudgetCaus
 use Rattle.mdmp_engines.specs.declared.fault.ToolFault.{ToolFault}
 use Rattle.mdmp_engines.specs.declared.fault.ToolFault.TheVariants.{AsideLimit, Budget, MemoryLimit, Out}
 use Rattle.mdmp_engines.proofs.Asking.{out_requested}
-use Rattle.mdmp_engines.specs.Engines.{Access, EndsFlushed, HasAskedLister, HasListed, IsEarly, IsSameRun, IsReadThrough}
+use Rattle.mdmp_engines.specs.Engines.{EndsFlushed}
+use Rattle.mdmp_engines.specs.ReadThrough.{Access, HasAskedLister, HasListed, IsEarly, IsSameRun, IsReadThrough}
 use Rattle.mdmp_engines.specs.Telling.{listing_told, opening_beside, told_by}
 
 -- ---- a lister that a command was given

@@ -11,7 +11,8 @@ use Rattle.mdmp_lister.specs.Sink.{Handed}
 use Rattle.mdmp_engines.specs.declared.fault.ToolFault.{ToolFault}
 use Rattle.mdmp_engines.specs.declared.fault.ToolFault.TheVariants.{Source, Budget, Out}
 use Rattle.mdmp_engines.specs.CheckText.{bad_count, check_text}
-use Rattle.mdmp_engines.specs.Engines.{FetchesAllNames, Runs, RunsThrough, past_faults}
+use Rattle.mdmp_engines.specs.Engines.{Runs, RunsThrough, past_faults}
+use Rattle.mdmp_engines.specs.ReadThrough.{FetchesAllNames}
 use Rattle.mdmp_print.specs.declared.form.LineForm.{LineForm}
 
 -- ---- the rows of a check: each has a line, and a count, which is 1 if it tells of a bad entry

@@ -6,7 +6,8 @@ use Rattle.mdmp_source.specs.Store.{StoreState}
 use Rattle.mdmp_lister.specs.declared.limits.Limits.{Limits}
 use Rattle.mdmp_engines.specs.declared.fault.ToolFault.{ToolFault}
 use Rattle.mdmp_engines.specs.Copying.{SpendsCopy, SpendsWithin, first_not_copied}
-use Rattle.mdmp_engines.specs.Engines.{Access, ReadsSource, ReadsStore, source_over}
+use Rattle.mdmp_engines.specs.Engines.{ReadsSource}
+use Rattle.mdmp_engines.specs.ReadThrough.{Access, ReadsStore, source_over}
 
 -- that of a command over a listing
 pub record DropsStore {T : Type 0} (may_go : SourceState → Type 0) (access : Access) (store : StoreState) (answer : Result T ToolFault) : Type 0 where

@@ -11,6 +11,7 @@ pub mod JsonLaws
 pub mod KeptNames
 pub mod ObjectRuns
 pub mod ObjectVisits
+pub mod ReadThrough
 pub mod Reports
 pub mod Runs
 pub mod SummaryObject

@@ -14,7 +14,8 @@ use Rattle.mdmp_wire.specs.declared.header.Header.{Header}
 use Rattle.mdmp_lister.specs.declared.item.Item.{Item}
 use Rattle.mdmp_lister.specs.Requested.{IsRequested, OnlyReadsAside}
 use Rattle.mdmp_engines.specs.Causes.{EndsByBudget, KeepsAside}
-use Rattle.mdmp_engines.specs.Engines.{HasRequested, IsSameRun, Runs, RunsThrough, StopsShort, WritesText, up_to_a_fault}
+use Rattle.mdmp_engines.specs.Engines.{Runs, RunsThrough, StopsShort, WritesText, up_to_a_fault}
+use Rattle.mdmp_engines.specs.ReadThrough.{HasRequested, IsSameRun}
 use Rattle.mdmp_print.specs.Forms.{dump_line_in}
 use Rattle.mdmp_print.specs.declared.form.LineForm.{LineForm}
 use Rattle.mdmp_engines.specs.Symbols.{IsRecordAmong, IsRecordAt, symbols_bytes, symbols_read, symbols_taken, taken_bytes}

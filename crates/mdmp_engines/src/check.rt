@@ -3,7 +3,8 @@ ghost use Rattle.std.specs.Prelude.{◌≡◌, ℕ, List, None, Some};
 ghost use Rattle.mdmp_engines.specs.CheckRuns.{Checks};
 ghost use Rattle.mdmp_engines.specs.Causes.{MayReachAside, MayReachBudget, MayReachMemory};
 ghost use Rattle.mdmp_engines.specs.Dropping.{DropsStore};
-ghost use Rattle.mdmp_engines.specs.Engines.{IsReadThrough, ReadsSource, Tells, directly, past_faults, check_access};
+ghost use Rattle.mdmp_engines.specs.Engines.{ReadsSource, Tells, directly, past_faults};
+ghost use Rattle.mdmp_engines.specs.ReadThrough.{IsReadThrough, check_access};
 
 use crate::check_engine::{CheckEngine, CheckedRows, RowLines};
 use crate::engine::{run, run_source};

@@ -3,7 +3,8 @@ ghost use Rattle.std.specs.Prelude.{◌≡◌, ℕ, List, None, Some, flat_map, 
 ghost use Rattle.mdmp_lister.specs.declared.choice.Choice.TheVariants.{All};
 ghost use Rattle.mdmp_engines.specs.Causes.{EndsByBudget, KeepsAside};
 ghost use Rattle.mdmp_engines.specs.CheckRuns.{EndsCounted};
-ghost use Rattle.mdmp_engines.specs.Engines.{IsOpened, IsSameRun, Leaves, ReadsByRequests, WritesText, at_most, past_faults};
+ghost use Rattle.mdmp_engines.specs.Engines.{IsOpened, Leaves, WritesText, past_faults};
+ghost use Rattle.mdmp_engines.specs.ReadThrough.{IsSameRun, ReadsByRequests, at_most};
 
 use crate::engine::Engine;
 use crate::fault::{ToolFault, told_list};
@@ -22,7 +23,8 @@ pub trait CheckedRows: Copy {
     ghost use Rattle.mdmp_summary.specs.InEntry.{EndsInEntry};
     ghost use Rattle.mdmp_summary.specs.Checking.{TellsRun};
     ghost use Rattle.mdmp_engines.specs.CheckRuns.{HandsChecked, TakesLine};
-    ghost use Rattle.mdmp_engines.specs.Engines.{IsOpened, KeepsReads, at_most, past_faults};
+    ghost use Rattle.mdmp_engines.specs.Engines.{IsOpened, past_faults};
+    ghost use Rattle.mdmp_engines.specs.ReadThrough.{KeepsReads, at_most};
 
     /// What is printed as a line.
     type Row: Copy;
@@ -64,7 +66,8 @@ impl<R: CheckedRows> Engine for CheckEngine<R> {
     ghost use Rattle.std.specs.Prelude.{flat_map, sum_by};
     ghost use Rattle.mdmp_lister.specs.declared.choice.Choice.TheVariants.{All};
     ghost use Rattle.mdmp_engines.specs.CheckRuns.{EndsCounted};
-    ghost use Rattle.mdmp_engines.specs.Engines.{at_most, past_faults};
+    ghost use Rattle.mdmp_engines.specs.Engines.{past_faults};
+    ghost use Rattle.mdmp_engines.specs.ReadThrough.{at_most};
     ghost use Rattle.mdmp_engines.specs.Reports.{IsCheckEnd};
 
     type Answer = u64;

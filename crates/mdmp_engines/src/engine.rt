@@ -5,7 +5,8 @@ ghost use Rattle.mdmp_lister.specs.Format.Refusal.{opening_fault};
 ghost use Rattle.mdmp_engines.specs.Causes.{MayReachAside, MayReachBudget, MayReachMemory};
 ghost use Rattle.mdmp_engines.specs.Telling.{opening_beside};
 ghost use Rattle.mdmp_engines.specs.Dropping.{DropsStore};
-ghost use Rattle.mdmp_engines.specs.Engines.{EndsFlushed, IsFlushed, IsReadThrough, ReadsSource, Runs, RunsThrough, Tells, directly, in_blocks, unless_refused};
+ghost use Rattle.mdmp_engines.specs.Engines.{EndsFlushed, IsFlushed, ReadsSource, Runs, RunsThrough, Tells, directly, in_blocks, unless_refused};
+ghost use Rattle.mdmp_engines.specs.ReadThrough.{IsReadThrough};
 
 use crate::fault::{ToolFault, told_opening};
 use crate::outcome::Outcome;
@@ -21,7 +22,8 @@ pub trait Engine: Copy {
     ghost use Rattle.mdmp_lister.specs.declared.choice.Choice.{Choice};
     ghost use Rattle.mdmp_engines.specs.declared.fault.ToolFault.{ToolFault};
     ghost use Rattle.mdmp_engines.specs.Causes.{EndsByBudget, IsWithinMemory, KeepsAside};
-    ghost use Rattle.mdmp_engines.specs.Engines.{Beside, IsOpened, IsSameRun, Leaves, Pace, ReadsByRequests, WritesText};
+    ghost use Rattle.mdmp_engines.specs.Engines.{IsOpened, Leaves, Pace, WritesText};
+    ghost use Rattle.mdmp_engines.specs.ReadThrough.{Beside, IsSameRun, ReadsByRequests};
 
     /// What it answers where all was printed.
     type Answer: Copy;

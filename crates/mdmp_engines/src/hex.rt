@@ -5,7 +5,8 @@ ghost use Rattle.mdmp_lister.specs.Format.Listing.{Run};
 ghost use Rattle.mdmp_lister.specs.Requested.{OnlyReadsAside};
 ghost use Rattle.mdmp_engines.specs.Causes.{EndsByBudget, IsWithinBudget, KeepsAside, MayReachAside, MayReachBudget, MayReachMemory};
 ghost use Rattle.mdmp_engines.specs.Dropping.{DropsStore};
-ghost use Rattle.mdmp_engines.specs.Engines.{HasRequested, IsSameRun, IsReadThrough, Leaves, ReadsSource, Tells, at_the_end, directly, hex_access};
+ghost use Rattle.mdmp_engines.specs.Engines.{Leaves, ReadsSource, Tells, at_the_end, directly};
+ghost use Rattle.mdmp_engines.specs.ReadThrough.{HasRequested, IsSameRun, IsReadThrough, hex_access};
 ghost use Rattle.mdmp_engines.specs.HexRuns.{Hexes, HexesMemory, HexesRun};
 ghost use Rattle.mdmp_print.specs.HexText.{length_limit};
 
@@ -90,7 +91,8 @@ impl<A: Allocator + Copy> Engine for HexEngine<A> {
     ghost use Rattle.std.specs.Prelude.{◌≤◌, ◌+◌, ◌*◌};
     ghost use Rattle.mdmp_map.specs.Ranges.{address_end};
     ghost use Rattle.mdmp_lister.specs.Format.Listing.{listing, memory_lists};
-    ghost use Rattle.mdmp_engines.specs.Engines.{at_most, at_the_end};
+    ghost use Rattle.mdmp_engines.specs.Engines.{at_the_end};
+    ghost use Rattle.mdmp_engines.specs.ReadThrough.{at_most};
     ghost use Rattle.mdmp_engines.specs.HexRuns.{HexEnds, run_hex_text};
     ghost use Rattle.mdmp_engines.specs.Reports.{IsEnd};
 

@@ -34,6 +34,7 @@ mod kept_name;
 mod kept_units;
 mod list;
 mod module_objects;
+mod object_passes;
 mod outcome;
 mod reporting;
 mod summary;

@@ -11,7 +11,8 @@ use Rattle.mdmp_engines.specs.declared.fault.ToolFault.{ToolFault}
 use Rattle.mdmp_engines.specs.declared.fault.ToolFault.TheVariants.{Opening, List as BadList, Source, Budget, Memory, MemoryLimit, AsideLimit, Out}
 use Rattle.mdmp_engines.specs.Causes.{HasOutCause}
 use Rattle.mdmp_tool.specs.Commands.{HasRun, HasRunThrough, IsObjectPrinted}
-use Rattle.mdmp_engines.specs.Engines.{IsFlushed, Pace, RefusesWithin, RunsThrough, StopsShort, Tells, WritesText, in_blocks, Access}
+use Rattle.mdmp_engines.specs.Engines.{IsFlushed, Pace, RefusesWithin, RunsThrough, StopsShort, Tells, WritesText, in_blocks}
+use Rattle.mdmp_engines.specs.ReadThrough.{Access}
 use Rattle.mdmp_engines.specs.ObjectRuns.{IsObjectThrough, IsQuietObject, PrintsObject, PrintsThrough, ReadsObject}
 use Rattle.mdmp_engines.specs.SummaryRuns.{summary_names}
 use Rattle.mdmp_engines.proofs.BlockLemmas.{at_fault, quiet_from}

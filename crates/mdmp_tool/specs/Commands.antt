@@ -14,7 +14,8 @@ use Rattle.mdmp_engines.specs.Causes.{HasOutCause, IsNoSourceFault}
 use Rattle.mdmp_engines.specs.CheckParts.{ChecksPartsThrough}
 use Rattle.mdmp_engines.specs.CheckRuns.{ChecksThrough}
 use Rattle.mdmp_engines.specs.Copying.{Copies, SpendsCopy, SpendsWithin, TellsCopyBudget, TellsCopyMemory, first_not_copied}
-use Rattle.mdmp_engines.specs.Engines.{IsReadThrough, Pace, ReadsSource, RunsThrough, Tells, unless_refused, at_the_end, in_blocks, past_faults, up_to_a_fault, Access, check_access, hex_access, list_access}
+use Rattle.mdmp_engines.specs.Engines.{Pace, ReadsSource, RunsThrough, Tells, unless_refused, at_the_end, in_blocks, past_faults, up_to_a_fault}
+use Rattle.mdmp_engines.specs.ReadThrough.{IsReadThrough, Access, check_access, hex_access, list_access}
 use Rattle.mdmp_engines.specs.HexRuns.{HexesThrough}
 use Rattle.mdmp_engines.specs.ObjectRuns.{IsObjectThrough, IsQuietObject, PrintsObject}
 use Rattle.mdmp_engines.specs.Reports.{IsCheckEnd, IsEnd, IsSummaryEnd}

@@ -7,7 +7,7 @@ use Rattle.mdmp_lister.proofs.Fetches.{IsGood-later}
 use Rattle.mdmp_lister.specs.Lister.{tail}
 use Rattle.mdmp_lister.proofs.Requested.{aside_none}
 use Rattle.mdmp_engines.specs.declared.fault.ToolFault.TheVariants.{Memory}
-use Rattle.mdmp_engines.specs.Engines.{HasRequested}
+use Rattle.mdmp_engines.specs.ReadThrough.{HasRequested}
 use Rattle.mdmp_engines.proofs.Asking.{end_requested, fault_or_memory, next_requested, requested_behind, requested_same, requested_so_far}
 use Rattle.mdmp_engines.proofs.Printing.{next_told, next_within}
 use Rattle.mdmp_engines.specs.Symbols.{taken_bytes}

@@ -7,7 +7,7 @@ use Rattle.mdmp_lister.specs.Format.Listing.{Run}
 use Rattle.mdmp_lister.specs.Requested.{AreRequested}
 use Rattle.mdmp_engines.proofs.Reached.{HasNamed}
 use Rattle.mdmp_summary.specs.InEntry.{StandsInChosen}
-use Rattle.mdmp_engines.specs.Engines.{IsSameRun}
+use Rattle.mdmp_engines.specs.ReadThrough.{IsSameRun}
 use Rattle.mdmp_c.specs.TextPart.{IsPartOf}
 use Rattle.mdmp_c.proofs.AsideRead.{HasMet}
 use Rattle.mdmp_c.proofs.Listed.{HasGiven}

@@ -11,7 +11,8 @@ use Rattle.mdmp_lister.specs.Memory.{leaving}
 use Rattle.mdmp_lister.specs.Opening.{KeepsOpening}
 use Rattle.mdmp_engines.specs.Causes.{HasMemoryCause, MayChange}
 use Rattle.mdmp_engines.specs.Telling.{opening_beside}
-use Rattle.mdmp_engines.specs.Engines.{Access, IsBehind, IsReadThrough, Runs, Tells, directly, unless_refused}
+use Rattle.mdmp_engines.specs.Engines.{IsBehind, Runs, Tells, directly, unless_refused}
+use Rattle.mdmp_engines.specs.ReadThrough.{Access, IsReadThrough}
 use Rattle.mdmp_engines.specs.declared.fault.ToolFault.{ToolFault}
 use Rattle.mdmp_engines.proofs.Besides.{run_opened}
 use Rattle.mdmp_engines.proofs.SameRuns.{budget_cause, budget_entry, early_opening, kept_leaving, memory_opening, next_leaving, over_opening, run_within}

@@ -5,7 +5,7 @@ use Rattle.mdmp_lister.specs.declared.item.Item.{Item}
 use Rattle.mdmp_lister.specs.Format.Listing.{Run}
 use Rattle.mdmp_lister.specs.Requested.{AreRequested}
 use Rattle.mdmp_summary.specs.InEntry.{StandsInChosen}
-use Rattle.mdmp_engines.specs.Engines.{IsSameRun}
+use Rattle.mdmp_engines.specs.ReadThrough.{IsSameRun}
 use Rattle.mdmp_engines.proofs.Besides.{HasRead}
 use Rattle.mdmp_engines.proofs.Printing.{HasPrinted}
 use Rattle.mdmp_engines.proofs.Reached.{HasNamed}

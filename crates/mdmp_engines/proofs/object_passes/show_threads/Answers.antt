@@ -9,7 +9,7 @@ use Rattle.mdmp_engines.specs.SummaryObject.{found_among, threads_text}
 use Rattle.mdmp_engines.specs.declared.fault.ToolFault.{ToolFault}
 use Rattle.mdmp_engines.proofs.Objects.{next_thread, put_thread, thread_looked, thread_one, thread_refused, thread_short, thread_steady, thread_stop, thread_taken, thread_unread, threads_of, threads_seen}
 use Rattle.mdmp_engines.proofs.ObjectsTold.{are_items, found_outcome, outcome_name, outcome_out, prints_outcome}
-use Rattle.mdmp_engines.proofs.summary_json.show_threads.Goals as goal
+use Rattle.mdmp_engines.proofs.object_passes.show_threads.Goals as goal
 
 pub returns-clause-same_output : goal.returns-clause-same_output
 returns-clause-same_output g c =

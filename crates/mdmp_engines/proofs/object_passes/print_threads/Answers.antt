@@ -7,7 +7,7 @@ use Rattle.mdmp_summary_lines.specs.JsonEnd.{summary_end_text}
 use Rattle.mdmp_engines.specs.ObjectRuns.{PrintsWhileRead}
 use Rattle.mdmp_engines.specs.SummaryObject.{crashed_id, found_among, threads_text}
 use Rattle.mdmp_engines.proofs.ObjectPasses.{prints_front, refused_pass}
-use Rattle.mdmp_engines.proofs.summary_json.print_threads.Goals as goal
+use Rattle.mdmp_engines.proofs.object_passes.print_threads.Goals as goal
 
 -- ---- the threads were not all printed
 

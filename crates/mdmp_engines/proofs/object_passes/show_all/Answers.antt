@@ -4,7 +4,7 @@ use Rattle.mdmp_engines.specs.Causes.{HasBudgetCause, HasSourceCause, IsNoSource
 use Rattle.mdmp_engines.specs.ObjectRuns.{IsPrintEnd}
 use Rattle.mdmp_engines.specs.declared.fault.ToolFault.{ToolFault}
 use Rattle.mdmp_engines.proofs.ObjectsTold.{cause_visit, good_visit, over_visit, stops_visit, unread_pass, visited_err}
-use Rattle.mdmp_engines.proofs.summary_json.show_all.Goals as goal
+use Rattle.mdmp_engines.proofs.object_passes.show_all.Goals as goal
 
 pub returns-in-Ok-clause-shows : goal.returns-in-Ok-clause-shows
 returns-in-Ok-clause-shows g c =

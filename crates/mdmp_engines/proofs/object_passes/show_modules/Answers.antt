@@ -8,7 +8,7 @@ use Rattle.mdmp_engines.specs.SummaryObject.{modules_text}
 use Rattle.mdmp_engines.specs.declared.fault.ToolFault.{ToolFault}
 use Rattle.mdmp_engines.proofs.Objects.{module_looked, module_one, module_refused, module_short, module_steady, module_stop, module_taken, module_unread, modules_of, modules_seen, next_module, put_module}
 use Rattle.mdmp_engines.proofs.ObjectsTold.{are_items, outcome_name, outcome_out, prints_outcome}
-use Rattle.mdmp_engines.proofs.summary_json.show_modules.Goals as goal
+use Rattle.mdmp_engines.proofs.object_passes.show_modules.Goals as goal
 
 pub returns-clause-same_output : goal.returns-clause-same_output
 returns-clause-same_output g c =
