@@ -48,9 +48,9 @@ def arm_of(kind: Kind) -> str:
     )
 
 
-def put_value_uses(files: Stretches, name: str, ghosts: str, kinds: Kinds) -> None:
-    """The `use` lines of the values, behind those of the contracts, and of the records that are their own values."""
-    put_among(files, name, ghosts, "\n/// ", [f"use crate::{kind.value_module}::{kind.value};\n" for kind in kinds.with_values])
+def put_value_uses(files: Stretches, name: str, before: str, kinds: Kinds) -> None:
+    """The `use` lines of the values, behind what stands before them, and of the records that are their own values."""
+    put_among(files, name, before, "\n/// ", [f"use crate::{kind.value_module}::{kind.value};\n" for kind in kinds.with_values])
     put_used(files, name, "use mdmp_wire", [kind.struct for kind in kinds.without_values])
 
 
@@ -60,7 +60,7 @@ def put_sources(files: Stretches, kinds: Kinds) -> None:
     files.put(dump, "    Unused,\n", "    /// A stream of another type", line_each(kinds.by_type, variant_of))
     lists, singles = kinds_in_brackets(kinds.lists), kinds_in_brackets(kinds.singles)
     files.put(dump, " " * 12 + "@kinds [", "]\n            $stream", f"{lists}]\n            [{singles}")
-    put_value_uses(files, dump, "specs.Fits.{Fits, StreamFits};\n\n", kinds)
+    put_value_uses(files, dump, "//! A dump, and its streams.\n\n", kinds)
     files.put(reading, "Ok((Some(Stream::Unused), next))\n        }\n", "        _ =>", line_each(kinds.by_type, arm_of))
     put_value_uses(files, reading, "read_refusal, refusal_of, stream_steps};\n\n", kinds)
     put_among(files, crate, "\n#![tactic(auto)]\n\n", "\npub use", [f"mod {kind.value_module};\n" for kind in kinds.by_type])

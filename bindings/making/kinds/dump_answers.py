@@ -135,28 +135,28 @@ def single_refused(arm: Arm) -> str:
 def fetched(arm: Arm) -> list[str]:
     """What was fetched, and that the reader goes on."""
     sources = f"c.args.reader.now.lister.source c.{arm.call}.new.self.lister.source"
-    refused = f"\n{arm.fault}    rw ({arm.refused_by}) (Fetches_as fault {sources} c.{arm.refused}.ensures.fetches)"
+    refused = f"\n{arm.fault}    rw ({arm.refused_by}) (Fetches_as fault {sources} c.{arm.refused}.ensures.step.fetches)"
     residual = f"c.from_residual-{arm.refused}"
     return [
         returned(arm.refused, "fetches", refused),
         returned(arm.refused, "going", f" IfOk-from_err {residual}.result _ {residual}.ensures.0"),
-        returned(arm.done, "fetches", f" Fetches_only _ {sources} c.{arm.done}.ensures.fetches.fetches"),
-        returned(arm.done, "going", f" c.{arm.done}.ensures.going"),
+        returned(arm.done, "fetches", f" Fetches_only _ {sources} c.{arm.done}.ensures.step.fetches.fetches"),
+        returned(arm.done, "going", f" c.{arm.done}.ensures.step.going"),
     ]
 
 
 def kept(arm: Arm) -> list[str]:
-    refused = f"\n{arm.fault}    rw ({arm.refused_by}) (keeps_any _ fault c.args.reader.now _ c.{arm.refused}.ensures.keeps)"
-    return [returned(arm.refused, "keeps", refused), returned(arm.done, "keeps", f" c.{arm.done}.ensures.keeps")]
+    refused = f"\n{arm.fault}    rw ({arm.refused_by}) (keeps_any _ fault c.args.reader.now _ c.{arm.refused}.ensures.step.keeps)"
+    return [returned(arm.refused, "keeps", refused), returned(arm.done, "keeps", f" c.{arm.done}.ensures.step.keeps")]
 
 
 def turn_refused(arm: Arm) -> str:
-    reads = f"(reads_any _ [] _ _ _ (reads_as [] fault _ _ c.{arm.refused}.ensures.reads))"
+    reads = f"(reads_any _ [] _ _ _ (reads_as [] fault _ _ c.{arm.refused}.ensures.step.reads))"
     return returned(arm.refused, "reads", f"\n{arm.fault}    rw ({arm.refused_by}) {reads}")
 
 
 def turn_done(arm: Arm) -> str:
-    return returned(arm.done, "reads", f" {READS} c.{arm.done}.ensures.reads)")
+    return returned(arm.done, "reads", f" {READS} c.{arm.done}.ensures.step.reads)")
 
 
 # ---- all of them

@@ -80,7 +80,7 @@ def of_record(call: str) -> Callable[[Case], str]:
 def put_cases(files: Stretches, kinds: Kinds) -> None:
     """All of them."""
     functions = {
-        "dump/StreamFitting/fits": fit,
+        "proof_hints/StreamFitting/fits": fit,
         "value_view/parts_size": parts_size,
         "value_view/record_count": record_count,
         "value_view/record_fields": of_record("fields"),

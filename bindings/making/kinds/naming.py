@@ -56,6 +56,11 @@ def value_type(kind: Kind) -> str:
     return f"{kind.value}<A>" if kind.value else kind.struct
 
 
+def generic(kind: Kind) -> str:
+    """The type parameters of an `impl` for its values."""
+    return "<A: Allocator>" if kind.value else ""
+
+
 def value_in_specs(kind: Kind) -> str:
     """The type of its values in definitions."""
     return f"{kind.value} Z" if kind.value else kind.struct

@@ -26,6 +26,7 @@ class Slot:
     behind: str = ""  # the field with a number of bytes
     value: str = "name"  # the field of the value
     doc: str = ""  # the comment of that field
+    called: str = ""  # what a comment calls it, if that is not the name of the field
 
     @property
     def path(self) -> str:
@@ -61,6 +62,7 @@ class Kind:
     value: str = ""
     value_module: str = ""
     local: str = ""
+    called: str = ""
     value_by_hand: bool = False
     value_doc: str = ""
     is_range: bool = False
@@ -121,9 +123,10 @@ def of_three(made: list[str], none: str) -> list[str]:
 
 def kind_of(table: dict[str, Any]) -> Kind:
     """A kind, of its entry."""
-    slots = tuple(Slot(**slot) for slot in table["slots"])
+    slots = tuple(Slot(**({"called": slot.get("value", "name")} | slot)) for slot in table["slots"])
     fields = tuple(ValueField(**one) for one in table.get("fields", []))
     left_out = {"item": table["record"], "value_module": table["module"], "local": table["module"]}
+    left_out["called"] = table.get("local", table["module"])
     every: dict[str, Any] = {**left_out, **table, "slots": slots, "fields": fields}
     kind = Kind(**every)
     if len(slots) > 3 or any(slot.name for slot in slots[1:]):

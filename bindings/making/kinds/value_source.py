@@ -4,12 +4,10 @@ from __future__ import annotations
 
 from string import Template
 
-from lib.generated import Mistake
-
 from ..lines import comment, listed, literal, used, used_definitions
-from .members import Member, Shape, nested_fits, nested_members
-from .naming import DUMP, WIRE, fits_name, is_name, seen_name, value_type
-from .records import NUMBERS, structure
+from .members import Member, Shape
+from .naming import DUMP, WIRE, generic, is_name, seen_name, value_type
+from .records import structure
 from .table import MADE, PLACES, of_three
 
 VALUE = Template("""\
@@ -17,29 +15,6 @@ $doc#[derive(Drop)]
 #[derive_where(Debug, PartialEq, Eq)]
 pub struct $value<A: Allocator> {
 $members}
-""")
-
-ELEMENTS = Template("""\
-/// Each value has $bits bits.
-fn values_fit(values: &[$type])
-    ensures { (i : ℕ) → slice_index values.now i < 2 ^ $bits }
-{}
-""")
-
-COUNT = Template("""\
-/// An array has as many $what as its type says.
-fn ${what}_are_$count($what: &[$type; $count])
-    ensures { length $what.now ≡ $count }
-{}
-""")
-
-FITTING = Template("""\
-impl$generic Fitting for $value {
-    ghost Fit = { $fits };
-
-    fn fits(&self) {
-$lines    }
-}
 """)
 
 ROW = Template("""\
@@ -86,47 +61,7 @@ def value_text(shape: Shape) -> str:
     return VALUE.substitute(doc=comment(f"{shape.kind.value_doc}: {shape.kind.structures}."), value=shape.value, members=members)
 
 
-# ---- that its numbers fit
-
-
-def array_functions(member: Member) -> dict[str, str]:
-    """The functions that an array is given to, by name: the elements of an array that is not of bytes fit too."""
-    element, count = member.array or ("", 0)
-    if element == "u8":
-        return {f"bytes_are_{count}": COUNT.substitute(what="bytes", type=element, count=count)}
-    return {
-        "values_fit": ELEMENTS.substitute(type=element, bits=NUMBERS[element]),
-        f"values_are_{count}": COUNT.substitute(what="values", type=element, count=count),
-    }
-
-
-def array_texts(shape: Shape) -> list[str]:
-    made: dict[str, str] = {}
-    for name, text in [pair for member in shape.arrays for pair in array_functions(member).items()]:
-        if made.setdefault(name, text) != text:
-            raise Mistake(f"{shape.kind.struct} has arrays of two types of numbers: {name} can't be of both")
-    return list(made.values())
-
-
-def fitting_text(generic: str, value: str, fits: str, members: list[Member], calls: list[str]) -> str:
-    lines = [f"self.{one.name}.fits()" for one in members if one.bits] + calls
-    return FITTING.substitute(generic=generic, value=value, fits=fits, lines="".join(f"        {line};\n" for line in lines))
-
-
-def fittings(shape: Shape) -> list[str]:
-    """Why the numbers of the value fit, and of each structure inside it."""
-    nested = [fitting_text("", struct, nested_fits(struct), nested_members(struct), []) for struct in shape.own_nested]
-    calls = [f"{name}(&self.{one.name})" for one in shape.arrays for name in array_functions(one)]
-    calls += [f"name_fits(&self.{one.name})" for one in shape.names]
-    calls += [f"self.{one.name}.fits()" for one in shape.nested + shape.parts]
-    return [*nested, fitting_text(generic(shape), value_type(shape.kind), fits_name(shape.kind), shape.members, calls)]
-
-
 # ---- read from a record, and given as one
-
-
-def generic(shape: Shape) -> str:
-    return "<A: Allocator>" if shape.kind.value else ""
 
 
 def read_member(shape: Shape, member: Member) -> str:
@@ -177,7 +112,7 @@ def given_text(shape: Shape) -> str:
     kind = shape.kind
     sizes = [f"{one.size_function}(&self.{one.name})" for one in shape.slots]
     return GIVEN.substitute(
-        generic=generic(shape),
+        generic=generic(shape.kind),
         value=value_type(kind),
         name=shape.name,
         record=kind.record,
@@ -192,26 +127,22 @@ def given_text(shape: Shape) -> str:
 
 
 def ghost_uses(shape: Shape) -> str:
-    kind, elements, arrays, value = shape.kind, shape.has_elements, bool(shape.arrays), bool(shape.kind.value)
-    prelude = ["◌≡◌"] * (arrays or not value) + ["◌<◌", "◌^◌", "ℕ"] * elements
-    prelude += ["length"] * arrays + ["slice_index"] * elements
-    own = [fits_name(kind), seen_name(kind), *map(nested_fits, shape.own_nested)] + [is_name(kind)] * value
+    kind, value = shape.kind, bool(shape.kind.value)
     uses: dict[str, list[str]] = {
-        "std.specs.Prelude": prelude,
+        "std.specs.Prelude": ["◌≡◌"] * (not value),
         "mdmp_lister.specs.declared.kind.StreamKind.TheVariants as kinds": [],
         f"{WIRE}.{kind.record_file}": [shape.at] * (not value),
-        f"{DUMP}.{kind.value_file}": sorted(own),
+        f"{DUMP}.{kind.value_file}": sorted([seen_name(kind)] + [is_name(kind)] * value),
     }
     return "".join(f"ghost {line};\n" for line in used_definitions(uses).splitlines())
 
 
 def uses_text(shape: Shape) -> str:
     names, parts = bool(shape.names), bool(shape.parts)
-    wire = {"AnyRecord", shape.kind.struct, *shape.opened, *shape.own_nested, *["Units"] * names}
+    wire = {"AnyRecord", shape.kind.struct, *shape.opened, *["Units"] * names}
     if shape.kind.value:
         wire |= {one.type for one in shape.nested}
     uses = {
-        "crate::fits": ["Fitting"] + ["name_fits"] * names,
         "crate::given": sorted(["Given"] + ["name_size", "unit_bytes"] * names + ["bytes_of", "nowhere", "size_of"] * parts),
         "crate::part": ["Part"] * parts,
         "crate::record_parts": ["RecordParts"] + ["take_part"] * parts,
@@ -228,4 +159,4 @@ def source_text(shape: Shape) -> str:
     title = shape.kind.of_a_dump + ("" if shape.kind.value else ", which is the record itself")
     head = f"//! {title}.\n//! {MADE}\n{ghost_uses(shape)}\n{uses_text(shape)}"
     value = [value_text(shape)] if shape.kind.value else []
-    return "\n".join([head, *value, *array_texts(shape), *fittings(shape), row_text(shape), given_text(shape)])
+    return "\n".join([head, *value, row_text(shape), given_text(shape)])

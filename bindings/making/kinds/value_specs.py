@@ -18,7 +18,7 @@ abbrev pub ${name}_record : $value Z → $types → $struct
 ${name}_record x $slots = record {
 $fields}
 
--- the record at o is that of the $local, with $whats where it says
+-- x is the $called of the record at o: its $whats $stand where that record says
 pub record Is$camel (F : List ℕ) (o : ℕ) (x : $value Z) : Type 0 where
   pub fields : $at F o ≡ ${name}_record x $stands
 $are
@@ -70,7 +70,7 @@ def nested_texts(shape: Shape) -> list[str]:
     """The same of the structures inside the record."""
     return [
         fits_text(
-            f"the numbers of its {name} fit their fields",
+            f"the numbers of its {name.replace('_', ' ')} fit their fields",
             nested_fits(struct),
             struct,
             {inner: what for one in nested_members(struct) for inner, what in fits_lines(shape, one).items()},
@@ -87,10 +87,15 @@ def record_field(member: Member) -> str:
     return marked(member.name) if member.slot else f"x.{member.name}"
 
 
+def called(member: Member) -> str:
+    """What a comment calls what the record points at."""
+    return member.slot.called if member.slot else member.name
+
+
 def places(shape: Shape) -> str:
-    locations = joined([f"its {one.name}" for one in shape.parts])
+    locations = joined([f"its {called(one)}" for one in shape.parts])
     what = f"the location{'s' if shape.parts[1:] else ''} of {locations}"
-    return " and ".join([*(["the RVA of its name"] if shape.names else []), *([what] if shape.parts else [])])
+    return " and ".join([*(f"the RVA of its {called(one)}" for one in shape.names), *([what] if shape.parts else [])])
 
 
 def record_text(shape: Shape) -> str:
@@ -102,7 +107,8 @@ def record_text(shape: Shape) -> str:
         types=" → ".join("ℕ" if one.is_name else "Location" for one in shape.slots),
         slots=" ".join(marked(one.name) for one in shape.slots),
         fields="".join(f"  {field};\n" for field in fields_in_specs(shape, record_field)),
-        whats=joined([f"its {one.name}" for one in shape.slots]),
+        whats=joined([called(one) for one in shape.slots]),
+        stand="are" if shape.slots[1:] or called(shape.slots[0]).endswith("s") else "is",
         stands=" ".join(stands.values()),
         are="".join(f"  pub {marked(name)} : {what}\n" for name, what in are.items()),
     )

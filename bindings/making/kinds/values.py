@@ -1,8 +1,8 @@
-"""The values that records are read into: a file of mdmp_dump for each kind, its definitions, and its proofs."""
+"""The values that records are read into: a file of mdmp_dump for each kind, its definitions, its proofs, and its hints for the prover."""
 
 from __future__ import annotations
 
-from . import forms, value_proofs, value_source, value_specs
+from . import forms, proof_hints, value_proofs, value_source, value_specs
 from .members import shapes_of
 from .table import Kinds
 
@@ -11,8 +11,9 @@ CRATE, WRITER = "crates/mdmp_dump", "crates/mdmp_writer"
 
 def crate_files(kinds: Kinds) -> dict[str, str]:
     """The text of each file that is made."""
-    files = {}
-    for shape in shapes_of(kinds):
+    shapes = shapes_of(kinds)
+    files = {f"{CRATE}/src/proof_hints/values.rt": proof_hints.hints_text(shapes)}
+    for shape in shapes:
         files[f"{CRATE}/src/{shape.name}.rt"] = value_source.source_text(shape)
         files[f"{CRATE}/specs/{shape.camel}.antt"] = value_specs.definitions_text(shape)
         if shape.kind.value:

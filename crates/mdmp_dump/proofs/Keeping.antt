@@ -6,6 +6,7 @@ use Rattle.mdmp_source.specs.Fault.{fault_at}
 use Rattle.mdmp_source.specs.Source.{FetchesAtMost, FetchesSome, SourceState}
 use Rattle.mdmp_source.specs.SourceLaws.{fetches_then}
 use Rattle.mdmp_source.specs.declared.fault.SourceFault.{SourceFault}
+use Rattle.mdmp_lister.specs.Calls.{IsOutOfMemory}
 use Rattle.mdmp_lister.specs.declared.choice.Choice.{Choice}
 use Rattle.mdmp_lister.specs.declared.fault.FaultKind.{FaultKind}
 use Rattle.mdmp_lister.specs.declared.fault.FaultKind.TheVariants as kinds
@@ -293,15 +294,16 @@ opened_ends choice limits parts old fetched opening.Memory new of = tt
 opened_ends choice limits parts old fetched fault new of = of
 
 pub opening_keeps : {T : Type 0} (choice : Choice) (limits : Limits) (parts : ℕ) (old : SourceState) (fault : OpenFault) (new : SourceState) → KeepsToBudget limits old fault new
-    → TellsNextOpening (Some choice) limits old fault new → IsHandedBack choice old fault new → KeepsReading {T = T} choice limits parts (Err (refusal_of fault)) old new
-opening_keeps choice limits parts old fault new keeps next handed_back = record {
+    → TellsNextOpening (Some choice) limits old fault new → IsHandedBack choice old fault new → (fault ≡ opening.Memory → IsOutOfMemory limits choice old new)
+    → KeepsReading {T = T} choice limits parts (Err (refusal_of fault)) old new
+opening_keeps choice limits parts old fault new keeps next handed_back memory = record {
   fetched = keeps.fetched;
   aside = 0;
-  by = refused fault refl (record { over = keeps.over; next = next; handed_back = handed_back }) refl;
+  by = refused fault refl (record { over = keeps.over; next = next; handed_back = handed_back; memory = memory }) refl;
   spent = keeps.spent ∙ ap (raised old.fetched) (let h : keeps.fetched ≡ keeps.fetched + 0 = omega arith in h);
   kept = keeps.kept;
   few = omega arith;
-  ends = opened_ends choice limits parts old keeps.fetched fault new (record { over = keeps.over; next = next; handed_back = handed_back });
+  ends = opened_ends choice limits parts old keeps.fetched fault new (record { over = keeps.over; next = next; handed_back = handed_back; memory = memory });
 }
 
 -- while it was listed

@@ -9,6 +9,7 @@ use Rattle.mdmp_wire.specs.declared.header_fault.HeaderFault.{HeaderFault}
 use Rattle.mdmp_wire.specs.declared.header_fault.HeaderFault.TheVariants as header
 use Rattle.mdmp_wire.specs.Header.{header_at}
 use Rattle.mdmp_wire.specs.HeaderFault.{HasHeader, header_fault}
+use Rattle.mdmp_lister.specs.Calls.{AskedRoom, TellsListsLacking}
 use Rattle.mdmp_lister.specs.declared.choice.Choice.{Choice}
 use Rattle.mdmp_lister.specs.declared.fault.OpenFault.{OpenFault}
 use Rattle.mdmp_lister.specs.declared.fault.OpenFault.TheVariants as opening
@@ -155,17 +156,19 @@ module _ (limits nameless : Limits) (halved : IsNameless limits nameless) where
         by false some = let same = some in cc
 
   -- it is told only where a copy would hold more
-  pub limited : (old : SourceState) (fault : OpenFault) (new : SourceState) → old.size < 2 ^ 64 → TellsWalkMemory nameless old fault new → ((F : List ℕ) → old.store.content ≡ Some F → IsDirectoryRefusal F fault)
-      → ((F : List ℕ) → old.store.content ≡ Some F → IsWalkRefusal nameless F fault) → IsLimited limits old.store.content (refusal_of (copy_fault fault))
-  limited old (opening.MemoryLimit held) new small over opens within =
+  pub limited : {A : Type 0} (may_lack : A → Limits → AskedRoom → Type 0) (alloc : A) (choice : Choice) (old : SourceState) (fault : OpenFault) (new : SourceState) → old.size < 2 ^ 64 → TellsWalkMemory nameless old fault new → ((F : List ℕ) → old.store.content ≡ Some F → IsDirectoryRefusal F fault)
+      → ((F : List ℕ) → old.store.content ≡ Some F → IsWalkRefusal nameless F fault)
+      → TellsListsLacking may_lack alloc nameless choice old.store.content fault → IsLimited limits old.store.content (refusal_of (copy_fault fault))
+  limited may_lack alloc choice old (opening.MemoryLimit held) new small over opens within lacks =
       let window = limits.window_most in
       let twice : raised held held ≡ 2 * held = omega (arith, over.held_is, over.inside, small, halved.window, halved.name, window) in
       let half : is_within (half_of limits.memory) held ≡ false = subst (λ (m : Option ℕ). is_within m held ≡ false) halved.memory over.over in (
         subst (λ (n : ℕ). is_within limits.memory n ≡ false) (sym twice) (twice_over limits.memory held half),
         λ F known. (opens F known, omega (arith, twice, held_of F held (opens F known) (within F known), halved.window, halved.name)),
       )
-  limited old opening.Memory new small over opens within = tt
-  limited old fault new small over opens within = tt
+  limited may_lack alloc choice old opening.Memory new small over opens within lacks = λ F known.
+      subst (λ (n : ℕ). is_within limits.memory (copy_held limits.window n) ≡ true) (lacks.1.of_file F known) (copy_within lacks.0 lacks.1.allowed)
+  limited may_lack alloc choice old fault new small over opens within lacks = tt
 
 -- ---- what an opening spends of a budget
 

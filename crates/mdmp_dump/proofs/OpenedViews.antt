@@ -266,5 +266,4 @@ walk_holds source window choice w opened limits within = λ F known.
 pub walk_limited : (limits : Limits) (content : Option (List ℕ)) (budget : Option ℕ) (fault : ReadFault) → IsOfOpening budget fault → HoldsWithin limits content → IsLimited limits content fault
 walk_limited limits content budget (faults.Opening (opening.Budget offset size)) is holds = tt
 walk_limited limits content budget (faults.Opening fault) is holds = absurd is
-walk_limited limits content budget faults.Memory is holds = tt
 walk_limited limits content budget fault is holds = holds

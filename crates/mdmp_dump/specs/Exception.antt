@@ -24,7 +24,7 @@ module _ {Z : Type 0} where
     thread_context = context;
   }
 
-  -- the record at o is that of the exception, with its context where it says
+  -- x is the exception of the record at o: its context is where that record says
   pub record IsException (F : List ℕ) (o : ℕ) (x : Exception Z) : Type 0 where
     pub fields : exception_at F o ≡ exception_record x (exception_at F o).thread_context
     pub context : IsPart F (exception_at F o).thread_context x.context

@@ -11,8 +11,10 @@ use Rattle.mdmp_lister.specs.declared.fault.FaultKind.{FaultKind}
 use Rattle.mdmp_lister.specs.declared.fault.FaultKind.TheVariants as kinds
 use Rattle.mdmp_lister.specs.declared.fault.ListFault.{ListFault}
 use Rattle.mdmp_lister.specs.declared.fault.OpenFault.{OpenFault}
+use Rattle.mdmp_lister.specs.declared.fault.OpenFault.TheVariants as opening
 use Rattle.mdmp_lister.specs.declared.item.Item.{Item}
 use Rattle.mdmp_lister.specs.declared.limits.Limits.{Limits}
+use Rattle.mdmp_lister.specs.Calls.{IsOutOfMemory}
 use Rattle.mdmp_lister.specs.Fault.{IsToldIn}
 use Rattle.mdmp_lister.specs.Following.{through}
 use Rattle.mdmp_lister.specs.Format.Directory.{IsDirectory}
@@ -80,12 +82,13 @@ TellsListing choice limits old fetched kinds.Budget f new = IsOverIn choice limi
 TellsListing choice limits old fetched (kinds.Source fault) f new = IsUnobtainedIn choice old f new
 TellsListing choice limits old fetched kind f new = Unit {0}
 
--- an opening ended with this fault: no more was fetched than an opening fetches, and one that tells the budget is of the fetch
--- that came next, which was not made
+-- an opening ended with this error. It fetched no more than an opening fetches. If it reports the read limit, the next fetch would
+-- pass it. If it reports out of memory, the limits allow what it asked for.
 pub record IsOpeningEnd (choice : Choice) (limits : Limits) (old : SourceState) (fetched : ℕ) (fault : OpenFault) (new : SourceState) : Type 0 where
   pub over : TellsOver limits old fetched fault
   pub next : TellsNextOpening (Some choice) limits old fault new
   pub handed_back : IsHandedBack choice old fault new
+  pub memory : fault ≡ opening.Memory → IsOutOfMemory limits choice old new
 
 -- a part was being read, or a stream whose records are not known: some bytes of those may be read, and in a known file reading stopped
 -- at a byte that an item of its listing asks for

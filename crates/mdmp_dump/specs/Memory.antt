@@ -18,7 +18,7 @@ module _ {Z : Type 0} where
     memory = bytes;
   }
 
-  -- the record at o is that of the range, with its bytes where it says
+  -- x is the range of the record at o: its bytes are where that record says
   pub record IsMemory (F : List ℕ) (o : ℕ) (x : MemoryRange Z) : Type 0 where
     pub fields : descriptor_at F o ≡ memory_record x (descriptor_at F o).memory
     pub bytes : IsPart F (descriptor_at F o).memory x.bytes

@@ -11,7 +11,7 @@ use Rattle.mdmp_wire.specs.declared.any_record.AnyRecord.TheVariants as any
 use Rattle.mdmp_dump.specs.Seen.{Seen, seen, nowhere, size_of, bytes_of, name_size, unit_bytes}
 use Rattle.mdmp_wire.specs.declared.version.VersionInfo.{VersionInfo}
 
--- the numbers of its version_info fit their fields
+-- the numbers of its version info fit their fields
 pub record VersionFits (x : VersionInfo) : Type 0 where
   pub signature : x.signature < 2 ^ 32
   pub structure_version : x.structure_version < 2 ^ 32
@@ -28,7 +28,7 @@ pub record VersionFits (x : VersionInfo) : Type 0 where
   pub file_date_ls : x.file_date_ls < 2 ^ 32
 
 module _ {Z : Type 0} where
-  -- its record in a file, with the RVA of its name and the locations of its codeview and its misc
+  -- its record in a file, with the RVA of its name and the locations of its CodeView record and its misc record
   abbrev pub module_record : Module Z → ℕ → Location → Location → ModuleRecord
   module_record x name codeview misc = record {
     base_of_image = x.base_of_image;
@@ -43,7 +43,7 @@ module _ {Z : Type 0} where
     reserved1 = x.reserved1;
   }
 
-  -- the record at o is that of the module, with its name, its codeview and its misc where it says
+  -- x is the module of the record at o: its name, CodeView record and misc record are where that record says
   pub record IsModule (F : List ℕ) (o : ℕ) (x : Module Z) : Type 0 where
     pub fields : module_at F o ≡ module_record x (module_at F o).module_name_rva (module_at F o).cv_record (module_at F o).misc_record
     pub name : IsName F (module_at F o).module_name_rva x.name

@@ -42,7 +42,7 @@ pub record RefusesView (limits : Limits) (choice : Choice) (source : SourceState
   pub good : (file : List ℕ) → IsGood source.store file → store_fault fault ≡ None
   -- memory runs out only behind a good header and directory, and a known content has not changed
   pub tells : TellsOf source.store.content fault
-  -- the limit of memory is told only if a copy would hold more
+  -- the limit of memory is reported only if a copy would hold more, out of memory only if it would not
   pub limited : IsLimited limits source.store.content fault
   -- the budget is told with the first fetch that it has no room for
   pub over : (file : List ℕ) → source.store.content ≡ Some file → IsShortOf limits.budget limits.window file choice fault

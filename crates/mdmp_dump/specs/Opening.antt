@@ -64,13 +64,13 @@ copy_held window entries = 2 * window + 24 * entries
 abbrev pub HoldsWithin : Limits → Option (List ℕ) → Type 0
 HoldsWithin limits content = (file : List ℕ) → content ≡ Some file → is_within limits.memory (copy_held limits.window (entry_count file)) ≡ true
 
--- a file gives no view for the limit of memory only where a copy would hold more; of a known one the header and the place of
--- the directory are good, and it is told how much. Another reason behind the directory is told only of a file within the limit.
+-- the limit of memory is reported only if a copy would hold more. If the content is known, the header and the place of the directory
+-- are good, and the error says how much. Out of memory, or an error after the directory, is reported only of a file within the limit.
 abbrev pub IsLimited : Limits → Option (List ℕ) → ReadFault → Type 0
 IsLimited limits content (faults.Opening (opening.MemoryLimit held)) =
     (is_within limits.memory held ≡ false) × ((file : List ℕ) → content ≡ Some file → (directory_refusal file ≡ None) × (held ≡ copy_held limits.window (entry_count file)))
+IsLimited limits content (faults.Opening opening.Memory) = HoldsWithin limits content
 IsLimited limits content (faults.Opening fault) = Unit {0}
-IsLimited limits content faults.Memory = Unit {0}
 IsLimited limits content fault = HoldsWithin limits content
 
 -- where a budget ends the opening of a view of F: at the header; at the directory, of which the window takes so much next; or at the

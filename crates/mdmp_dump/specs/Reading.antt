@@ -40,7 +40,7 @@ use Rattle.mdmp_dump.specs.declared.reader.Told.TheVariants as tolds
 use Rattle.mdmp_dump.specs.declared.reader.Next.{Next}
 use Rattle.mdmp_dump.specs.declared.reader.Next.TheVariants as nexts
 use Rattle.mdmp_dump.specs.FileRefusal.{IsUnbudgeted}
-use Rattle.mdmp_dump.specs.ItemsRead.{IsOfListing, ReadsParts}
+use Rattle.mdmp_dump.specs.ItemsRead.{IsOfListing, ReadsInTurn, ReadsParts, steps_left}
 use Rattle.mdmp_dump.specs.Keeping.{KeepsStep, KeepsReading}
 use Rattle.mdmp_dump.specs.LaysOut.{EachFrom, NamesStream}
 use Rattle.mdmp_dump.specs.declared.dump.Stream.{Stream}
@@ -271,6 +271,13 @@ next_behind (nexts.Behind next) = next
 abbrev pub IsGoingOn : {X : Type 0} → ListerState → Next X → ListerState → Type 0
 IsGoingOn old (nexts.Row row) new = IsGoingBehind old new
 IsGoingOn old (nexts.Behind next) new = IsGoing old next new
+
+-- the records of the current entry are read in turn; `behind` picks from the result the stream that follows them
+pub record ReadsRecords {S A X : Type 0} (behind : X → Option StreamItem) (result : Result X ReadFault) (old new : Reader S A) : Type 0 where
+  pub fetches : Fetches result old.lister.source new.lister.source
+  pub keeps : KeepsStep [] result old new
+  pub reads : ReadsInTurn [] result (steps_left (λ x. steps_of old.lister.source.size (behind x)) result) old.lister new.lister
+  pub going : IfOk result (λ x. IsGoing old.lister (behind x) new.lister)
 
 -- ---- what is found
 

@@ -10,7 +10,7 @@ use Rattle.mdmp_dump.specs.Seen.{Seen, seen, name_size, unit_bytes}
 use Rattle.mdmp_dump.specs.declared.view.PartSize.TheVariants.{NoPart}
 
 module _ {Z : Type 0} where
-  -- its record in a file, with the RVA of its name
+  -- its record in a file, with the RVA of its service pack's name
   abbrev pub system_record : System Z → ℕ → SystemRecord
   system_record x name = record {
     processor_architecture = x.processor_architecture;
@@ -28,7 +28,7 @@ module _ {Z : Type 0} where
     cpu = x.cpu;
   }
 
-  -- the record at o is that of the system, with its name where it says
+  -- x is the system of the record at o: its service pack's name is where that record says
   pub record IsSystem (F : List ℕ) (o : ℕ) (x : System Z) : Type 0 where
     pub fields : system_at F o ≡ system_record x (system_at F o).csd_version_rva
     pub name : IsName F (system_at F o).csd_version_rva x.name

@@ -23,7 +23,7 @@ module _ {Z : Type 0} where
     thread_context = context;
   }
 
-  -- the record at o is that of the thread, with its stack and its context where it says
+  -- x is the thread of the record at o: its stack and context are where that record says
   pub record IsThread (F : List ℕ) (o : ℕ) (x : Thread Z) : Type 0 where
     pub fields : thread_at F o ≡ thread_record x (thread_at F o).stack.memory (thread_at F o).thread_context
     pub stack : IsPart F (thread_at F o).stack.memory x.stack

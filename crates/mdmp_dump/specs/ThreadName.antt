@@ -17,7 +17,7 @@ module _ {Z : Type 0} where
     rva_of_thread_name = name;
   }
 
-  -- the record at o is that of the thread, with its name where it says
+  -- x is the thread of the record at o: its name is where that record says
   pub record IsThreadName (F : List ℕ) (o : ℕ) (x : ThreadName Z) : Type 0 where
     pub fields : thread_name_at F o ≡ thread_name_record x (thread_name_at F o).rva_of_thread_name
     pub name : IsName F (thread_name_at F o).rva_of_thread_name x.name

@@ -20,7 +20,7 @@ module _ {Z : Type 0} where
     module_name_rva = name;
   }
 
-  -- the record at o is that of the module, with its name where it says
+  -- x is the unloaded module of the record at o: its name is where that record says
   pub record IsUnloaded (F : List ℕ) (o : ℕ) (x : Unloaded Z) : Type 0 where
     pub fields : unloaded_at F o ≡ unloaded_record x (unloaded_at F o).module_name_rva
     pub name : IsName F (unloaded_at F o).module_name_rva x.name

@@ -1,9 +1,7 @@
 //! A dump, and its streams.
-ghost use Rattle.mdmp_dump.specs.Fits.{Fits, StreamFits};
 
 use crate::bytes::Bytes;
 use crate::exception::Exception;
-use crate::fits::{Fitting, all_fit};
 use crate::memory::MemoryRange;
 use crate::memory64::Memory64Range;
 use crate::module::Module;
@@ -95,32 +93,4 @@ pub struct Dump<A: Allocator> {
     pub flags: u64,
     /// The streams, in the order of the directory.
     pub streams: Records<Stream<A>, A>,
-}
-
-impl<A: Allocator> Fitting for Stream<A> {
-    ghost Fit = { StreamFits };
-
-    fn fits(&self) {
-        by_records!(
-            self, _kind,
-            list records => all_fit(records),
-            single record => record.fits(),
-            Stream::Unused => {},
-            Stream::Raw(stream_type, _) => {
-                let _stream_type = *stream_type;
-            },
-        )
-    }
-}
-
-impl<A: Allocator> Fitting for Dump<A> {
-    ghost Fit = { Fits };
-
-    fn fits(&self) {
-        let _version_high = self.version_high;
-        let _checksum = self.checksum;
-        let _time = self.time;
-        let _flags = self.flags;
-        all_fit(self.streams.as_slice());
-    }
 }

@@ -1,10 +1,8 @@
 //! The exception of a dump.
 //! Made by bindings/generate from bindings/kinds.toml.
-ghost use Rattle.std.specs.Prelude.{◌≡◌, ◌<◌, ◌^◌, ℕ, length, slice_index};
 ghost use Rattle.mdmp_lister.specs.declared.kind.StreamKind.TheVariants as kinds;
-ghost use Rattle.mdmp_dump.specs.Exception.{ExceptionFits, IsException, exception_seen};
+ghost use Rattle.mdmp_dump.specs.Exception.{IsException, exception_seen};
 
-use crate::fits::Fitting;
 use crate::given::{Given, bytes_of, nowhere, size_of};
 use crate::part::Part;
 use crate::record_parts::{RecordParts, take_part};
@@ -34,32 +32,6 @@ pub struct Exception<A: Allocator> {
     pub exception_information: [u64; 15],
     /// The registers of its thread, its `ThreadContext`.
     pub context: Part<A>,
-}
-
-/// Each value has 64 bits.
-fn values_fit(values: &[u64])
-    ensures { (i : ℕ) → slice_index values.now i < 2 ^ 64 }
-{}
-
-/// An array has as many values as its type says.
-fn values_are_15(values: &[u64; 15])
-    ensures { length values.now ≡ 15 }
-{}
-
-impl<A: Allocator> Fitting for Exception<A> {
-    ghost Fit = { ExceptionFits };
-
-    fn fits(&self) {
-        self.thread_id.fits();
-        self.exception_code.fits();
-        self.exception_flags.fits();
-        self.exception_record.fits();
-        self.exception_address.fits();
-        self.number_parameters.fits();
-        values_fit(&self.exception_information);
-        values_are_15(&self.exception_information);
-        self.context.fits();
-    }
 }
 
 impl<A: Allocator + Copy> Row<A> for Exception<A> {

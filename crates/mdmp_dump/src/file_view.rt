@@ -90,10 +90,7 @@ impl<S: Store + Drop, A: Allocator + Copy> FileView<S, A> {
         ensures refused { IfErr result (λ refused. RefusesView limits choice source refused.fault) }
         ensures handed_back { IfErr result (λ refused. HandsSourceBack limits choice source refused.fault refused.source) }
     {
-        let mut walk = match EntryWalk::open(alloc, source, limits, choice) {
-            Ok(walk) => walk,
-            Err(refused) => return Err(refused),
-        };
+        let mut walk = EntryWalk::open(alloc, source, limits, choice)?;
         // The proof learns here that the size is that of the content, that this is one of bytes, and that
         // the number of entries has 32 bits.
         let _size = walk.size();

@@ -1,9 +1,8 @@
 //! A range of memory of a dump.
 //! Made by bindings/generate from bindings/kinds.toml.
 ghost use Rattle.mdmp_lister.specs.declared.kind.StreamKind.TheVariants as kinds;
-ghost use Rattle.mdmp_dump.specs.Memory.{IsMemory, MemoryFits, memory_seen};
+ghost use Rattle.mdmp_dump.specs.Memory.{IsMemory, memory_seen};
 
-use crate::fits::Fitting;
 use crate::given::{Given, bytes_of, nowhere, size_of};
 use crate::part::Part;
 use crate::record_parts::{RecordParts, take_part};
@@ -20,15 +19,6 @@ pub struct MemoryRange<A: Allocator> {
     pub start: u64,
     /// Its bytes, `Memory`.
     pub bytes: Part<A>,
-}
-
-impl<A: Allocator> Fitting for MemoryRange<A> {
-    ghost Fit = { MemoryFits };
-
-    fn fits(&self) {
-        self.start.fits();
-        self.bytes.fits();
-    }
 }
 
 impl<A: Allocator + Copy> Row<A> for MemoryRange<A> {

@@ -1,9 +1,8 @@
 //! A range of a 64-bit memory list of a dump.
 ghost use Rattle.mdmp_lister.specs.declared.kind.StreamKind.TheVariants as kinds;
-ghost use Rattle.mdmp_dump.specs.Memory64.{IsMemory64, Memory64Fits, memory64_seen};
+ghost use Rattle.mdmp_dump.specs.Memory64.{IsMemory64, memory64_seen};
 
 use crate::bytes::Bytes;
-use crate::fits::Fitting;
 use crate::given::Given;
 use crate::part::Part;
 use crate::record_parts::{RecordParts, take_part};
@@ -20,14 +19,6 @@ pub struct Memory64Range<A: Allocator> {
     pub start: u64,
     /// Its bytes, `DataSize` of them.
     pub bytes: Bytes<A>,
-}
-
-impl<A: Allocator> Fitting for Memory64Range<A> {
-    ghost Fit = { Memory64Fits };
-
-    fn fits(&self) {
-        let _start = self.start;
-    }
 }
 
 impl<A: Allocator + Copy> Row<A> for Memory64Range<A> {

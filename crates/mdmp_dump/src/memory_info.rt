@@ -3,29 +3,14 @@
 ghost use Rattle.std.specs.Prelude.{◌≡◌};
 ghost use Rattle.mdmp_lister.specs.declared.kind.StreamKind.TheVariants as kinds;
 ghost use Rattle.mdmp_wire.specs.MemoryInfo.{memory_info_at};
-ghost use Rattle.mdmp_dump.specs.MemoryInfo.{MemoryInfoFits, memory_info_seen};
+ghost use Rattle.mdmp_dump.specs.MemoryInfo.{memory_info_seen};
 
-use crate::fits::Fitting;
 use crate::given::Given;
 use crate::record_parts::RecordParts;
 use crate::row::Row;
 use crate::view::{Fields, PartSize};
 use mdmp_wire::{AnyRecord, MemoryInfoRecord};
 use std::alloc::Allocator;
-
-impl Fitting for MemoryInfoRecord {
-    ghost Fit = { MemoryInfoFits };
-
-    fn fits(&self) {
-        self.base_address.fits();
-        self.allocation_base.fits();
-        self.allocation_protect.fits();
-        self.region_size.fits();
-        self.state.fits();
-        self.protect.fits();
-        self.memory_type.fits();
-    }
-}
 
 impl<A: Allocator + Copy> Row<A> for MemoryInfoRecord {
     ghost kind = { kinds.MemoryInfo };

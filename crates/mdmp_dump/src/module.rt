@@ -1,9 +1,8 @@
 //! A module of a dump.
 //! Made by bindings/generate from bindings/kinds.toml.
 ghost use Rattle.mdmp_lister.specs.declared.kind.StreamKind.TheVariants as kinds;
-ghost use Rattle.mdmp_dump.specs.Module.{IsModule, ModuleFits, VersionFits, module_seen};
+ghost use Rattle.mdmp_dump.specs.Module.{IsModule, module_seen};
 
-use crate::fits::{Fitting, name_fits};
 use crate::given::{Given, bytes_of, name_size, nowhere, size_of, unit_bytes};
 use crate::part::Part;
 use crate::record_parts::{RecordParts, take_part};
@@ -36,43 +35,6 @@ pub struct Module<A: Allocator> {
     pub reserved0: u64,
     /// `Reserved1`, which is kept.
     pub reserved1: u64,
-}
-
-impl Fitting for VersionInfo {
-    ghost Fit = { VersionFits };
-
-    fn fits(&self) {
-        self.signature.fits();
-        self.structure_version.fits();
-        self.file_version_ms.fits();
-        self.file_version_ls.fits();
-        self.product_version_ms.fits();
-        self.product_version_ls.fits();
-        self.file_flags_mask.fits();
-        self.file_flags.fits();
-        self.file_os.fits();
-        self.file_type.fits();
-        self.file_subtype.fits();
-        self.file_date_ms.fits();
-        self.file_date_ls.fits();
-    }
-}
-
-impl<A: Allocator> Fitting for Module<A> {
-    ghost Fit = { ModuleFits };
-
-    fn fits(&self) {
-        self.base_of_image.fits();
-        self.size_of_image.fits();
-        self.checksum.fits();
-        self.time_date_stamp.fits();
-        self.reserved0.fits();
-        self.reserved1.fits();
-        name_fits(&self.name);
-        self.version_info.fits();
-        self.codeview.fits();
-        self.misc.fits();
-    }
 }
 
 impl<A: Allocator + Copy> Row<A> for Module<A> {

@@ -30,6 +30,7 @@ ghost use Rattle.mdmp_dump.specs.Reading.{
   IsOfType,
   IsToldGoing,
   NoRowFirst,
+  ReadsRecords,
   Settles,
   TakesSteps,
   next_behind,
@@ -278,10 +279,7 @@ impl<S: Store + Drop, A: Allocator + Copy> Reader<S, A> {
         &mut self,
     ) -> Result<(Records<T, A>, Option<StreamItem>), ReadFault>
         requires { self.old.lister.stop ≡ None }
-        ensures fetches { Fetches result self.old.lister.source self.new.lister.source }
-        ensures keeps { KeepsStep [] result self.old self.new }
-        ensures reads { ReadsInTurn [] result (steps_left (λ r. steps_of self.old.lister.source.size r.1) result) self.old.lister self.new.lister }
-        ensures going { IfOk result (λ r. IsGoing self.old.lister r.1 self.new.lister) }
+        ensures step { ReadsRecords (λ r. r.1) result self.old self.new }
         ensures of_file { (file : List ℕ) (limit : ℕ) (x : Numbered) (xs : List Numbered) → self.old.lister.source.store.content ≡ Some file
             → self.old.lister.left ≡ Some (left_from file limit x 0 xs) → kind_of x.entry.stream_type ≡ Some T.kind → IsOfType self.old.lister x.entry.stream_type
             → IsEntryRead file limit xs (HasRecords file x.entry.location T.kind (T.IsAt file x.entry.location.rva)) (owed file self.old.left None self.old.lister.left) result self.new }
@@ -306,10 +304,7 @@ impl<S: Store + Drop, A: Allocator + Copy> Reader<S, A> {
     /// The one record of the current entry, and what stands behind it.
     pub(crate) fn single<T: Row<A>>(&mut self) -> Result<(Option<T>, Option<StreamItem>), ReadFault>
         requires { self.old.lister.stop ≡ None }
-        ensures fetches { Fetches result self.old.lister.source self.new.lister.source }
-        ensures keeps { KeepsStep [] result self.old self.new }
-        ensures reads { ReadsInTurn [] result (steps_left (λ r. steps_of self.old.lister.source.size r.1) result) self.old.lister self.new.lister }
-        ensures going { IfOk result (λ r. IsGoing self.old.lister r.1 self.new.lister) }
+        ensures step { ReadsRecords (λ r. r.1) result self.old self.new }
         ensures of_file { (file : List ℕ) (limit : ℕ) (x : Numbered) (xs : List Numbered) → self.old.lister.source.store.content ≡ Some file
             → self.old.lister.left ≡ Some (left_from file limit x 0 xs) → kind_of x.entry.stream_type ≡ Some T.kind → IsOfType self.old.lister x.entry.stream_type → HasOneRecord file x T.kind
             → IsEntryRead file limit xs (λ row. (one : T) × ((row ≡ Some one) × HasRecords file x.entry.location T.kind (T.IsAt file x.entry.location.rva) (one ∷ []))) (owed file self.old.left None self.old.lister.left) result self.new }

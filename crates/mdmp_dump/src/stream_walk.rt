@@ -83,29 +83,16 @@ fn walk_stream<S: Store + Drop, A: Allocator + Copy>(
     ensures fetches { Fetches result walk.old.source walk.new.source }
 {
     let entry = walk.entry(stream);
-    match keep_to_budget(spending, entry, 0) {
-        Ok(()) => {},
-        Err(fault) => return Err(fault),
-    }
-    let count = match walk.begin(stream) {
-        Ok(count) => count,
-        Err(fault) => return Err(fault),
-    };
-    match keep_to_budget(spending, entry, count) {
-        Ok(()) => {},
-        Err(fault) => return Err(fault),
-    }
+    keep_to_budget(spending, entry, 0)?;
+    let count = walk.begin(stream)?;
+    keep_to_budget(spending, entry, count)?;
     let mut room = 0;
     let mut asks = u128::from(raw_part(entry).size.size());
     for index in 0..count {
-        match walk.next_record(limit) {
-            Ok(found) => {
-                let fields = found.fields();
-                room = met_room(room, &fields);
-                asks += part_bytes(&fields);
-            },
-            Err(fault) => return Err(fault),
-        }
+        let found = walk.next_record(limit)?;
+        let fields = found.fields();
+        room = met_room(room, &fields);
+        asks += part_bytes(&fields);
     }
     Ok(Walked {
         count,
@@ -168,15 +155,11 @@ pub(crate) fn walk_all<S: Store + Drop, A: Allocator + Copy>(
             budget,
             spent: opened + costs,
         };
-        match walk_stream(walk, stream, limit, spending) {
-            Ok(walked) => {
-                counts.push_reserved(walked.count);
-                rooms.push_reserved(walked.room);
-                costs += u128::from(walked.cost);
-                asks = asks.saturating_add(walked.asks);
-            }
-            Err(fault) => return Err(fault),
-        }
+        let walked = walk_stream(walk, stream, limit, spending)?;
+        counts.push_reserved(walked.count);
+        rooms.push_reserved(walked.room);
+        costs += u128::from(walked.cost);
+        asks = asks.saturating_add(walked.asks);
     }
     Ok(Kept {
         counts,

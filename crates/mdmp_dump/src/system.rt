@@ -1,10 +1,8 @@
 //! The system of a dump.
 //! Made by bindings/generate from bindings/kinds.toml.
-ghost use Rattle.std.specs.Prelude.{◌≡◌, length};
 ghost use Rattle.mdmp_lister.specs.declared.kind.StreamKind.TheVariants as kinds;
-ghost use Rattle.mdmp_dump.specs.System.{IsSystem, SystemFits, system_seen};
+ghost use Rattle.mdmp_dump.specs.System.{IsSystem, system_seen};
 
-use crate::fits::{Fitting, name_fits};
 use crate::given::{Given, name_size, unit_bytes};
 use crate::record_parts::RecordParts;
 use crate::row::Row;
@@ -42,31 +40,6 @@ pub struct System<A: Allocator> {
     pub reserved2: u16,
     /// `Cpu`, whose 24 bytes are kept as they are.
     pub cpu: [u8; 24],
-}
-
-/// An array has as many bytes as its type says.
-fn bytes_are_24(bytes: &[u8; 24])
-    ensures { length bytes.now ≡ 24 }
-{}
-
-impl<A: Allocator> Fitting for System<A> {
-    ghost Fit = { SystemFits };
-
-    fn fits(&self) {
-        self.processor_architecture.fits();
-        self.processor_level.fits();
-        self.processor_revision.fits();
-        self.number_of_processors.fits();
-        self.product_type.fits();
-        self.major_version.fits();
-        self.minor_version.fits();
-        self.build_number.fits();
-        self.platform_id.fits();
-        self.suite_mask.fits();
-        self.reserved2.fits();
-        bytes_are_24(&self.cpu);
-        name_fits(&self.name);
-    }
 }
 
 impl<A: Allocator + Copy> Row<A> for System<A> {

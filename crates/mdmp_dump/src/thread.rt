@@ -1,9 +1,8 @@
 //! A thread of a dump.
 //! Made by bindings/generate from bindings/kinds.toml.
 ghost use Rattle.mdmp_lister.specs.declared.kind.StreamKind.TheVariants as kinds;
-ghost use Rattle.mdmp_dump.specs.Thread.{IsThread, ThreadFits, thread_seen};
+ghost use Rattle.mdmp_dump.specs.Thread.{IsThread, thread_seen};
 
-use crate::fits::Fitting;
 use crate::given::{Given, bytes_of, nowhere, size_of};
 use crate::part::Part;
 use crate::record_parts::{RecordParts, take_part};
@@ -32,21 +31,6 @@ pub struct Thread<A: Allocator> {
     pub stack: Part<A>,
     /// The registers, its `ThreadContext`.
     pub context: Part<A>,
-}
-
-impl<A: Allocator> Fitting for Thread<A> {
-    ghost Fit = { ThreadFits };
-
-    fn fits(&self) {
-        self.thread_id.fits();
-        self.suspend_count.fits();
-        self.priority_class.fits();
-        self.priority.fits();
-        self.teb.fits();
-        self.stack_start.fits();
-        self.stack.fits();
-        self.context.fits();
-    }
 }
 
 impl<A: Allocator + Copy> Row<A> for Thread<A> {

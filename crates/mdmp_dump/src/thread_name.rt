@@ -1,9 +1,8 @@
 //! The name of a thread of a dump.
 //! Made by bindings/generate from bindings/kinds.toml.
 ghost use Rattle.mdmp_lister.specs.declared.kind.StreamKind.TheVariants as kinds;
-ghost use Rattle.mdmp_dump.specs.ThreadName.{IsThreadName, ThreadNameFits, thread_name_seen};
+ghost use Rattle.mdmp_dump.specs.ThreadName.{IsThreadName, thread_name_seen};
 
-use crate::fits::{Fitting, name_fits};
 use crate::given::{Given, name_size, unit_bytes};
 use crate::record_parts::RecordParts;
 use crate::row::Row;
@@ -19,15 +18,6 @@ pub struct ThreadName<A: Allocator> {
     pub thread_id: u32,
     /// The name at its `RvaOfThreadName`; none where that is 0.
     pub name: Option<Units<A>>,
-}
-
-impl<A: Allocator> Fitting for ThreadName<A> {
-    ghost Fit = { ThreadNameFits };
-
-    fn fits(&self) {
-        self.thread_id.fits();
-        name_fits(&self.name);
-    }
 }
 
 impl<A: Allocator + Copy> Row<A> for ThreadName<A> {

@@ -1,9 +1,8 @@
 //! An unloaded module of a dump.
 //! Made by bindings/generate from bindings/kinds.toml.
 ghost use Rattle.mdmp_lister.specs.declared.kind.StreamKind.TheVariants as kinds;
-ghost use Rattle.mdmp_dump.specs.Unloaded.{IsUnloaded, UnloadedFits, unloaded_seen};
+ghost use Rattle.mdmp_dump.specs.Unloaded.{IsUnloaded, unloaded_seen};
 
-use crate::fits::{Fitting, name_fits};
 use crate::given::{Given, name_size, unit_bytes};
 use crate::record_parts::RecordParts;
 use crate::row::Row;
@@ -25,18 +24,6 @@ pub struct Unloaded<A: Allocator> {
     pub time_date_stamp: u32,
     /// The name at its `ModuleNameRva`; none where that is 0.
     pub name: Option<Units<A>>,
-}
-
-impl<A: Allocator> Fitting for Unloaded<A> {
-    ghost Fit = { UnloadedFits };
-
-    fn fits(&self) {
-        self.base_of_image.fits();
-        self.size_of_image.fits();
-        self.checksum.fits();
-        self.time_date_stamp.fits();
-        name_fits(&self.name);
-    }
 }
 
 impl<A: Allocator + Copy> Row<A> for Unloaded<A> {

@@ -411,7 +411,7 @@ module _ (limits : Limits) (content : Option (List ℕ)) where
   memory_opened (opening.MemoryLimit held) limited = limited
   memory_opened (opening.Source f) limited = tt
   memory_opened (opening.Budget offset size) limited = tt
-  memory_opened opening.Memory limited = tt
+  memory_opened opening.Memory limited = limited
   memory_opened fault limited = tt
 
   memory_listed : (kind : FaultKind) (fault : ListFault) → HoldsWithin limits content → TellsCopyMemory limits content (Err (told_by kind fault))
@@ -423,7 +423,6 @@ module _ (limits : Limits) (content : Option (List ℕ)) where
   memory_refused (reads.Opening fault) limited = memory_opened fault limited
   memory_refused (reads.List fault) limited = memory_listed fault.kind fault limited
   memory_refused (reads.PartsTooLarge e k) limited = limited
-  memory_refused reads.Memory limited = tt
   memory_refused (reads.Source fault) limited = tt
   memory_refused fault limited = limited
 

@@ -15,6 +15,7 @@ use Rattle.mdmp_lister.specs.declared.limits.Limits.{Limits}
 use Rattle.mdmp_lister.specs.declared.fault.FaultKind.{FaultKind}
 use Rattle.mdmp_lister.specs.declared.fault.FaultKind.TheVariants as kinds
 use Rattle.mdmp_lister.specs.declared.fault.ListFault.{ListFault}
+use Rattle.mdmp_lister.specs.Calls.{IsOutOfMemory}
 use Rattle.mdmp_lister.specs.Lister.{IsRefusedIn, IsSameLister, ListerState, ReadsAside, room_held, standpoint_in}
 use Rattle.mdmp_lister.specs.Meter.{IsUnmade, IsRefusedFetch}
 use Rattle.mdmp_lister.specs.NextFetch.{TellsNextOpening, TellsSomeFetch}
@@ -268,8 +269,9 @@ raised_small count n small = omega arith
 pub memory_opening : (T : Type 0) (limits : Limits) (choice : Choice) (beside : ℕ) (old : SourceState) (fault : OpenFault) (new : SourceState) → old.size < 2 ^ 64 → beside < 2 ^ 64
     → TellsMemory (leaving beside limits) old fault new
     → ((file : List ℕ) → old.store.content ≡ Some file → IsRefusalWithin (leaving beside limits) file choice fault)
-    → HasMemoryCause {T = T} limits choice beside old (Err (opening_beside beside fault))
-memory_opening T limits choice beside old (opening.MemoryLimit held) new size few tells within =
+    → (fault ≡ opening.Memory → IsOutOfMemory (leaving beside limits) choice old new)
+    → HasMemoryCause {T = T} limits choice beside old (Err (opening_beside beside fault)) new
+memory_opening T limits choice beside old (opening.MemoryLimit held) new size few tells within want =
     let of = tells.1.1 in
     let bound : held ≡ limits.window + 12 * of.entries + 24 * tells.0 + limits.name = of.held_is in
     let small : held + beside < 2 ^ 128 = omega (arith, bound, size, few, of.inside, tells.1.0, limits.window_most, limits.name_most) in
@@ -286,10 +288,10 @@ memory_opening T limits choice beside old (opening.MemoryLimit held) new size fe
       past : (memory : Option ℕ) → is_within (option_map (λ most. most - beside) memory) held ≡ false → is_within memory (raised held beside) ≡ false
       past None over = over
       past (Some most) over = grind (arith, over)
-memory_opening T limits choice beside old (opening.Source fault) new size few tells within = tt
-memory_opening T limits choice beside old (opening.Budget offset len) new size few tells within = tt
-memory_opening T limits choice beside old opening.Memory new size few tells within = tt
-memory_opening T limits choice beside old fault new size few tells within = within
+memory_opening T limits choice beside old (opening.Source fault) new size few tells within want = tt
+memory_opening T limits choice beside old (opening.Budget offset len) new size few tells within want = tt
+memory_opening T limits choice beside old opening.Memory new size few tells within want = want refl
+memory_opening T limits choice beside old fault new size few tells within want = within
 
 -- what a lister has room for, and what is held beside it
 pub memory_kept : (memory : Option ℕ) (beside held : ℕ) → 0 < held → is_within (option_map (λ most. most - beside) memory) held ≡ true → is_within memory (held + beside) ≡ true

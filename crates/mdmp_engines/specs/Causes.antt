@@ -8,6 +8,7 @@ use Rattle.mdmp_lister.specs.declared.fault.OpenFault.TheVariants as opening
 use Rattle.mdmp_lister.specs.declared.fault.FaultKind.TheVariants as kind
 use Rattle.mdmp_lister.specs.declared.fault.ListFault.{ListFault}
 use Rattle.mdmp_lister.specs.declared.limits.Limits.{Limits}
+use Rattle.mdmp_lister.specs.Calls.{IsOutOfMemory}
 use Rattle.mdmp_lister.specs.Lister.{ListerState, standpoint_in}
 use Rattle.mdmp_lister.specs.declared.choice.Choice.{Choice}
 use Rattle.mdmp_lister.specs.Format.Bounds.{held_bound}
@@ -20,7 +21,7 @@ use Rattle.mdmp_lister.specs.Following.{FitsFile}
 use Rattle.mdmp_summary.specs.InEntry.{IsInChosen, StandsInChosen}
 use Rattle.mdmp_dump.specs.Reading.{IsLastTold, MayBeTold}
 use Rattle.mdmp_engines.specs.declared.fault.ToolFault.{ToolFault}
-use Rattle.mdmp_engines.specs.declared.fault.ToolFault.TheVariants.{Opening, List as BadList, Reading, Layout, Source, Budget, MemoryLimit, AsideLimit, Out, NotCopied}
+use Rattle.mdmp_engines.specs.declared.fault.ToolFault.TheVariants.{Opening, List as BadList, Reading, Layout, Source, Budget, Memory, MemoryLimit, AsideLimit, Out, NotCopied}
 
 -- all bytes that were asked for were obtained
 abbrev pub IsNoSourceFault : {T : Type 0} → Result T ToolFault → Type 0
@@ -93,12 +94,13 @@ pub record IsOverMemoryLimit (limits : Limits) (choice : Choice) (beside : ℕ) 
   pub inside : 12 * entries ≤ old.size
   pub of_file : (file : List ℕ) → old.store.content ≡ Some file → opening_fault_within (leaving beside limits) file choice ≡ Some (opening.MemoryLimit listed)
 
--- memory is refused by its limit only then; a known file that is refused for what is in it, is refused for the first reason within
--- the limits
-abbrev pub HasMemoryCause : {T : Type 0} → Limits → Choice → ℕ → SourceState → Result T ToolFault → Type 0
-HasMemoryCause limits choice beside old (Err (MemoryLimit held)) = IsOverMemoryLimit limits choice beside old held
-HasMemoryCause limits choice beside old (Err (Opening fault)) = (file : List ℕ) → old.store.content ≡ Some file → opening_fault_within (leaving beside limits) file choice ≡ Some fault
-HasMemoryCause limits choice beside old answer = Unit {0}
+-- the limit of memory is reported only if the file needs more, out of memory only if the limit allows what was asked for. A known file
+-- is refused for its first error within the limits.
+abbrev pub HasMemoryCause : {T : Type 0} → Limits → Choice → ℕ → SourceState → Result T ToolFault → SourceState → Type 0
+HasMemoryCause limits choice beside old (Err (MemoryLimit held)) new = IsOverMemoryLimit limits choice beside old held
+HasMemoryCause limits choice beside old (Err Memory) new = IsOutOfMemory (leaving beside limits) choice old new
+HasMemoryCause limits choice beside old (Err (Opening fault)) new = (file : List ℕ) → old.store.content ≡ Some file → opening_fault_within (leaving beside limits) file choice ≡ Some fault
+HasMemoryCause limits choice beside old answer new = Unit {0}
 
 -- which is so only if there is one
 abbrev pub MayReachMemory : {T : Type 0} → Limits → Result T ToolFault → Type 0
@@ -126,6 +128,12 @@ pub record KeepsAside {T : Type 0} (aside : Option ℕ) (answer : Result T ToolF
 abbrev pub MayReachAside : {T : Type 0} → Option ℕ → Limits → ℕ → Result T ToolFault → Type 0
 MayReachAside aside limits size (Err (AsideLimit offset len)) = (aside ≡ None → ⊥) × (IsInside offset len size × (len ≤ 24 + limits.name))
 MayReachAside aside limits size answer = Unit {0}
+
+-- the limits of a command that drops its source: each is reported only as these say. `most` is the limit on CodeView records.
+pub record MayReachLimits {T : Type 0} (most : Option ℕ) (limits : Limits) (size : ℕ) (answer : Result T ToolFault) : Type 0 where
+  pub budget : MayReachBudget limits size answer
+  pub memory : MayReachMemory limits answer
+  pub aside : MayReachAside most limits size answer
 
 -- the output is at fault only where it refused
 abbrev pub HasOutCause : {T : Type 0} → OutState → Result T ToolFault → OutState → Type 0

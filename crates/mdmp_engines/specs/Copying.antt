@@ -182,11 +182,12 @@ pub record TellsCopyBudget (Z : Type 0) (types : List ℕ) (budget : Option ℕ)
   pub of_file : (file : List ℕ) → content ≡ Some file → IsWithinCopy budget (copy_bound Z file (Types types)) (opening_bound file (Types types) + 16 * entry_count file) answer
   pub place : (file : List ℕ) → content ≡ Some file → TellsPlace budget window file types answer
 
--- the limit of memory is told only where a copy would hold more; a copy that was begun, or refused for what stands behind the
--- directory of a known file, is within it
+-- the limit of memory is reported only if a copy would hold more. If the content is known, a copy is within it if it began, ran out of
+-- memory, or met an error after the directory.
 abbrev pub TellsCopyMemory : Limits → Option (List ℕ) → Result ℕ ToolFault → Type 0
 TellsCopyMemory limits content (Err (tool.MemoryLimit held)) = IsLimited limits content (reads.Opening (opening.MemoryLimit held))
 TellsCopyMemory limits content (Ok size) = HoldsWithin limits content
+TellsCopyMemory limits content (Err tool.Memory) = HoldsWithin limits content
 TellsCopyMemory limits content (Err tool.Out) = HoldsWithin limits content
 TellsCopyMemory limits content (Err (tool.Layout fault)) = HoldsWithin limits content
 TellsCopyMemory limits content (Err (tool.CopyBudget needed)) = HoldsWithin limits content

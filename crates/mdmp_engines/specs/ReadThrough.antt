@@ -170,7 +170,7 @@ TellsRefusal held fault answer = (answer ≡ Err (opening_beside held fault)) �
 -- has asked for no entry, and over a known file none was asked for that the file does not have
 pub data IsReadThrough {T : Type 0} (access : Access) (old : SourceState) (answer : Result T ToolFault) (new : SourceState) : Type 0 where
   listed : HasListed access old answer new → IsReadThrough access old answer new
-  refused : (fault : OpenFault) → IsEarly answer → HasOpeningBudget access.choice access.limits old answer new → HasMemoryCause access.limits access.choice access.held old answer
+  refused : (fault : OpenFault) → IsEarly answer → HasOpeningBudget access.choice access.limits old answer new → HasMemoryCause access.limits access.choice access.held old answer new
       → IsHandedBack access.choice old fault new → TellsRefusal access.held fault answer → IsReadThrough access old answer new
 
 -- ---- where the source is gone

@@ -1,7 +1,7 @@
 //! The command `check`.
 ghost use Rattle.std.specs.Prelude.{◌≡◌, ℕ, List, None, Some};
 ghost use Rattle.mdmp_engines.specs.CheckRuns.{Checks};
-ghost use Rattle.mdmp_engines.specs.Causes.{MayReachAside, MayReachBudget, MayReachMemory};
+ghost use Rattle.mdmp_engines.specs.Causes.{MayReachLimits};
 ghost use Rattle.mdmp_engines.specs.Dropping.{DropsStore};
 ghost use Rattle.mdmp_engines.specs.Engines.{ReadsSource, Tells, directly, past_faults};
 ghost use Rattle.mdmp_engines.specs.ReadThrough.{IsReadThrough, check_access};
@@ -32,9 +32,7 @@ where
     Source<S>: LetGo,
     ensures checks { (file : List ℕ) → (S.state store).content ≡ Some file → Checks form file limits.name (O.state out.old) result (O.state out.new) }
     ensures tells { Tells directly past_faults (S.state store) (S.state store).size (O.state out.old) result (O.state out.new) }
-    ensures budget { MayReachBudget limits (S.state store).size result }
-    ensures memory { MayReachMemory limits result }
-    ensures aside { MayReachAside None limits (S.state store).size result }
+    ensures limits { MayReachLimits None limits (S.state store).size result }
     ensures read { DropsStore ⟦<Source<S> as LetGo>⟧.may_go (check_access limits) (S.state store) result }
 {
     let rows = EntryRows;

@@ -170,10 +170,7 @@ fn open_copy<S: Store + Drop, A: Allocator + Copy>(
     ensures handed_back { IfErr result (λ refused. HandsSourceBack limits (Types types) source refused.fault refused.source) }
 {
     let choice = Choice::Types(types);
-    let view = match FileView::open_source(alloc, source, limits, choice) {
-        Ok(view) => view,
-        Err(refused) => return Err(refused),
-    };
+    let view = FileView::open_source(alloc, source, limits, choice)?;
     let Ok(buffer) = vec![in alloc; 0; limits.window as usize] else {
         return Err(ViewRefused {
             fault: ReadFault::Memory,

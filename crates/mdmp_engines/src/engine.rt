@@ -2,7 +2,7 @@
 ghost use Rattle.std.specs.Prelude.{◌≡◌, ◌<◌, ℕ, List, [], Some, Err};
 ghost use Rattle.mdmp_print.specs.Blocks.{MovesFront};
 ghost use Rattle.mdmp_lister.specs.Format.Refusal.{opening_fault};
-ghost use Rattle.mdmp_engines.specs.Causes.{MayReachAside, MayReachBudget, MayReachMemory};
+ghost use Rattle.mdmp_engines.specs.Causes.{MayReachLimits};
 ghost use Rattle.mdmp_engines.specs.Telling.{opening_beside};
 ghost use Rattle.mdmp_engines.specs.Dropping.{DropsStore};
 ghost use Rattle.mdmp_engines.specs.Engines.{EndsFlushed, IsFlushed, ReadsSource, Runs, RunsThrough, Tells, directly, in_blocks, unless_refused};
@@ -101,9 +101,7 @@ where
         → Runs file E.choice (E.Ends engine file limits.name) E.pace (unless_refused (opening_fault file E.choice) (E.text engine file limits.name))
         (O.state out.old) result (O.state out.new) }
     ensures tells { Tells directly E.pace (S.state store) (S.state store).size (O.state out.old) result (O.state out.new) }
-    ensures budget { MayReachBudget limits (S.state store).size result }
-    ensures memory { MayReachMemory limits result }
-    ensures aside { MayReachAside (E.aside engine) limits (S.state store).size result }
+    ensures limits { MayReachLimits (E.aside engine) limits (S.state store).size result }
     ensures read { DropsStore ⟦<Source<S> as LetGo>⟧.may_go (record { limits = limits; choice = E.choice; pace = E.pace; held = E.held engine; aside = E.aside engine; beside = E.reads engine }) (S.state store) result }
 {
     let Outcome { answer, source } = run_source(engine, alloc, Source::new(store), limits, out);

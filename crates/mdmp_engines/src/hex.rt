@@ -3,7 +3,7 @@ ghost use Rattle.std.specs.Prelude.{◌≡◌, ◌≤◌, ◌<◌, ◌+◌, ℕ,
 ghost use Rattle.mdmp_map.specs.Ranges.{address_end};
 ghost use Rattle.mdmp_lister.specs.Format.Listing.{Run};
 ghost use Rattle.mdmp_lister.specs.Requested.{OnlyReadsAside};
-ghost use Rattle.mdmp_engines.specs.Causes.{EndsByBudget, IsWithinBudget, KeepsAside, MayReachAside, MayReachBudget, MayReachMemory};
+ghost use Rattle.mdmp_engines.specs.Causes.{EndsByBudget, IsWithinBudget, KeepsAside, MayReachLimits};
 ghost use Rattle.mdmp_engines.specs.Dropping.{DropsStore};
 ghost use Rattle.mdmp_engines.specs.Engines.{Leaves, ReadsSource, Tells, at_the_end, directly};
 ghost use Rattle.mdmp_engines.specs.ReadThrough.{HasRequested, IsSameRun, IsReadThrough, hex_access};
@@ -39,9 +39,7 @@ where
     requires limited { length ≤ length_limit }
     ensures hexes { (file : List ℕ) → (S.state store).content ≡ Some file → Hexes file limits.name address length (O.state out.old) result (O.state out.new) }
     ensures tells { Tells directly at_the_end (S.state store) (S.state store).size (O.state out.old) result (O.state out.new) }
-    ensures budget { MayReachBudget limits (S.state store).size result }
-    ensures memory { MayReachMemory limits result }
-    ensures aside { MayReachAside None limits (S.state store).size result }
+    ensures limits { MayReachLimits None limits (S.state store).size result }
     ensures read { DropsStore ⟦<Source<S> as LetGo>⟧.may_go (hex_access length limits) (S.state store) result }
 {
     let engine = HexEngine {

@@ -4,7 +4,7 @@ ghost use Rattle.mdmp_source.specs.Range.{IsInside};
 ghost use Rattle.mdmp_lister.specs.Format.Listing.{Run};
 ghost use Rattle.mdmp_lister.specs.Memory.{is_within};
 ghost use Rattle.mdmp_lister.specs.Requested.{OnlyReadsAside};
-ghost use Rattle.mdmp_engines.specs.Causes.{EndsByBudget, IsWithinBudget, KeepsAside, MayReachAside, MayReachBudget, MayReachMemory, symbols_cost};
+ghost use Rattle.mdmp_engines.specs.Causes.{EndsByBudget, IsWithinBudget, KeepsAside, MayReachLimits, symbols_cost};
 ghost use Rattle.mdmp_engines.specs.Dropping.{DropsStore};
 ghost use Rattle.mdmp_engines.specs.Engines.{Leaves, ReadsSource, Tells, directly, up_to_a_fault};
 ghost use Rattle.mdmp_engines.specs.ReadThrough.{IsSameRun, IsReadThrough, WhereToldToFault, list_access};
@@ -41,9 +41,7 @@ where
     Source<S>: LetGo,
     ensures lists { (file : List ℕ) → (S.state store).content ≡ Some file → Lists form pdb file limits.name (O.state out.old) result (O.state out.new) }
     ensures tells { Tells directly up_to_a_fault (S.state store) (S.state store).size (O.state out.old) result (O.state out.new) }
-    ensures budget { MayReachBudget limits (S.state store).size result }
-    ensures memory { MayReachMemory limits result }
-    ensures aside { MayReachAside limits.aside limits (S.state store).size result }
+    ensures limits { MayReachLimits limits.aside limits (S.state store).size result }
     ensures read { DropsStore ⟦<Source<S> as LetGo>⟧.may_go (list_access pdb limits) (S.state store) result }
 {
     let aside = limits.aside;

@@ -84,10 +84,7 @@ pub(crate) fn print_threads<S: Store + Drop, A: Allocator + Copy, O: Printer>(
         count: 0,
         found: None,
     };
-    match show_threads(walker, &mut objects) {
-        Ok(()) => {}
-        Err(fault) => return Err(fault),
-    }
+    show_threads(walker, &mut objects)?;
     let found = objects.found;
     match print_summary_end(&summary.crash, &summary.system, found, out) {
         Ok(()) => Ok(()),

@@ -1,5 +1,5 @@
 //! The command `summary`.
-ghost use Rattle.std.specs.Prelude.{◌≡◌, ◌+◌, ◌*◌, ℕ, List, Some, None, false, IfErr, IfOk, MatchResult};
+ghost use Rattle.std.specs.Prelude.{◌≡◌, ◌+◌, ◌*◌, ℕ, List, Some, IfErr, IfOk, MatchResult};
 ghost use Rattle.mdmp_source.specs.Output.{Puts};
 ghost use Rattle.mdmp_source.specs.Store.{IsGood};
 ghost use Rattle.mdmp_summary_lines.specs.SummaryText.{summary_text};
@@ -119,10 +119,8 @@ fn print_told<S: Store + Drop, A: Allocator + Copy, O: Printer>(
     ensures quiet { IsQuietSummary result (O.state out.new ≡ O.state out.old) }
     ensures out_cause { HasOutCause (O.state out.old) result (O.state out.new) }
 {
-    match read_names(alloc, walker, summary, limit) {
-        Ok(names) => print_named(file, summary, &names, out),
-        Err(fault) => Err(fault),
-    }
+    let names = read_names(alloc, walker, summary, limit)?;
+    print_named(file, summary, &names, out)
 }
 
 /// Prints the lines of a summary with these names, and answers how many entries are bad.

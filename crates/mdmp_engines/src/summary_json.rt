@@ -104,10 +104,7 @@ fn print_object<S: Store + Drop, A: Allocator + Copy, O: Out>(
     ensures out_cause { HasOutCause blocks.old.inner result blocks.new.inner }
     ensures flushed { IsFlushed result blocks.new.pending }
 {
-    let names = match read_names(alloc, walker, summary, limit) {
-        Ok(names) => names,
-        Err(fault) => return Err(fault),
-    };
+    let names = read_names(alloc, walker, summary, limit)?;
     let room = symbols_room(walker, symbols);
     let Ok(buffer) = vec![in alloc; 0; room] else {
         return Err(ToolFault::Memory);
@@ -215,10 +212,7 @@ fn print_lists<S: Store + Drop, A: Allocator + Copy, O: Printer>(
     ensures reads { ReadsLists walker.old.list.limit walker.old.list.source.store.content result walker.old.list.counts.aside walker.new.list.counts.aside }
 {
     let mut buffer = buffer;
-    match print_modules(walker, &mut buffer, out) {
-        Ok(()) => {}
-        Err(fault) => return Err(fault),
-    }
+    print_modules(walker, &mut buffer, out)?;
     match print_threads_front(out) {
         Ok(()) => {}
         Err(OutFailed) => return Err(ToolFault::Out),

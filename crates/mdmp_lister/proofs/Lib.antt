@@ -39,6 +39,7 @@ pub mod NextWalks
 pub mod Numbers
 pub mod Offsets
 pub mod Openings
+pub mod OutOfMemory
 pub mod Owing
 pub mod Paying
 pub mod RangeRows

@@ -1,5 +1,6 @@
 -- What an opening asks its allocator for.
-use Rattle.std.specs.Prelude.{◌≡◌, ◌≤◌, ℕ, List, Option, Some, true}
+use Rattle.std.specs.Prelude.{◌≡◌, ◌≤◌, ◌⊎◌, ℕ, List, Option, None, Some, true}
+use Rattle.mdmp_source.specs.Source.{FetchesAtMost, SourceState}
 use Rattle.mdmp_lister.specs.declared.choice.Choice.{Choice}
 use Rattle.mdmp_lister.specs.declared.fault.OpenFault.{OpenFault}
 use Rattle.mdmp_lister.specs.declared.fault.OpenFault.TheVariants.{Memory}
@@ -8,7 +9,7 @@ use Rattle.mdmp_lister.specs.Format.Bounds.{held_bound}
 use Rattle.mdmp_lister.specs.Format.Listing.{entry_count}
 use Rattle.mdmp_lister.specs.Format.Numbers.{range_count}
 use Rattle.mdmp_lister.specs.Format.Refusal.{most_ranges}
-use Rattle.mdmp_lister.specs.Memory.{is_within}
+use Rattle.mdmp_lister.specs.Memory.{is_within, opening_fault_within}
 
 -- what is asked for: the directory of a file with so many entries, with the window and a name, or behind it the map of so many
 -- ranges
@@ -25,6 +26,14 @@ IsAllowed limits (ForMap entries ranges) = (ranges ≤ most_ranges) × (is_withi
 abbrev pub IsAskedOf : List ℕ → Choice → AskedRoom → Type 0
 IsAskedOf F choice (ForWalk entries) = entries ≡ entry_count F
 IsAskedOf F choice (ForMap entries ranges) = (entries ≡ entry_count F) × (ranges ≡ range_count F choice)
+
+-- memory ran out for lists that the limits allow. If the content is known, they are that file's lists, and either the header was read
+-- at most, or the file can be opened within the limits
+pub record IsOutOfMemory (limits : Limits) (choice : Choice) (old new : SourceState) : Type 0 where
+  pub asked : AskedRoom
+  pub allowed : IsAllowed limits asked
+  pub of_file : (file : List ℕ) → old.store.content ≡ Some file → IsAskedOf file choice asked
+  pub stage : FetchesAtMost 32 old new ⊎ ((file : List ℕ) → old.store.content ≡ Some file → opening_fault_within limits file choice ≡ None)
 
 module _ {A : Type 0} where
   -- the allocator refused what was asked for within the limits

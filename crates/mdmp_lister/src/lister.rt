@@ -126,10 +126,7 @@ impl<S: Store + Drop, A: Allocator + Copy> Lister<S, A> {
         ensures refused { IfErr result (λ refused. IsRefusedLister choice limits source refused.fault refused.source) }
         ensures lacks { IfErr result (λ refused. TellsLacking A.may_lack alloc limits choice source.store.content refused.fault) }
     {
-        let mut walk = match Walk::open(alloc, source, limits, choice) {
-            Ok(walk) => walk,
-            Err(refused) => return Err(refused),
-        };
+        let mut walk = Walk::open(alloc, source, limits, choice)?;
         let count = match walk.count_ranges() {
             Ok(count) => count,
             Err(fault) => return Err(refused(OpenFault::from(fault), walk.meter)),

@@ -81,14 +81,12 @@ pub(crate) fn read_item<S: Store, A: Allocator>(
             name: NameRead::None,
         }));
     };
-    match read_name(meter, buffer, rva) {
-        Ok(name) => Ok(HeldStep::Record(HeldRecord {
-            entry,
-            index,
-            kind,
-            offset,
-            name,
-        })),
-        Err(fault) => Err(fault),
-    }
+    let name = read_name(meter, buffer, rva)?;
+    Ok(HeldStep::Record(HeldRecord {
+        entry,
+        index,
+        kind,
+        offset,
+        name,
+    }))
 }

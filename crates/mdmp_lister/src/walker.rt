@@ -121,17 +121,13 @@ impl<S: Store + Drop, A: Allocator + Copy> Walker<S, A> {
         ensures refused { IfErr result (λ refused. IsRefusedWalker limits source refused.fault refused.source) }
         ensures lacks { IfErr result (λ refused. TellsListsLacking A.may_lack alloc limits choice source.store.content refused.fault) }
     {
-        match Walk::open(alloc, source, limits, choice) {
-            Ok(walk) => {
-                let mark = walk.meter.counts();
-                Ok(Walker {
-                    walk,
-                    position: Position::Within,
-                    mark,
-                })
-            }
-            Err(refused) => Err(refused),
-        }
+        let walk = Walk::open(alloc, source, limits, choice)?;
+        let mark = walk.meter.counts();
+        Ok(Walker {
+            walk,
+            position: Position::Within,
+            mark,
+        })
     }
 
     /// The header of the file.

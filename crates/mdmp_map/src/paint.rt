@@ -94,28 +94,6 @@ impl Paint {
         if self.misses(range) {
             return None;
         }
-        self.paint_near(range, from)
-    }
-
-    /// Whether the range begins behind the block, or ends before it: then it holds no place.
-    fn misses(&self, range: &Range) -> bool
-        ensures { IsTrue result → (place : ℕ) → place < self.now.count → is_held_at self.now range.now place ≡ false }
-    {
-        (range.start > self.last) | (self.first.saturating_sub(range.start) >= range.length)
-    }
-
-    /// Paints a range, as `paint` says.
-    fn paint_near(&mut self, range: &Range, from: usize) -> Option<PaintedRun>
-        requires placed { IsPlaced range.now }
-        requires from { from ≤ self.old.count }
-        ensures run { MatchOption result (IsPassed self.old range.now from self.old.count) (IsRun self.old range.now from) }
-        ensures painted { MatchOption result (self.new.painted ≡ self.old.painted) (λ run. Paints run.first run.end self.old self.new) }
-        ensures start { self.new.start ≡ self.old.start }
-        ensures count { self.new.count ≡ self.old.count }
-        ensures first { (seen : List Range) → IsPaintTo from seen range.now self.old → IfSome result (HoldsFirst self.old.start seen range.now) }
-        ensures goes_on { (seen : List Range) → IsPaintTo from seen range.now self.old
-            → MatchOption result (IsPaintOf (seen ++ range.now ∷ []) self.new) (λ run. IsPaintTo run.end seen range.now self.new) }
-    {
         let low = from.max(self.place_of(u128::from(range.start)));
         let high = self.place_of(range.end().min(ADDRESS_END));
         if low >= high {
@@ -133,6 +111,13 @@ impl Paint {
             first,
             end,
         })
+    }
+
+    /// Whether the range begins behind the block, or ends before it: then it holds no place.
+    fn misses(&self, range: &Range) -> bool
+        ensures { IsTrue result → (place : ℕ) → place < self.now.count → is_held_at self.now range.now place ≡ false }
+    {
+        (range.start > self.last) | (self.first.saturating_sub(range.start) >= range.length)
     }
 
     /// Whether each place is painted.

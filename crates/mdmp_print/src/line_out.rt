@@ -142,10 +142,8 @@ impl<'b, O: Out> Printer for LineOut<'b, O> {
         // What this output says beside any other.
         ensures fills { FillsPart self.old (T.text_from text.now place) (T.text_from text.now) result self.new }
     {
-        match self.reserve() {
-            Ok(()) => Ok(self.append_part(text, place)),
-            Err(failed) => Err(failed),
-        }
+        self.reserve()?;
+        Ok(self.append_part(text, place))
     }
 }
 

@@ -43,9 +43,7 @@ impl<O: Out> Printer for O {
     fn print_part<T: Parts>(&mut self, text: &T, place: usize) -> Result<usize, OutFailed> {
         let mut buffer = [0; LINE_ROOM];
         let end = text.write_part(place, &mut buffer, 0);
-        match write_all(self, &buffer[..end.len]) {
-            Ok(()) => Ok(end.next),
-            Err(failed) => Err(failed),
-        }
+        write_all(self, &buffer[..end.len])?;
+        Ok(end.next)
     }
 }

@@ -30,6 +30,7 @@ mod output;
 mod patchy_out;
 mod patchy_store;
 mod placed_file;
+mod proof_hints;
 mod range;
 mod source;
 mod store;

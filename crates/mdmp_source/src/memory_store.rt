@@ -3,6 +3,7 @@ ghost use Rattle.std.specs.Prelude.{◌≡◌, ◌-◌, length, take, min};
 ghost use Rattle.mdmp_source.specs.Range.{bytes_at};
 ghost use Rattle.mdmp_source.specs.Store.{AreBytes};
 
+use crate::proof_hints::know_bytes;
 use crate::store::{Store, StoreCounts, StoreFailed};
 
 /// A file in memory, which the store borrows. It never fails, and a call gives all bytes that it is asked for
@@ -49,15 +50,6 @@ impl Store for MemoryStore<'_> {
         let answer = Ok(copy_at(self.bytes, at, out));
         self.counts.count(&answer, at, out.len());
         answer
-    }
-}
-
-/// Looks at each byte of a slice, so that it is known of all that they are below 2^8, and does nothing.
-pub(crate) fn know_bytes(bytes: &[u8])
-    ensures { AreBytes bytes.now }
-{
-    for k in 0..bytes.len() {
-        let _byte = bytes[k];
     }
 }
 

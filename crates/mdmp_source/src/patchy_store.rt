@@ -3,7 +3,8 @@ ghost use Rattle.std.specs.Prelude.{◌<◌, length};
 ghost use Rattle.mdmp_source.specs.Patchy.{PatchyStoreState};
 ghost use Rattle.mdmp_source.specs.Store.{AreBytes};
 
-use crate::memory_store::{copy_at, know_bytes};
+use crate::memory_store::copy_at;
+use crate::proof_hints::know_bytes;
 use crate::store::{Store, StoreCounts, StoreFailed};
 use std::marker::Model;
 

@@ -53,10 +53,9 @@ fn check_runs<S: Store + Drop, A: Allocator + Copy, K: CheckRowSink>(
     // Each run but the last ends at the error of an entry.
     let runs = u64::from(lister.header().number_of_streams) + 1;
     'entries: for _ in 0..runs {
-        match check_run(lister, maker) {
-            Ok(true) => {}
-            Ok(false) => return Ok(()),
-            Err(fault) => return Err(fault),
+        let more = check_run(lister, maker)?;
+        if !more {
+            return Ok(());
         }
     }
     Ok(())

@@ -1,5 +1,5 @@
 //! The CodeView record of a module in a file.
-ghost use Rattle.std.specs.Prelude.{◌≡◌, ◌≤◌, ◌+◌, ℕ, List, Some, IfErr, IfOk, IsOk, length, min, take};
+ghost use Rattle.std.specs.Prelude.{◌≡◌, ◌+◌, ℕ, List, Some, IfErr, IfOk, IsOk, length, min, take};
 ghost use Rattle.mdmp_source.specs.Extent.{extent_of};
 ghost use Rattle.mdmp_source.specs.Range.{IsInside, bytes_at};
 ghost use Rattle.mdmp_source.specs.Source.{IsTold};
@@ -49,17 +49,13 @@ pub fn read_symbols<S: Store + Drop, A: Allocator + Copy>(
         Extent::Inside => {
             let mut head = [0; HEAD];
             let fetched = (at.size as usize).min(HEAD);
-            match walker.read_part(u64::from(at.rva), &mut head[..fetched]) {
-                Ok(()) => match read_rest(walker, at, &head[..fetched], buffer) {
-                    Ok(rest) => Ok(Some(SymbolsRead {
-                        head,
-                        rest,
-                        size: at.size,
-                    })),
-                    Err(fault) => Err(fault),
-                },
-                Err(fault) => Err(fault),
-            }
+            walker.read_part(u64::from(at.rva), &mut head[..fetched])?;
+            let rest = read_rest(walker, at, &head[..fetched], buffer)?;
+            Ok(Some(SymbolsRead {
+                head,
+                rest,
+                size: at.size,
+            }))
         }
     }
 }
@@ -92,8 +88,6 @@ fn read_rest<S: Store + Drop, A: Allocator + Copy>(
     if count == 0 {
         return Ok(0);
     }
-    match walker.read_part(u64::from(at.rva) + 24, &mut buffer[..count]) {
-        Ok(()) => Ok(count),
-        Err(fault) => Err(fault),
-    }
+    walker.read_part(u64::from(at.rva) + 24, &mut buffer[..count])?;
+    Ok(count)
 }

@@ -36,10 +36,8 @@ pub fn read_registers<S: Store + Drop, A: Allocator + Copy>(
         Extent::Inside => {
             let mut bytes = [0; CONTEXT_ROOM];
             let len = (at.size as usize).min(CONTEXT_ROOM);
-            match walker.read_part(u64::from(at.rva), &mut bytes[..len]) {
-                Ok(()) => Ok(registers_in(system.processor_architecture, &bytes[..len])),
-                Err(fault) => Err(fault),
-            }
+            walker.read_part(u64::from(at.rva), &mut bytes[..len])?;
+            Ok(registers_in(system.processor_architecture, &bytes[..len]))
         }
     }
 }

@@ -98,10 +98,8 @@ impl<'a, K: CheckRowSink> RowMaker<'a, K> {
         ensures entry { self.new.entry ≡ self.old.entry }
         ensures loses { HasTold result self.old.loses_parts (parts_told parts) self.new.loses_parts }
     {
-        match self.tell_part(parts.first) {
-            Ok(()) => self.tell_part(parts.second),
-            Err(Stopped) => Err(Stopped),
-        }
+        self.tell_part(parts.first)?;
+        self.tell_part(parts.second)
     }
 }
 

@@ -141,10 +141,8 @@ pub fn summarize_listing<S: Store + Drop, A: Allocator + Copy>(
     let Some(exception) = told.gathering.exceptions.crash(platform_in(&system)) else {
         return Ok(told.summary(header, None));
     };
-    match tell_crash(walker, system, exception) {
-        Ok(crash) => Ok(told.summary(header, Some(crash))),
-        Err(fault) => Err(fault),
-    }
+    let crash = tell_crash(walker, system, exception)?;
+    Ok(told.summary(header, Some(crash)))
 }
 
 /// Opens a file and makes its summary. Memory is taken while the file is opened: the window, the directory

@@ -54,13 +54,9 @@ fn pass_unwanted<S: Store + Drop, A: Allocator + Copy, V: Visitor>(
     if kind.has_names() || visitor.wants(kind) {
         return Ok(());
     }
-    match walker.records() {
-        Ok(_) => {
-            walker.skip_entry();
-            Ok(())
-        }
-        Err(fault) => Err(fault),
-    }
+    walker.records()?;
+    walker.skip_entry();
+    Ok(())
 }
 
 /// Shows a visitor the items that are left, up to the end or the first error. Items that it has no use for may be passed

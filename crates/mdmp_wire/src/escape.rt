@@ -2,7 +2,7 @@
 ghost use Rattle.std.specs.Prelude.{◌≡◌, ◌<◌, ◌≤◌, ◌+◌, ◌-◌, ◌*◌, ◌++◌, length, take, drop, codes};
 ghost use Rattle.mdmp_source.specs.Output.{Puts};
 ghost use Rattle.mdmp_wire.specs.Digits.{hex};
-ghost use Rattle.mdmp_wire.specs.Escape.{escaped, escaped_unit, is_plain};
+ghost use Rattle.mdmp_wire.specs.Escape.{PutsUnits, escaped, escaped_unit, is_plain};
 ghost use Rattle.mdmp_wire.specs.Units.{units_in, units_of};
 
 use crate::digits::hex_digits;
@@ -58,9 +58,7 @@ pub(crate) fn escape_units(
 ) -> usize
     requires within { start ≤ end × end ≤ length (units_of bytes.now) }
     requires room { len + 6 * (end - start) ≤ length text.old }
-    ensures text { take result text.new ≡ take len text.old ++ escaped (take (end - start) (drop start (units_of bytes.now))) }
-    ensures within { result ≤ len + 6 * (end - start) }
-    ensures same { length text.new ≡ length text.old }
+    ensures { PutsUnits (units_of bytes.now) start end len text.old result text.new }
 {
     let mut len = len;
     let mut index = start;
@@ -80,9 +78,7 @@ pub(crate) fn escape_units(
 fn escape_last(text: &mut [u8], len: usize, bytes: &[u8], start: usize, end: usize) -> usize
     requires within { start ≤ end × end ≤ length (units_of bytes.now) }
     requires room { len + 6 * (end - start) ≤ length text.old }
-    ensures text { take result text.new ≡ take len text.old ++ escaped (take (end - start) (drop start (units_of bytes.now))) }
-    ensures within { result ≤ len + 6 * (end - start) }
-    ensures same { length text.new ≡ length text.old }
+    ensures { PutsUnits (units_of bytes.now) start end len text.old result text.new }
 {
     let mut len = len;
     for index in start..end {

@@ -1,6 +1,7 @@
 -- Why calls stop that stand one after the other, and what they spend together.
 use Rattle.std.proofs.Common.{◌≡◌, ◌∙◌, ◌≤◌, ◌+◌, ℕ, Result, Ok, Err, Some, Bool, ap, arith, subst, refl}
 use Rattle.std.specs.Prelude.{IsFalse, IsTrue, true, false}
+use Rattle.std.specs.Result.{IfErr, IfOk, IsErrAnd, MatchResult}
 use Rattle.mdmp_source.specs.Output.{OutState, refused_once}
 use Rattle.mdmp_dump.specs.Shape.{Spent, ViewShape}
 use Rattle.mdmp_dump.specs.declared.view.ViewFault.{ViewFault}
@@ -28,6 +29,24 @@ cause_of_output (Err (Layout fault)) a b reliable stops = absurd stops
 pub not_reliable : (reliable : Bool) → (IsTrue reliable → ⊥) → IsFalse reliable
 not_reliable true never = absurd (never refl)
 not_reliable false never = refl
+
+-- what `map_err` makes of an answer of a view
+abbrev pub IsPassed : {T : Type 0} → Result T ViewFault → Result T WriteFault → Type 0
+IsPassed told result = MatchResult told (λ x. result ≡ Ok x) (λ fault. IsErrAnd result (λ e. e ≡ View fault))
+
+pub ok_passed : {T : Type 0} {P Q : T → Type 0} (told : Result T ViewFault) (result : Result T WriteFault) → IsPassed told result → ((x : T) → P x → Q x) → IfOk told P → IfOk result Q
+ok_passed (Ok x) result is then holds = rw is (then x holds)
+ok_passed (Err e) (Ok x) is then holds = absurd is
+ok_passed (Err e) (Err fault) is then holds = tt
+
+pub told_ok : {T : Type 0} (told : Result T ViewFault) (x : T) → IsPassed told (Ok x) → told ≡ Ok x
+told_ok (Ok y) x is = cc
+told_ok (Err fault) x is = absurd is
+
+-- a fault that a `?` hands on
+pub handed : {T E : Type 0} (r : Result T E) (fault : E) → IsErrAnd r (λ told. told ≡ fault) → r ≡ Err fault
+handed (Ok x) fault is = absurd is
+handed (Err told) fault is = ap Err is
 
 -- ---- what is used
 
@@ -116,3 +135,10 @@ pub uses_same : {T U : Type 0} {fault : WriteFault} {a b : Used} {n m : ℕ} →
 uses_same {fault = Out} one = record { shape = one.shape; cause = one.cause; passed = one.passed; asked = one.asked; told = tt }
 uses_same {fault = View fault} one = record { shape = one.shape; cause = one.cause; passed = one.passed; asked = one.asked; told = one.told }
 uses_same {fault = Layout fault} one = absurd one.cause
+
+-- an answer of the view that `map_err` passed on
+pub uses_passed : {T U : Type 0} {x : T} (told : Result U ViewFault) (result : Result U WriteFault) {a b : Used} {n m passes asks : ℕ} {t : ViewShape} {q : Spent}
+    → IsPassed told result → Uses (Ok x) a n m b → t ≡ b.shape → (IsTrue b.shape.is_reliable → IfErr told (λ _. ⊥)) → q.passed ≤ a.spent.passed + passes → q.asked ≤ a.spent.asked + asks
+    → IfErr told (λ fault. q.fault ≡ Some fault) → Uses result a passes asks (used t q b.out)
+uses_passed (Ok y) result is first shape reliable passed asked last = rw is (record { shape = shape ∙ first.shape; cause = first.cause; passed = passed; asked = asked; told = tt })
+uses_passed (Err fault) result is first shape reliable passed asked last = rw (handed result _ is) (uses_fault first shape reliable passed asked last)

@@ -34,6 +34,10 @@ some_then a b c m n first next = record {
   puts = puts_puts a b c first.text next.text first.puts next.puts;
 }
 
+-- after a flush that added nothing
+pub some_behind : (a b c : Gathered) (n : ℕ) → Gathers a [] b → PutsSome b n c → PutsSome a n c
+some_behind a b c n sent some = record { text = some.text; count = some.count; puts = puts_puts a b c [] some.text sent some.puts }
+
 pub some_is : (a b : Gathered) (m n : ℕ) → m ≡ n → PutsSome a m b → PutsSome a n b
 some_is a b m n same some = subst (λ (k : ℕ). PutsSome a k b) same some
 

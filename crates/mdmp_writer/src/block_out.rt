@@ -98,13 +98,9 @@ fn write_records<V: DumpView, O: Out>(
         at: place.at + room.body.next_multiple_of(4),
         far: place.far,
     };
-    match write_body(view, out, gather, stream, kind, count, behind) {
-        Ok(()) => match write_padding(out, gather, room.body) {
-            Ok(()) => write_stream_parts(view, out, gather, stream, count, room.parts),
-            Err(fault) => Err(fault),
-        },
-        Err(fault) => Err(fault),
-    }
+    write_body(view, out, gather, stream, kind, count, behind)?;
+    write_padding(out, gather, room.body)?;
+    write_stream_parts(view, out, gather, stream, count, room.parts)
 }
 
 /// Writes a stream of raw bytes, so many, and the zeros behind them.

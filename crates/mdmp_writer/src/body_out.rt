@@ -90,11 +90,7 @@ pub(crate) fn write_body<V: DumpView, O: Out>(
     ensures uses { Uses result (used (V.shape view.old) (V.spent view.old) (O.state out.old)) (cost_at (V.shape view.old) stream) 0 (used (V.shape view.new) (V.spent view.new) (O.state out.new)) }
     ensures moves { V.Moves view.old view.new }
 {
-    match view.rewind(stream) {
-        Ok(()) => match write_head(out, gather, kind, count, place.far) {
-            Ok(()) => write_record_texts(view, out, gather, RecordText::Row, count, place.at),
-            Err(fault) => Err(fault),
-        },
-        Err(fault) => Err(WriteFault::View(fault)),
-    }
+    view.rewind(stream).map_err(WriteFault::View)?;
+    write_head(out, gather, kind, count, place.far)?;
+    write_record_texts(view, out, gather, RecordText::Row, count, place.at)
 }

@@ -50,13 +50,9 @@ pub fn write_dump<V: DumpView, O: Out>(
         Err(fault) => return Err(WriteFault::Layout(fault)),
     };
     let mut gather = Gather::new(buffer);
-    match write_gathered(view, out, &mut gather, ends) {
-        Ok(()) => match gather.flush(out) {
-            Ok(()) => Ok(ends.file),
-            Err(fault) => Err(fault),
-        },
-        Err(fault) => Err(fault),
-    }
+    write_gathered(view, out, &mut gather, ends)?;
+    gather.flush(out)?;
+    Ok(ends.file)
 }
 
 /// Writes a dump that can be written, and that ends here.
@@ -77,19 +73,13 @@ fn write_gathered<V: DumpView, O: Out>(
     let header = view.header();
     let streams = view.streams();
     let first = 32 + 12 * streams;
-    match write_header(out, gather, header, streams) {
-        Ok(()) => match write_directory(view, out, gather, first) {
-            Ok(()) => {
-                let place = StreamPlace {
-                    at: first,
-                    far: ends.blocks,
-                };
-                write_streams(view, out, gather, place)
-            },
-            Err(fault) => Err(fault),
-        },
-        Err(fault) => Err(fault),
-    }
+    write_header(out, gather, header, streams)?;
+    write_directory(view, out, gather, first)?;
+    let place = StreamPlace {
+        at: first,
+        far: ends.blocks,
+    };
+    write_streams(view, out, gather, place)
 }
 
 /// Writes all streams, and their 64-bit memory behind them.
@@ -108,8 +98,6 @@ fn write_streams<V: DumpView, O: Out>(
     ensures uses { Uses result (used (V.shape view.old) (V.spent view.old) (O.state out.old)) (all_passes (V.shape view.old)) (all_asks (V.shape view.old)) (used (V.shape view.new) (V.spent view.new) (O.state out.new)) }
     ensures moves { V.Moves view.old view.new }
 {
-    match write_blocks(view, out, gather, first) {
-        Ok(()) => write_fars(view, out, gather),
-        Err(fault) => Err(fault),
-    }
+    write_blocks(view, out, gather, first)?;
+    write_fars(view, out, gather)
 }

@@ -39,13 +39,9 @@ fn write_memory<V: DumpView, O: Out>(
     ensures uses { Uses result (used (V.shape view.old) (V.spent view.old) (O.state out.old)) (cost_at (V.shape view.old) stream) ((stream_at (V.shape view.old) stream).bytes) (used (V.shape view.new) (V.spent view.new) (O.state out.new)) }
     ensures moves { V.Moves view.old view.new }
 {
-    match view.rewind(stream) {
-        Ok(()) => match write_record_texts(view, out, gather, RecordText::Memory, count, 0) {
-            Ok(()) => write_padding(out, gather, size),
-            Err(fault) => Err(fault),
-        },
-        Err(fault) => Err(WriteFault::View(fault)),
-    }
+    view.rewind(stream).map_err(WriteFault::View)?;
+    write_record_texts(view, out, gather, RecordText::Memory, count, 0)?;
+    write_padding(out, gather, size)
 }
 
 /// Writes the 64-bit memory of a stream and the zeros behind it: nothing of a stream of another kind.

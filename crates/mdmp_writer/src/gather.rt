@@ -59,10 +59,8 @@ impl<'b> Gather<'b> {
     {
         let mut at = self.hold(bytes);
         while at < bytes.len() {
-            match self.flush(out) {
-                Ok(()) => at += self.hold(&bytes[at..]),
-                Err(fault) => return Err(fault),
-            }
+            self.flush(out)?;
+            at += self.hold(&bytes[at..]);
         }
         Ok(())
     }
@@ -105,13 +103,9 @@ impl<'b> Gather<'b> {
         if count == 0 {
             return Ok(0);
         }
-        match fetch_behind(view, which, at, self.buffer, self.held, count as usize) {
-            Ok(()) => {
-                self.held += count as usize;
-                Ok(count)
-            },
-            Err(fault) => Err(fault),
-        }
+        fetch_behind(view, which, at, self.buffer, self.held, count as usize)?;
+        self.held += count as usize;
+        Ok(count)
     }
 }
 

@@ -83,10 +83,8 @@ pub(crate) fn write_directory<V: DumpView, O: Out>(
     let mut at = first;
     for stream in 0..view.streams() {
         let room = room_for(view, stream);
-        match write_record(out, gather, &entry_at(room, at)) {
-            Ok(()) => at += room.block(),
-            Err(fault) => return Err(fault),
-        }
+        write_record(out, gather, &entry_at(room, at))?;
+        at += room.block();
     }
     Ok(())
 }

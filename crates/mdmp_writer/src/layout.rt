@@ -50,10 +50,8 @@ pub fn written_size<V: DumpView>(view: &mut V) -> Result<u64, LayoutFault>
     ensures spent { V.spent view.new ≡ V.spent view.old }
     ensures moves { V.Moves view.old view.new }
 {
-    match layout(view) {
-        Ok(ends) => Ok(ends.file),
-        Err(fault) => Err(fault),
-    }
+    let ends = layout(view)?;
+    Ok(ends.file)
 }
 
 /// Where what is written ends, or why it can't be written.

@@ -36,13 +36,9 @@ fn write_units<V: DumpView, O: Out>(
     ensures uses { Uses result (used (V.shape view.old) (V.spent view.old) (O.state out.old)) 0 size (used (V.shape view.new) (V.spent view.new) (O.state out.new)) }
     ensures moves { V.Moves view.old view.new }
 {
-    match write_part(view, out, gather, which, size) {
-        Ok(()) => match write_record(out, gather, &0u16) {
-            Ok(()) => write_padding(out, gather, 4 + size + 2),
-            Err(fault) => Err(fault),
-        },
-        Err(fault) => Err(fault),
-    }
+    write_part(view, out, gather, which, size)?;
+    write_record(out, gather, &0u16)?;
+    write_padding(out, gather, 4 + size + 2)
 }
 
 /// Writes a name with its length, and the zeros behind it.
@@ -64,9 +60,9 @@ fn write_name<V: DumpView, O: Out>(
 {
     match name {
         PartSize::NoPart => Ok(()),
-        PartSize::Size(size) => match write_record(out, gather, &(size as u32)) {
-            Ok(()) => write_units(view, out, gather, which, size),
-            Err(fault) => Err(fault),
+        PartSize::Size(size) => {
+            write_record(out, gather, &(size as u32))?;
+            write_units(view, out, gather, which, size)
         },
         PartSize::Absent(_) => Ok(()),
     }
@@ -115,11 +111,7 @@ pub(crate) fn write_fields_parts<V: DumpView, O: Out>(
 {
     let [first, second, third] = fields.parts;
     let [one, two, three] = fields.wire.slots();
-    match write_slot(view, out, gather, 0, one, first) {
-        Ok(()) => match write_slot(view, out, gather, 1, two, second) {
-            Ok(()) => write_slot(view, out, gather, 2, three, third),
-            Err(fault) => Err(fault),
-        },
-        Err(fault) => Err(fault),
-    }
+    write_slot(view, out, gather, 0, one, first)?;
+    write_slot(view, out, gather, 1, two, second)?;
+    write_slot(view, out, gather, 2, three, third)
 }

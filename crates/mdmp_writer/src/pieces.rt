@@ -33,13 +33,10 @@ fn fetch_more<V: DumpView, O: Out>(
     ensures asked { IfOk result (λ k. (V.spent view.new).asked ≤ (V.spent view.old).asked + k) }
     ensures moves { V.Moves view.old view.new }
 {
-    match gather.flush(out) {
-        Ok(()) => match gather.fetch(view, which, at, most) {
-            Ok(count) => Ok(count),
-            Err(fault) => Err(WriteFault::View(fault)),
-        },
-        Err(fault) => Err(fault),
-    }
+    gather.flush(out)?;
+    gather
+        .fetch(view, which, at, most)
+        .map_err(WriteFault::View)
 }
 
 /// Writes the bytes of a part, a bufferful at a time.
@@ -58,15 +55,11 @@ pub(crate) fn write_part<V: DumpView, O: Out>(
     ensures uses { Uses result (used (V.shape view.old) (V.spent view.old) (O.state out.old)) 0 size (used (V.shape view.new) (V.spent view.new) (O.state out.new)) }
     ensures moves { V.Moves view.old view.new }
 {
-    let mut at = match gather.fetch(view, which, 0, size) {
-        Ok(count) => count,
-        Err(fault) => return Err(WriteFault::View(fault)),
-    };
+    let mut at = gather
+        .fetch(view, which, 0, size)
+        .map_err(WriteFault::View)?;
     while at < size {
-        match fetch_more(view, out, gather, which, at, size - at) {
-            Ok(count) => at += count,
-            Err(fault) => return Err(fault),
-        }
+        at += fetch_more(view, out, gather, which, at, size - at)?;
     }
     Ok(())
 }
@@ -102,8 +95,6 @@ pub(crate) fn write_padded<V: DumpView, O: Out>(
     ensures moves { V.Moves view.old view.new }
 {
     let size = part.size();
-    match write_part(view, out, gather, which, size) {
-        Ok(()) => write_padding(out, gather, size),
-        Err(fault) => Err(fault),
-    }
+    write_part(view, out, gather, which, size)?;
+    write_padding(out, gather, size)
 }

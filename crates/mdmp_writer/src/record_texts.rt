@@ -79,16 +79,10 @@ pub(crate) fn write_record_texts<V: DumpView, O: Out>(
     let mut place = at;
     let mut left = count;
     while left > 0 {
-        match view.next_record() {
-            Ok(fields) => match write_record_text(view, out, gather, text, &fields, place) {
-                Ok(()) => {
-                    place += fields.room() as u64;
-                    left -= 1;
-                },
-                Err(fault) => return Err(fault),
-            },
-            Err(fault) => return Err(WriteFault::View(fault)),
-        }
+        let fields = view.next_record().map_err(WriteFault::View)?;
+        write_record_text(view, out, gather, text, &fields, place)?;
+        place += fields.room() as u64;
+        left -= 1;
     }
     Ok(())
 }

@@ -38,13 +38,9 @@ pub(crate) fn write_blocks<V: DumpView, O: Out>(
     let mut far = first.far;
     for stream in 0..view.streams() {
         let room = room_for(view, stream);
-        match write_block(view, out, gather, stream, room, StreamPlace { at, far }) {
-            Ok(()) => {
-                at += room.block();
-                far += room.far;
-            },
-            Err(fault) => return Err(fault),
-        }
+        write_block(view, out, gather, stream, room, StreamPlace { at, far })?;
+        at += room.block();
+        far += room.far;
     }
     Ok(())
 }
@@ -64,10 +60,7 @@ pub(crate) fn write_fars<V: DumpView, O: Out>(
     ensures moves { V.Moves view.old view.new }
 {
     for stream in 0..view.streams() {
-        match write_far(view, out, gather, stream) {
-            Ok(()) => {},
-            Err(fault) => return Err(fault),
-        }
+        write_far(view, out, gather, stream)?;
     }
     Ok(())
 }

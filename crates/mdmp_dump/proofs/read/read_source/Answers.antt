@@ -5,6 +5,7 @@ use Rattle.mdmp_lister.specs.Format.Refusal.{opening_fault}
 use Rattle.mdmp_dump.specs.Left.{run_of}
 use Rattle.mdmp_dump.specs.Reading.{owed, read_within}
 use Rattle.mdmp_dump.specs.Refusal.{read_refusal, refusal_of}
+use Rattle.mdmp_lister.proofs.OutOfMemory.{out_of_memory-allowed}
 use Rattle.mdmp_dump.proofs.Keeping.{opening_keeps, reading_ends, reading_keeps}
 use Rattle.mdmp_dump.proofs.Opened.{opened-head, opened_behind, opening-fetches, opening-settles, tells_none, tells_of, wants_behind}
 use Rattle.mdmp_dump.proofs.ReadWithin.{fetches-within, limited-within, opening-limited, refusal-without, settles-within, without}
@@ -103,7 +104,7 @@ returns-in-Err-read_streams-clause-unbudgeted g c = λ none. rw (c.told_within.e
 pub returns-in-Err-clause-keeps : goal.returns-in-Err-clause-keeps
 returns-in-Err-clause-keeps g c =
     rw c.refusal.ensures (opening_keeps c.args.choice c.args.limits c.args.parts c.args.source c.in-Err.refused.fault c.in-Err.refused.source c.in-Err.ensures.refused.fetches.kept c.in-Err.ensures.refused.fetches.next
-    c.in-Err.ensures.refused.handed_back)
+    c.in-Err.ensures.refused.handed_back (out_of_memory-allowed _ _ _ _ _ _ _ c.in-Err.ensures.lacks c.in-Err.ensures.refused.memory))
 
 pub returns-in-Ok-read_streams-clause-keeps : goal.returns-in-Ok-read_streams-clause-keeps
 returns-in-Ok-read_streams-clause-keeps g c =

@@ -125,128 +125,128 @@ returns-in_ok-next-in-0-clause-going g c = c.in_ok-next-in-0.ensures.going
 pub returns-in_err-threads-in-3-clause-fetches : goal.returns-in_err-threads-in-3-clause-fetches
 returns-in_err-threads-in-3-clause-fetches g c =
     let fault = c.in_err-threads-in-3.field-0.0 in
-    rw (refused_by c.from_residual-in_err-threads-in-3.result fault c.from_residual-in_err-threads-in-3.ensures.1) (Fetches_as fault c.args.reader.now.lister.source c.rows.new.self.lister.source c.in_err-threads-in-3.ensures.fetches)
+    rw (refused_by c.from_residual-in_err-threads-in-3.result fault c.from_residual-in_err-threads-in-3.ensures.1) (Fetches_as fault c.args.reader.now.lister.source c.rows.new.self.lister.source c.in_err-threads-in-3.ensures.step.fetches)
 
 pub returns-in_err-threads-in-3-clause-going : goal.returns-in_err-threads-in-3-clause-going
 returns-in_err-threads-in-3-clause-going g c = IfOk-from_err c.from_residual-in_err-threads-in-3.result _ c.from_residual-in_err-threads-in-3.ensures.0
 
 pub returns-in_ok-threads-in-3-clause-fetches : goal.returns-in_ok-threads-in-3-clause-fetches
-returns-in_ok-threads-in-3-clause-fetches g c = Fetches_only _ c.args.reader.now.lister.source c.rows.new.self.lister.source c.in_ok-threads-in-3.ensures.fetches.fetches
+returns-in_ok-threads-in-3-clause-fetches g c = Fetches_only _ c.args.reader.now.lister.source c.rows.new.self.lister.source c.in_ok-threads-in-3.ensures.step.fetches.fetches
 
 pub returns-in_ok-threads-in-3-clause-going : goal.returns-in_ok-threads-in-3-clause-going
-returns-in_ok-threads-in-3-clause-going g c = c.in_ok-threads-in-3.ensures.going
+returns-in_ok-threads-in-3-clause-going g c = c.in_ok-threads-in-3.ensures.step.going
 
 pub returns-in_err-modules-in-4-clause-fetches : goal.returns-in_err-modules-in-4-clause-fetches
 returns-in_err-modules-in-4-clause-fetches g c =
     let fault = c.in_err-modules-in-4.field-0.0 in
-    rw (refused_by c.from_residual-in_err-modules-in-4.result fault c.from_residual-in_err-modules-in-4.ensures.1) (Fetches_as fault c.args.reader.now.lister.source c.rows-in-4.new.self.lister.source c.in_err-modules-in-4.ensures.fetches)
+    rw (refused_by c.from_residual-in_err-modules-in-4.result fault c.from_residual-in_err-modules-in-4.ensures.1) (Fetches_as fault c.args.reader.now.lister.source c.rows-in-4.new.self.lister.source c.in_err-modules-in-4.ensures.step.fetches)
 
 pub returns-in_err-modules-in-4-clause-going : goal.returns-in_err-modules-in-4-clause-going
 returns-in_err-modules-in-4-clause-going g c = IfOk-from_err c.from_residual-in_err-modules-in-4.result _ c.from_residual-in_err-modules-in-4.ensures.0
 
 pub returns-in_ok-modules-in-4-clause-fetches : goal.returns-in_ok-modules-in-4-clause-fetches
-returns-in_ok-modules-in-4-clause-fetches g c = Fetches_only _ c.args.reader.now.lister.source c.rows-in-4.new.self.lister.source c.in_ok-modules-in-4.ensures.fetches.fetches
+returns-in_ok-modules-in-4-clause-fetches g c = Fetches_only _ c.args.reader.now.lister.source c.rows-in-4.new.self.lister.source c.in_ok-modules-in-4.ensures.step.fetches.fetches
 
 pub returns-in_ok-modules-in-4-clause-going : goal.returns-in_ok-modules-in-4-clause-going
-returns-in_ok-modules-in-4-clause-going g c = c.in_ok-modules-in-4.ensures.going
+returns-in_ok-modules-in-4-clause-going g c = c.in_ok-modules-in-4.ensures.step.going
 
 pub returns-in_err-ranges-in-5-clause-fetches : goal.returns-in_err-ranges-in-5-clause-fetches
 returns-in_err-ranges-in-5-clause-fetches g c =
     let fault = c.in_err-ranges-in-5.field-0.0 in
-    rw (refused_by c.from_residual-in_err-ranges-in-5.result fault c.from_residual-in_err-ranges-in-5.ensures.1) (Fetches_as fault c.args.reader.now.lister.source c.rows-in-5.new.self.lister.source c.in_err-ranges-in-5.ensures.fetches)
+    rw (refused_by c.from_residual-in_err-ranges-in-5.result fault c.from_residual-in_err-ranges-in-5.ensures.1) (Fetches_as fault c.args.reader.now.lister.source c.rows-in-5.new.self.lister.source c.in_err-ranges-in-5.ensures.step.fetches)
 
 pub returns-in_err-ranges-in-5-clause-going : goal.returns-in_err-ranges-in-5-clause-going
 returns-in_err-ranges-in-5-clause-going g c = IfOk-from_err c.from_residual-in_err-ranges-in-5.result _ c.from_residual-in_err-ranges-in-5.ensures.0
 
 pub returns-in_ok-ranges-in-5-clause-fetches : goal.returns-in_ok-ranges-in-5-clause-fetches
-returns-in_ok-ranges-in-5-clause-fetches g c = Fetches_only _ c.args.reader.now.lister.source c.rows-in-5.new.self.lister.source c.in_ok-ranges-in-5.ensures.fetches.fetches
+returns-in_ok-ranges-in-5-clause-fetches g c = Fetches_only _ c.args.reader.now.lister.source c.rows-in-5.new.self.lister.source c.in_ok-ranges-in-5.ensures.step.fetches.fetches
 
 pub returns-in_ok-ranges-in-5-clause-going : goal.returns-in_ok-ranges-in-5-clause-going
-returns-in_ok-ranges-in-5-clause-going g c = c.in_ok-ranges-in-5.ensures.going
+returns-in_ok-ranges-in-5-clause-going g c = c.in_ok-ranges-in-5.ensures.step.going
 
 pub returns-in_err-exception-in-6-clause-fetches : goal.returns-in_err-exception-in-6-clause-fetches
 returns-in_err-exception-in-6-clause-fetches g c =
     let fault = c.in_err-exception-in-6.field-0.0 in
-    rw (refused_by c.from_residual-in_err-exception-in-6.result fault c.from_residual-in_err-exception-in-6.ensures.1) (Fetches_as fault c.args.reader.now.lister.source c.single.new.self.lister.source c.in_err-exception-in-6.ensures.fetches)
+    rw (refused_by c.from_residual-in_err-exception-in-6.result fault c.from_residual-in_err-exception-in-6.ensures.1) (Fetches_as fault c.args.reader.now.lister.source c.single.new.self.lister.source c.in_err-exception-in-6.ensures.step.fetches)
 
 pub returns-in_err-exception-in-6-clause-going : goal.returns-in_err-exception-in-6-clause-going
 returns-in_err-exception-in-6-clause-going g c = IfOk-from_err c.from_residual-in_err-exception-in-6.result _ c.from_residual-in_err-exception-in-6.ensures.0
 
 pub returns-in_ok-exception-in-6-clause-fetches : goal.returns-in_ok-exception-in-6-clause-fetches
-returns-in_ok-exception-in-6-clause-fetches g c = Fetches_only _ c.args.reader.now.lister.source c.single.new.self.lister.source c.in_ok-exception-in-6.ensures.fetches.fetches
+returns-in_ok-exception-in-6-clause-fetches g c = Fetches_only _ c.args.reader.now.lister.source c.single.new.self.lister.source c.in_ok-exception-in-6.ensures.step.fetches.fetches
 
 pub returns-in_ok-exception-in-6-clause-going : goal.returns-in_ok-exception-in-6-clause-going
-returns-in_ok-exception-in-6-clause-going g c = c.in_ok-exception-in-6.ensures.going
+returns-in_ok-exception-in-6-clause-going g c = c.in_ok-exception-in-6.ensures.step.going
 
 pub returns-in_err-system-in-7-clause-fetches : goal.returns-in_err-system-in-7-clause-fetches
 returns-in_err-system-in-7-clause-fetches g c =
     let fault = c.in_err-system-in-7.field-0.0 in
-    rw (refused_by c.from_residual-in_err-system-in-7.result fault c.from_residual-in_err-system-in-7.ensures.1) (Fetches_as fault c.args.reader.now.lister.source c.single-in-7.new.self.lister.source c.in_err-system-in-7.ensures.fetches)
+    rw (refused_by c.from_residual-in_err-system-in-7.result fault c.from_residual-in_err-system-in-7.ensures.1) (Fetches_as fault c.args.reader.now.lister.source c.single-in-7.new.self.lister.source c.in_err-system-in-7.ensures.step.fetches)
 
 pub returns-in_err-system-in-7-clause-going : goal.returns-in_err-system-in-7-clause-going
 returns-in_err-system-in-7-clause-going g c = IfOk-from_err c.from_residual-in_err-system-in-7.result _ c.from_residual-in_err-system-in-7.ensures.0
 
 pub returns-in_ok-system-in-7-clause-fetches : goal.returns-in_ok-system-in-7-clause-fetches
-returns-in_ok-system-in-7-clause-fetches g c = Fetches_only _ c.args.reader.now.lister.source c.single-in-7.new.self.lister.source c.in_ok-system-in-7.ensures.fetches.fetches
+returns-in_ok-system-in-7-clause-fetches g c = Fetches_only _ c.args.reader.now.lister.source c.single-in-7.new.self.lister.source c.in_ok-system-in-7.ensures.step.fetches.fetches
 
 pub returns-in_ok-system-in-7-clause-going : goal.returns-in_ok-system-in-7-clause-going
-returns-in_ok-system-in-7-clause-going g c = c.in_ok-system-in-7.ensures.going
+returns-in_ok-system-in-7-clause-going g c = c.in_ok-system-in-7.ensures.step.going
 
 pub returns-in_err-ranges-in-9-clause-fetches : goal.returns-in_err-ranges-in-9-clause-fetches
 returns-in_err-ranges-in-9-clause-fetches g c =
     let fault = c.in_err-ranges-in-9.field-0.0 in
-    rw (refused_by c.from_residual-in_err-ranges-in-9.result fault c.from_residual-in_err-ranges-in-9.ensures.1) (Fetches_as fault c.args.reader.now.lister.source c.rows-in-9.new.self.lister.source c.in_err-ranges-in-9.ensures.fetches)
+    rw (refused_by c.from_residual-in_err-ranges-in-9.result fault c.from_residual-in_err-ranges-in-9.ensures.1) (Fetches_as fault c.args.reader.now.lister.source c.rows-in-9.new.self.lister.source c.in_err-ranges-in-9.ensures.step.fetches)
 
 pub returns-in_err-ranges-in-9-clause-going : goal.returns-in_err-ranges-in-9-clause-going
 returns-in_err-ranges-in-9-clause-going g c = IfOk-from_err c.from_residual-in_err-ranges-in-9.result _ c.from_residual-in_err-ranges-in-9.ensures.0
 
 pub returns-in_ok-ranges-in-9-clause-fetches : goal.returns-in_ok-ranges-in-9-clause-fetches
-returns-in_ok-ranges-in-9-clause-fetches g c = Fetches_only _ c.args.reader.now.lister.source c.rows-in-9.new.self.lister.source c.in_ok-ranges-in-9.ensures.fetches.fetches
+returns-in_ok-ranges-in-9-clause-fetches g c = Fetches_only _ c.args.reader.now.lister.source c.rows-in-9.new.self.lister.source c.in_ok-ranges-in-9.ensures.step.fetches.fetches
 
 pub returns-in_ok-ranges-in-9-clause-going : goal.returns-in_ok-ranges-in-9-clause-going
-returns-in_ok-ranges-in-9-clause-going g c = c.in_ok-ranges-in-9.ensures.going
+returns-in_ok-ranges-in-9-clause-going g c = c.in_ok-ranges-in-9.ensures.step.going
 
 pub returns-in_err-modules-in-14-clause-fetches : goal.returns-in_err-modules-in-14-clause-fetches
 returns-in_err-modules-in-14-clause-fetches g c =
     let fault = c.in_err-modules-in-14.field-0.0 in
-    rw (refused_by c.from_residual-in_err-modules-in-14.result fault c.from_residual-in_err-modules-in-14.ensures.1) (Fetches_as fault c.args.reader.now.lister.source c.rows-in-14.new.self.lister.source c.in_err-modules-in-14.ensures.fetches)
+    rw (refused_by c.from_residual-in_err-modules-in-14.result fault c.from_residual-in_err-modules-in-14.ensures.1) (Fetches_as fault c.args.reader.now.lister.source c.rows-in-14.new.self.lister.source c.in_err-modules-in-14.ensures.step.fetches)
 
 pub returns-in_err-modules-in-14-clause-going : goal.returns-in_err-modules-in-14-clause-going
 returns-in_err-modules-in-14-clause-going g c = IfOk-from_err c.from_residual-in_err-modules-in-14.result _ c.from_residual-in_err-modules-in-14.ensures.0
 
 pub returns-in_ok-modules-in-14-clause-fetches : goal.returns-in_ok-modules-in-14-clause-fetches
-returns-in_ok-modules-in-14-clause-fetches g c = Fetches_only _ c.args.reader.now.lister.source c.rows-in-14.new.self.lister.source c.in_ok-modules-in-14.ensures.fetches.fetches
+returns-in_ok-modules-in-14-clause-fetches g c = Fetches_only _ c.args.reader.now.lister.source c.rows-in-14.new.self.lister.source c.in_ok-modules-in-14.ensures.step.fetches.fetches
 
 pub returns-in_ok-modules-in-14-clause-going : goal.returns-in_ok-modules-in-14-clause-going
-returns-in_ok-modules-in-14-clause-going g c = c.in_ok-modules-in-14.ensures.going
+returns-in_ok-modules-in-14-clause-going g c = c.in_ok-modules-in-14.ensures.step.going
 
 pub returns-in_err-regions-in-16-clause-fetches : goal.returns-in_err-regions-in-16-clause-fetches
 returns-in_err-regions-in-16-clause-fetches g c =
     let fault = c.in_err-regions-in-16.field-0.0 in
-    rw (refused_by c.from_residual-in_err-regions-in-16.result fault c.from_residual-in_err-regions-in-16.ensures.1) (Fetches_as fault c.args.reader.now.lister.source c.rows-in-16.new.self.lister.source c.in_err-regions-in-16.ensures.fetches)
+    rw (refused_by c.from_residual-in_err-regions-in-16.result fault c.from_residual-in_err-regions-in-16.ensures.1) (Fetches_as fault c.args.reader.now.lister.source c.rows-in-16.new.self.lister.source c.in_err-regions-in-16.ensures.step.fetches)
 
 pub returns-in_err-regions-in-16-clause-going : goal.returns-in_err-regions-in-16-clause-going
 returns-in_err-regions-in-16-clause-going g c = IfOk-from_err c.from_residual-in_err-regions-in-16.result _ c.from_residual-in_err-regions-in-16.ensures.0
 
 pub returns-in_ok-regions-in-16-clause-fetches : goal.returns-in_ok-regions-in-16-clause-fetches
-returns-in_ok-regions-in-16-clause-fetches g c = Fetches_only _ c.args.reader.now.lister.source c.rows-in-16.new.self.lister.source c.in_ok-regions-in-16.ensures.fetches.fetches
+returns-in_ok-regions-in-16-clause-fetches g c = Fetches_only _ c.args.reader.now.lister.source c.rows-in-16.new.self.lister.source c.in_ok-regions-in-16.ensures.step.fetches.fetches
 
 pub returns-in_ok-regions-in-16-clause-going : goal.returns-in_ok-regions-in-16-clause-going
-returns-in_ok-regions-in-16-clause-going g c = c.in_ok-regions-in-16.ensures.going
+returns-in_ok-regions-in-16-clause-going g c = c.in_ok-regions-in-16.ensures.step.going
 
 pub returns-in_err-threads-in-24-clause-fetches : goal.returns-in_err-threads-in-24-clause-fetches
 returns-in_err-threads-in-24-clause-fetches g c =
     let fault = c.in_err-threads-in-24.field-0.0 in
-    rw (refused_by c.from_residual-in_err-threads-in-24.result fault c.from_residual-in_err-threads-in-24.ensures.1) (Fetches_as fault c.args.reader.now.lister.source c.rows-in-24.new.self.lister.source c.in_err-threads-in-24.ensures.fetches)
+    rw (refused_by c.from_residual-in_err-threads-in-24.result fault c.from_residual-in_err-threads-in-24.ensures.1) (Fetches_as fault c.args.reader.now.lister.source c.rows-in-24.new.self.lister.source c.in_err-threads-in-24.ensures.step.fetches)
 
 pub returns-in_err-threads-in-24-clause-going : goal.returns-in_err-threads-in-24-clause-going
 returns-in_err-threads-in-24-clause-going g c = IfOk-from_err c.from_residual-in_err-threads-in-24.result _ c.from_residual-in_err-threads-in-24.ensures.0
 
 pub returns-in_ok-threads-in-24-clause-fetches : goal.returns-in_ok-threads-in-24-clause-fetches
-returns-in_ok-threads-in-24-clause-fetches g c = Fetches_only _ c.args.reader.now.lister.source c.rows-in-24.new.self.lister.source c.in_ok-threads-in-24.ensures.fetches.fetches
+returns-in_ok-threads-in-24-clause-fetches g c = Fetches_only _ c.args.reader.now.lister.source c.rows-in-24.new.self.lister.source c.in_ok-threads-in-24.ensures.step.fetches.fetches
 
 pub returns-in_ok-threads-in-24-clause-going : goal.returns-in_ok-threads-in-24-clause-going
-returns-in_ok-threads-in-24-clause-going g c = c.in_ok-threads-in-24.ensures.going
+returns-in_ok-threads-in-24-clause-going g c = c.in_ok-threads-in-24.ensures.step.going
 
 pub returns-in_err-threads-in-3-clause-of_file : goal.returns-in_err-threads-in-3-clause-of_file
 returns-in_err-threads-in-3-clause-of_file g c =
@@ -348,74 +348,74 @@ returns-in_ok-next-in-0-clause-keeps g c = c.in_ok-next-in-0.ensures.keeps
 pub returns-in_err-threads-in-3-clause-keeps : goal.returns-in_err-threads-in-3-clause-keeps
 returns-in_err-threads-in-3-clause-keeps g c =
     let fault = c.in_err-threads-in-3.field-0.0 in
-    rw (refused_by c.from_residual-in_err-threads-in-3.result fault c.from_residual-in_err-threads-in-3.ensures.1) (keeps_any _ fault c.args.reader.now _ c.in_err-threads-in-3.ensures.keeps)
+    rw (refused_by c.from_residual-in_err-threads-in-3.result fault c.from_residual-in_err-threads-in-3.ensures.1) (keeps_any _ fault c.args.reader.now _ c.in_err-threads-in-3.ensures.step.keeps)
 
 pub returns-in_ok-threads-in-3-clause-keeps : goal.returns-in_ok-threads-in-3-clause-keeps
-returns-in_ok-threads-in-3-clause-keeps g c = c.in_ok-threads-in-3.ensures.keeps
+returns-in_ok-threads-in-3-clause-keeps g c = c.in_ok-threads-in-3.ensures.step.keeps
 
 pub returns-in_err-modules-in-4-clause-keeps : goal.returns-in_err-modules-in-4-clause-keeps
 returns-in_err-modules-in-4-clause-keeps g c =
     let fault = c.in_err-modules-in-4.field-0.0 in
-    rw (refused_by c.from_residual-in_err-modules-in-4.result fault c.from_residual-in_err-modules-in-4.ensures.1) (keeps_any _ fault c.args.reader.now _ c.in_err-modules-in-4.ensures.keeps)
+    rw (refused_by c.from_residual-in_err-modules-in-4.result fault c.from_residual-in_err-modules-in-4.ensures.1) (keeps_any _ fault c.args.reader.now _ c.in_err-modules-in-4.ensures.step.keeps)
 
 pub returns-in_ok-modules-in-4-clause-keeps : goal.returns-in_ok-modules-in-4-clause-keeps
-returns-in_ok-modules-in-4-clause-keeps g c = c.in_ok-modules-in-4.ensures.keeps
+returns-in_ok-modules-in-4-clause-keeps g c = c.in_ok-modules-in-4.ensures.step.keeps
 
 pub returns-in_err-ranges-in-5-clause-keeps : goal.returns-in_err-ranges-in-5-clause-keeps
 returns-in_err-ranges-in-5-clause-keeps g c =
     let fault = c.in_err-ranges-in-5.field-0.0 in
-    rw (refused_by c.from_residual-in_err-ranges-in-5.result fault c.from_residual-in_err-ranges-in-5.ensures.1) (keeps_any _ fault c.args.reader.now _ c.in_err-ranges-in-5.ensures.keeps)
+    rw (refused_by c.from_residual-in_err-ranges-in-5.result fault c.from_residual-in_err-ranges-in-5.ensures.1) (keeps_any _ fault c.args.reader.now _ c.in_err-ranges-in-5.ensures.step.keeps)
 
 pub returns-in_ok-ranges-in-5-clause-keeps : goal.returns-in_ok-ranges-in-5-clause-keeps
-returns-in_ok-ranges-in-5-clause-keeps g c = c.in_ok-ranges-in-5.ensures.keeps
+returns-in_ok-ranges-in-5-clause-keeps g c = c.in_ok-ranges-in-5.ensures.step.keeps
 
 pub returns-in_err-exception-in-6-clause-keeps : goal.returns-in_err-exception-in-6-clause-keeps
 returns-in_err-exception-in-6-clause-keeps g c =
     let fault = c.in_err-exception-in-6.field-0.0 in
-    rw (refused_by c.from_residual-in_err-exception-in-6.result fault c.from_residual-in_err-exception-in-6.ensures.1) (keeps_any _ fault c.args.reader.now _ c.in_err-exception-in-6.ensures.keeps)
+    rw (refused_by c.from_residual-in_err-exception-in-6.result fault c.from_residual-in_err-exception-in-6.ensures.1) (keeps_any _ fault c.args.reader.now _ c.in_err-exception-in-6.ensures.step.keeps)
 
 pub returns-in_ok-exception-in-6-clause-keeps : goal.returns-in_ok-exception-in-6-clause-keeps
-returns-in_ok-exception-in-6-clause-keeps g c = c.in_ok-exception-in-6.ensures.keeps
+returns-in_ok-exception-in-6-clause-keeps g c = c.in_ok-exception-in-6.ensures.step.keeps
 
 pub returns-in_err-system-in-7-clause-keeps : goal.returns-in_err-system-in-7-clause-keeps
 returns-in_err-system-in-7-clause-keeps g c =
     let fault = c.in_err-system-in-7.field-0.0 in
-    rw (refused_by c.from_residual-in_err-system-in-7.result fault c.from_residual-in_err-system-in-7.ensures.1) (keeps_any _ fault c.args.reader.now _ c.in_err-system-in-7.ensures.keeps)
+    rw (refused_by c.from_residual-in_err-system-in-7.result fault c.from_residual-in_err-system-in-7.ensures.1) (keeps_any _ fault c.args.reader.now _ c.in_err-system-in-7.ensures.step.keeps)
 
 pub returns-in_ok-system-in-7-clause-keeps : goal.returns-in_ok-system-in-7-clause-keeps
-returns-in_ok-system-in-7-clause-keeps g c = c.in_ok-system-in-7.ensures.keeps
+returns-in_ok-system-in-7-clause-keeps g c = c.in_ok-system-in-7.ensures.step.keeps
 
 pub returns-in_err-ranges-in-9-clause-keeps : goal.returns-in_err-ranges-in-9-clause-keeps
 returns-in_err-ranges-in-9-clause-keeps g c =
     let fault = c.in_err-ranges-in-9.field-0.0 in
-    rw (refused_by c.from_residual-in_err-ranges-in-9.result fault c.from_residual-in_err-ranges-in-9.ensures.1) (keeps_any _ fault c.args.reader.now _ c.in_err-ranges-in-9.ensures.keeps)
+    rw (refused_by c.from_residual-in_err-ranges-in-9.result fault c.from_residual-in_err-ranges-in-9.ensures.1) (keeps_any _ fault c.args.reader.now _ c.in_err-ranges-in-9.ensures.step.keeps)
 
 pub returns-in_ok-ranges-in-9-clause-keeps : goal.returns-in_ok-ranges-in-9-clause-keeps
-returns-in_ok-ranges-in-9-clause-keeps g c = c.in_ok-ranges-in-9.ensures.keeps
+returns-in_ok-ranges-in-9-clause-keeps g c = c.in_ok-ranges-in-9.ensures.step.keeps
 
 pub returns-in_err-modules-in-14-clause-keeps : goal.returns-in_err-modules-in-14-clause-keeps
 returns-in_err-modules-in-14-clause-keeps g c =
     let fault = c.in_err-modules-in-14.field-0.0 in
-    rw (refused_by c.from_residual-in_err-modules-in-14.result fault c.from_residual-in_err-modules-in-14.ensures.1) (keeps_any _ fault c.args.reader.now _ c.in_err-modules-in-14.ensures.keeps)
+    rw (refused_by c.from_residual-in_err-modules-in-14.result fault c.from_residual-in_err-modules-in-14.ensures.1) (keeps_any _ fault c.args.reader.now _ c.in_err-modules-in-14.ensures.step.keeps)
 
 pub returns-in_ok-modules-in-14-clause-keeps : goal.returns-in_ok-modules-in-14-clause-keeps
-returns-in_ok-modules-in-14-clause-keeps g c = c.in_ok-modules-in-14.ensures.keeps
+returns-in_ok-modules-in-14-clause-keeps g c = c.in_ok-modules-in-14.ensures.step.keeps
 
 pub returns-in_err-regions-in-16-clause-keeps : goal.returns-in_err-regions-in-16-clause-keeps
 returns-in_err-regions-in-16-clause-keeps g c =
     let fault = c.in_err-regions-in-16.field-0.0 in
-    rw (refused_by c.from_residual-in_err-regions-in-16.result fault c.from_residual-in_err-regions-in-16.ensures.1) (keeps_any _ fault c.args.reader.now _ c.in_err-regions-in-16.ensures.keeps)
+    rw (refused_by c.from_residual-in_err-regions-in-16.result fault c.from_residual-in_err-regions-in-16.ensures.1) (keeps_any _ fault c.args.reader.now _ c.in_err-regions-in-16.ensures.step.keeps)
 
 pub returns-in_ok-regions-in-16-clause-keeps : goal.returns-in_ok-regions-in-16-clause-keeps
-returns-in_ok-regions-in-16-clause-keeps g c = c.in_ok-regions-in-16.ensures.keeps
+returns-in_ok-regions-in-16-clause-keeps g c = c.in_ok-regions-in-16.ensures.step.keeps
 
 pub returns-in_err-threads-in-24-clause-keeps : goal.returns-in_err-threads-in-24-clause-keeps
 returns-in_err-threads-in-24-clause-keeps g c =
     let fault = c.in_err-threads-in-24.field-0.0 in
-    rw (refused_by c.from_residual-in_err-threads-in-24.result fault c.from_residual-in_err-threads-in-24.ensures.1) (keeps_any _ fault c.args.reader.now _ c.in_err-threads-in-24.ensures.keeps)
+    rw (refused_by c.from_residual-in_err-threads-in-24.result fault c.from_residual-in_err-threads-in-24.ensures.1) (keeps_any _ fault c.args.reader.now _ c.in_err-threads-in-24.ensures.step.keeps)
 
 pub returns-in_ok-threads-in-24-clause-keeps : goal.returns-in_ok-threads-in-24-clause-keeps
-returns-in_ok-threads-in-24-clause-keeps g c = c.in_ok-threads-in-24.ensures.keeps
+returns-in_ok-threads-in-24-clause-keeps g c = c.in_ok-threads-in-24.ensures.step.keeps
 
 pub returns-in_err-next-in-0-clause-reads : goal.returns-in_err-next-in-0-clause-reads
 returns-in_err-next-in-0-clause-reads g c =
@@ -425,74 +425,74 @@ returns-in_err-next-in-0-clause-reads g c =
 pub returns-in_err-threads-in-3-clause-reads : goal.returns-in_err-threads-in-3-clause-reads
 returns-in_err-threads-in-3-clause-reads g c =
     let fault = c.in_err-threads-in-3.field-0.0 in
-    rw (refused_by c.from_residual-in_err-threads-in-3.result fault c.from_residual-in_err-threads-in-3.ensures.1) (reads_any _ [] _ _ _ (reads_as [] fault _ _ c.in_err-threads-in-3.ensures.reads))
+    rw (refused_by c.from_residual-in_err-threads-in-3.result fault c.from_residual-in_err-threads-in-3.ensures.1) (reads_any _ [] _ _ _ (reads_as [] fault _ _ c.in_err-threads-in-3.ensures.step.reads))
 
 pub returns-in_err-modules-in-4-clause-reads : goal.returns-in_err-modules-in-4-clause-reads
 returns-in_err-modules-in-4-clause-reads g c =
     let fault = c.in_err-modules-in-4.field-0.0 in
-    rw (refused_by c.from_residual-in_err-modules-in-4.result fault c.from_residual-in_err-modules-in-4.ensures.1) (reads_any _ [] _ _ _ (reads_as [] fault _ _ c.in_err-modules-in-4.ensures.reads))
+    rw (refused_by c.from_residual-in_err-modules-in-4.result fault c.from_residual-in_err-modules-in-4.ensures.1) (reads_any _ [] _ _ _ (reads_as [] fault _ _ c.in_err-modules-in-4.ensures.step.reads))
 
 pub returns-in_err-ranges-in-5-clause-reads : goal.returns-in_err-ranges-in-5-clause-reads
 returns-in_err-ranges-in-5-clause-reads g c =
     let fault = c.in_err-ranges-in-5.field-0.0 in
-    rw (refused_by c.from_residual-in_err-ranges-in-5.result fault c.from_residual-in_err-ranges-in-5.ensures.1) (reads_any _ [] _ _ _ (reads_as [] fault _ _ c.in_err-ranges-in-5.ensures.reads))
+    rw (refused_by c.from_residual-in_err-ranges-in-5.result fault c.from_residual-in_err-ranges-in-5.ensures.1) (reads_any _ [] _ _ _ (reads_as [] fault _ _ c.in_err-ranges-in-5.ensures.step.reads))
 
 pub returns-in_err-exception-in-6-clause-reads : goal.returns-in_err-exception-in-6-clause-reads
 returns-in_err-exception-in-6-clause-reads g c =
     let fault = c.in_err-exception-in-6.field-0.0 in
-    rw (refused_by c.from_residual-in_err-exception-in-6.result fault c.from_residual-in_err-exception-in-6.ensures.1) (reads_any _ [] _ _ _ (reads_as [] fault _ _ c.in_err-exception-in-6.ensures.reads))
+    rw (refused_by c.from_residual-in_err-exception-in-6.result fault c.from_residual-in_err-exception-in-6.ensures.1) (reads_any _ [] _ _ _ (reads_as [] fault _ _ c.in_err-exception-in-6.ensures.step.reads))
 
 pub returns-in_err-system-in-7-clause-reads : goal.returns-in_err-system-in-7-clause-reads
 returns-in_err-system-in-7-clause-reads g c =
     let fault = c.in_err-system-in-7.field-0.0 in
-    rw (refused_by c.from_residual-in_err-system-in-7.result fault c.from_residual-in_err-system-in-7.ensures.1) (reads_any _ [] _ _ _ (reads_as [] fault _ _ c.in_err-system-in-7.ensures.reads))
+    rw (refused_by c.from_residual-in_err-system-in-7.result fault c.from_residual-in_err-system-in-7.ensures.1) (reads_any _ [] _ _ _ (reads_as [] fault _ _ c.in_err-system-in-7.ensures.step.reads))
 
 pub returns-in_err-ranges-in-9-clause-reads : goal.returns-in_err-ranges-in-9-clause-reads
 returns-in_err-ranges-in-9-clause-reads g c =
     let fault = c.in_err-ranges-in-9.field-0.0 in
-    rw (refused_by c.from_residual-in_err-ranges-in-9.result fault c.from_residual-in_err-ranges-in-9.ensures.1) (reads_any _ [] _ _ _ (reads_as [] fault _ _ c.in_err-ranges-in-9.ensures.reads))
+    rw (refused_by c.from_residual-in_err-ranges-in-9.result fault c.from_residual-in_err-ranges-in-9.ensures.1) (reads_any _ [] _ _ _ (reads_as [] fault _ _ c.in_err-ranges-in-9.ensures.step.reads))
 
 pub returns-in_err-modules-in-14-clause-reads : goal.returns-in_err-modules-in-14-clause-reads
 returns-in_err-modules-in-14-clause-reads g c =
     let fault = c.in_err-modules-in-14.field-0.0 in
-    rw (refused_by c.from_residual-in_err-modules-in-14.result fault c.from_residual-in_err-modules-in-14.ensures.1) (reads_any _ [] _ _ _ (reads_as [] fault _ _ c.in_err-modules-in-14.ensures.reads))
+    rw (refused_by c.from_residual-in_err-modules-in-14.result fault c.from_residual-in_err-modules-in-14.ensures.1) (reads_any _ [] _ _ _ (reads_as [] fault _ _ c.in_err-modules-in-14.ensures.step.reads))
 
 pub returns-in_err-regions-in-16-clause-reads : goal.returns-in_err-regions-in-16-clause-reads
 returns-in_err-regions-in-16-clause-reads g c =
     let fault = c.in_err-regions-in-16.field-0.0 in
-    rw (refused_by c.from_residual-in_err-regions-in-16.result fault c.from_residual-in_err-regions-in-16.ensures.1) (reads_any _ [] _ _ _ (reads_as [] fault _ _ c.in_err-regions-in-16.ensures.reads))
+    rw (refused_by c.from_residual-in_err-regions-in-16.result fault c.from_residual-in_err-regions-in-16.ensures.1) (reads_any _ [] _ _ _ (reads_as [] fault _ _ c.in_err-regions-in-16.ensures.step.reads))
 
 pub returns-in_err-threads-in-24-clause-reads : goal.returns-in_err-threads-in-24-clause-reads
 returns-in_err-threads-in-24-clause-reads g c =
     let fault = c.in_err-threads-in-24.field-0.0 in
-    rw (refused_by c.from_residual-in_err-threads-in-24.result fault c.from_residual-in_err-threads-in-24.ensures.1) (reads_any _ [] _ _ _ (reads_as [] fault _ _ c.in_err-threads-in-24.ensures.reads))
+    rw (refused_by c.from_residual-in_err-threads-in-24.result fault c.from_residual-in_err-threads-in-24.ensures.1) (reads_any _ [] _ _ _ (reads_as [] fault _ _ c.in_err-threads-in-24.ensures.step.reads))
 
 pub returns-in_ok-next-in-0-clause-reads : goal.returns-in_ok-next-in-0-clause-reads
 returns-in_ok-next-in-0-clause-reads g c = reads_any _ _ _ _ _ (reads_done [] _ _ _ _ _ c.in_ok-next-in-0.ensures.reads)
 
 pub returns-in_ok-threads-in-3-clause-reads : goal.returns-in_ok-threads-in-3-clause-reads
-returns-in_ok-threads-in-3-clause-reads g c = reads_any _ _ _ _ _ (reads_done [] _ _ _ _ _ c.in_ok-threads-in-3.ensures.reads)
+returns-in_ok-threads-in-3-clause-reads g c = reads_any _ _ _ _ _ (reads_done [] _ _ _ _ _ c.in_ok-threads-in-3.ensures.step.reads)
 
 pub returns-in_ok-modules-in-4-clause-reads : goal.returns-in_ok-modules-in-4-clause-reads
-returns-in_ok-modules-in-4-clause-reads g c = reads_any _ _ _ _ _ (reads_done [] _ _ _ _ _ c.in_ok-modules-in-4.ensures.reads)
+returns-in_ok-modules-in-4-clause-reads g c = reads_any _ _ _ _ _ (reads_done [] _ _ _ _ _ c.in_ok-modules-in-4.ensures.step.reads)
 
 pub returns-in_ok-ranges-in-5-clause-reads : goal.returns-in_ok-ranges-in-5-clause-reads
-returns-in_ok-ranges-in-5-clause-reads g c = reads_any _ _ _ _ _ (reads_done [] _ _ _ _ _ c.in_ok-ranges-in-5.ensures.reads)
+returns-in_ok-ranges-in-5-clause-reads g c = reads_any _ _ _ _ _ (reads_done [] _ _ _ _ _ c.in_ok-ranges-in-5.ensures.step.reads)
 
 pub returns-in_ok-exception-in-6-clause-reads : goal.returns-in_ok-exception-in-6-clause-reads
-returns-in_ok-exception-in-6-clause-reads g c = reads_any _ _ _ _ _ (reads_done [] _ _ _ _ _ c.in_ok-exception-in-6.ensures.reads)
+returns-in_ok-exception-in-6-clause-reads g c = reads_any _ _ _ _ _ (reads_done [] _ _ _ _ _ c.in_ok-exception-in-6.ensures.step.reads)
 
 pub returns-in_ok-system-in-7-clause-reads : goal.returns-in_ok-system-in-7-clause-reads
-returns-in_ok-system-in-7-clause-reads g c = reads_any _ _ _ _ _ (reads_done [] _ _ _ _ _ c.in_ok-system-in-7.ensures.reads)
+returns-in_ok-system-in-7-clause-reads g c = reads_any _ _ _ _ _ (reads_done [] _ _ _ _ _ c.in_ok-system-in-7.ensures.step.reads)
 
 pub returns-in_ok-ranges-in-9-clause-reads : goal.returns-in_ok-ranges-in-9-clause-reads
-returns-in_ok-ranges-in-9-clause-reads g c = reads_any _ _ _ _ _ (reads_done [] _ _ _ _ _ c.in_ok-ranges-in-9.ensures.reads)
+returns-in_ok-ranges-in-9-clause-reads g c = reads_any _ _ _ _ _ (reads_done [] _ _ _ _ _ c.in_ok-ranges-in-9.ensures.step.reads)
 
 pub returns-in_ok-modules-in-14-clause-reads : goal.returns-in_ok-modules-in-14-clause-reads
-returns-in_ok-modules-in-14-clause-reads g c = reads_any _ _ _ _ _ (reads_done [] _ _ _ _ _ c.in_ok-modules-in-14.ensures.reads)
+returns-in_ok-modules-in-14-clause-reads g c = reads_any _ _ _ _ _ (reads_done [] _ _ _ _ _ c.in_ok-modules-in-14.ensures.step.reads)
 
 pub returns-in_ok-regions-in-16-clause-reads : goal.returns-in_ok-regions-in-16-clause-reads
-returns-in_ok-regions-in-16-clause-reads g c = reads_any _ _ _ _ _ (reads_done [] _ _ _ _ _ c.in_ok-regions-in-16.ensures.reads)
+returns-in_ok-regions-in-16-clause-reads g c = reads_any _ _ _ _ _ (reads_done [] _ _ _ _ _ c.in_ok-regions-in-16.ensures.step.reads)
 
 pub returns-in_ok-threads-in-24-clause-reads : goal.returns-in_ok-threads-in-24-clause-reads
-returns-in_ok-threads-in-24-clause-reads g c = reads_any _ _ _ _ _ (reads_done [] _ _ _ _ _ c.in_ok-threads-in-24.ensures.reads)
+returns-in_ok-threads-in-24-clause-reads g c = reads_any _ _ _ _ _ (reads_done [] _ _ _ _ _ c.in_ok-threads-in-24.ensures.step.reads)

@@ -1,4 +1,4 @@
-use Rattle.std.proofs.Common.{◌≡◌, ◌+◌, ◌*◌, ◌∙◌, ap, arith, inr, subst, sym, Ok, Err}
+use Rattle.std.proofs.Common.{◌≡◌, ◌+◌, ◌*◌, ◌∙◌, ap, arith, inr, rules, subst, sym, Ok, Err}
 use Rattle.mdmp_wire.specs.declared.entry.Entry.{Entry}
 use Rattle.mdmp_lister.specs.Meter.{KeepsTo}
 use Rattle.mdmp_dump.specs.declared.found_record.PartAt.{PartAt}
@@ -18,88 +18,138 @@ begin-requires g c = rw c.entry-entry.ensures.same c.requires.within
 
 pub loop-index-init : goal.loop-index-init
 loop-index-init g c =
-    let begins = subst (λ (v : WalkState). Begins v c.args.stream (Ok c.in-Ok-begin.count) c.begin.new.self) c.entry-entry.ensures.same c.in-Ok-begin.ensures in
+    let begins = subst (λ (v : WalkState). Begins v c.args.stream (Ok c.in_ok-count.count) c.begin.new.self) c.entry-entry.ensures.same c.in_ok-count.ensures in
     let part = ap (λ (p : PartAt). size_in p.size) (c.raw_part.ensures ∙ ap raw_part c.entry-entry.ensures.value) in
-    walking_begins g.row.A.Denot c.args.limit c.args.walk.now c.args.stream c.in-Ok-begin.count c.begin.new.self c.from-asks.result (c.from-asks.ensures ∙ c.size.ensures ∙ part) (omega (arith, c.from-asks.ensures, c.size.type_inv)) begins
+    walking_begins g.row.A.Denot c.args.limit c.args.walk.now c.args.stream c.in_ok-count.count c.begin.new.self c.from-asks.result (c.from-asks.ensures ∙ c.size.ensures ∙ part) (omega (arith, c.from-asks.ensures, c.size.type_inv)) begins
 
 pub loop-index-preserved : goal.loop-index-preserved
 loop-index-preserved g c =
-    walking_goes g.row.A.Denot c.args.limit c.args.walk.now c.args.stream c.in-Ok-begin.count c.loop-index.walk c.loop-index.index c.loop-index.room c.loop-index.asks c.loop-index.invariant c.next_record.new.self c.in-Ok-next_record.found c.fields-fields.result c.met_room-room.result
-    c.part_bytes-asks.result c.in-Ok-next_record.ensures c.loop-index-test.true c.fields-fields.ensures c.met_room-room.ensures c.part_bytes-asks.ensures.value c.part_bytes-asks.ensures.bound
+    walking_goes g.row.A.Denot c.args.limit c.args.walk.now c.args.stream c.in_ok-count.count c.loop-index.walk c.loop-index.index c.loop-index.room c.loop-index.asks c.loop-index.invariant c.next_record.new.self c.in_ok-found.found c.fields-fields.result c.met_room-room.result
+    c.part_bytes-asks.result c.in_ok-found.ensures c.loop-index-test.true c.fields-fields.ensures c.met_room-room.ensures c.part_bytes-asks.ensures.value c.part_bytes-asks.ensures.bound
 
 -- ---- a budget that has no room for the stream
 
-pub returns-in-Err-clause-pays : goal.returns-in-Err-clause-pays
-returns-in-Err-clause-pays g c = subst (λ (v : WalkState). PaysUpTo c.args.stream c.args.walk.now v) (sym c.entry-entry.ensures.same) (untouched_paid g.row.A.Denot c.args.limit c.args.walk.now c.args.stream)
+pub returns-in_err-keep_to_budget-clause-pays : goal.returns-in_err-keep_to_budget-clause-pays
+returns-in_err-keep_to_budget-clause-pays g c =
+    let fault = c.in_err-keep_to_budget.field-0.0 in
+    let is : c.from_residual.result ≡ Err fault = search rules in
+    rw is (subst (λ (v : WalkState). PaysUpTo c.args.stream c.args.walk.now v) (sym c.entry-entry.ensures.same) (untouched_paid g.row.A.Denot c.args.limit c.args.walk.now c.args.stream))
 
-pub returns-in-Err-clause-told : goal.returns-in-Err-clause-told
-returns-in-Err-clause-told g c = budget_told c.args.spending.budget (c.args.spending.spent + pass_cost c.entry-entry.result 0) _ _ c.in-Err.fault c.in-Err.ensures.told c.in-Err.ensures.kept
+pub returns-in_err-keep_to_budget-clause-told : goal.returns-in_err-keep_to_budget-clause-told
+returns-in_err-keep_to_budget-clause-told g c =
+    let fault = c.in_err-keep_to_budget.field-0.0 in
+    let is : c.from_residual.result ≡ Err fault = search rules in
+    rw is (budget_told c.args.spending.budget (c.args.spending.spent + pass_cost c.entry-entry.result 0) _ _ fault c.in_err-keep_to_budget.ensures.told c.in_err-keep_to_budget.ensures.kept)
 
-pub returns-in-Err-clause-of_file : goal.returns-in-Err-clause-of_file
-returns-in-Err-clause-of_file g c = λ F known. budget_refuses g.row.A.Denot c.args.limit c.args.walk.now c.args.stream c.in-Err.fault _ _ c.in-Err.ensures.told F
+pub returns-in_err-keep_to_budget-clause-of_file : goal.returns-in_err-keep_to_budget-clause-of_file
+returns-in_err-keep_to_budget-clause-of_file g c =
+    let fault = c.in_err-keep_to_budget.field-0.0 in
+    let is : c.from_residual.result ≡ Err fault = search rules in
+    rw is (λ F known. budget_refuses g.row.A.Denot c.args.limit c.args.walk.now c.args.stream fault _ _ c.in_err-keep_to_budget.ensures.told F)
 
-pub returns-in-Err-clause-fetches : goal.returns-in-Err-clause-fetches
-returns-in-Err-clause-fetches g c =
-    subst (λ (v : WalkState). Fetches {T = Walked} (Err c.in-Err.fault) c.args.walk.now.source v.source) (sym c.entry-entry.ensures.same)
-    (budget_fetches g.row.A.Denot c.args.limit c.args.walk.now c.args.stream {T = Walked} c.in-Err.fault _ _ c.args.walk.now c.in-Err.ensures.told c.requires.long (FetchesSome_none c.args.walk.now.source))
+pub returns-in_err-keep_to_budget-clause-fetches : goal.returns-in_err-keep_to_budget-clause-fetches
+returns-in_err-keep_to_budget-clause-fetches g c =
+    let fault = c.in_err-keep_to_budget.field-0.0 in
+    let is : c.from_residual.result ≡ Err fault = search rules in
+    rw is (subst (λ (v : WalkState). Fetches {T = Walked} (Err fault) c.args.walk.now.source v.source) (sym c.entry-entry.ensures.same)
+    (budget_fetches g.row.A.Denot c.args.limit c.args.walk.now c.args.stream {T = Walked} fault _ _ c.args.walk.now c.in_err-keep_to_budget.ensures.told c.requires.long (FetchesSome_none c.args.walk.now.source)))
 
-pub returns-in-Err-clause-place : goal.returns-in-Err-clause-place
-returns-in-Err-clause-place g c = λ F known.
-    place_own c.args.spending.budget c.args.spending.spent F (chosen_entry c.args.walk.now c.args.stream) c.entry-entry.result c.in-Err.fault c.entry-entry.ensures.value c.in-Err.ensures.told c.in-Err.ensures.kept
+pub returns-in_err-keep_to_budget-clause-place : goal.returns-in_err-keep_to_budget-clause-place
+returns-in_err-keep_to_budget-clause-place g c =
+    let fault = c.in_err-keep_to_budget.field-0.0 in
+    let is : c.from_residual.result ≡ Err fault = search rules in
+    rw is (λ F known.
+    place_own c.args.spending.budget c.args.spending.spent F (chosen_entry c.args.walk.now c.args.stream) c.entry-entry.result fault c.entry-entry.ensures.value c.in_err-keep_to_budget.ensures.told c.in_err-keep_to_budget.ensures.kept)
 
-pub returns-in-Err-keep_to_budget-clause-place : goal.returns-in-Err-keep_to_budget-clause-place
-returns-in-Err-keep_to_budget-clause-place g c = λ F known.
-    let begins = subst (λ (v : WalkState). Begins v c.args.stream (Ok c.in-Ok-begin.count) c.begin.new.self) c.entry-entry.ensures.same c.in-Ok-begin.ensures in
-    place_pass c.args.spending.budget c.args.spending.spent F (chosen_entry c.args.walk.now c.args.stream) c.entry-entry.result c.in-Ok-begin.count c.in-Err-keep_to_budget.fault c.entry-entry.ensures.value
-    (begins.of_file F known) c.in-Ok.ensures.kept c.in-Err-keep_to_budget.ensures.told c.in-Err-keep_to_budget.ensures.kept
+pub returns-in_err-keep_to_budget-2-clause-place : goal.returns-in_err-keep_to_budget-2-clause-place
+returns-in_err-keep_to_budget-2-clause-place g c =
+    let fault = c.in_err-keep_to_budget-2.field-0.0 in
+    let is : c.from_residual-in_err-keep_to_budget-2.result ≡ Err fault = search rules in
+    rw is (λ F known.
+    let begins = subst (λ (v : WalkState). Begins v c.args.stream (Ok c.in_ok-count.count) c.begin.new.self) c.entry-entry.ensures.same c.in_ok-count.ensures in
+    place_pass c.args.spending.budget c.args.spending.spent F (chosen_entry c.args.walk.now c.args.stream) c.entry-entry.result c.in_ok-count.count fault c.entry-entry.ensures.value
+    (begins.of_file F known) c.in_ok-keep_to_budget.ensures.kept c.in_err-keep_to_budget-2.ensures.told c.in_err-keep_to_budget-2.ensures.kept)
 
 -- ---- a stream that is not begun
 
-pub returns-in-Err-begin-clause-place : goal.returns-in-Err-begin-clause-place
-returns-in-Err-begin-clause-place g c = λ F known. rw c.in-Err-begin.ensures.told.1.0 tt
+pub returns-in_err-count-clause-place : goal.returns-in_err-count-clause-place
+returns-in_err-count-clause-place g c =
+    let fault = c.in_err-count.field-0.0 in
+    let is : c.from_residual-in_err-count.result ≡ Err fault = search rules in
+    rw is (λ F known. rw c.in_err-count.ensures.told.1.0 tt)
 
-pub returns-in-Err-begin-clause-of_file : goal.returns-in-Err-begin-clause-of_file
-returns-in-Err-begin-clause-of_file g c =
-    let begins = subst (λ (v : WalkState). Begins v c.args.stream (Err c.in-Err-begin.fault) c.begin.new.self) c.entry-entry.ensures.same c.in-Err-begin.ensures in
-    walking_unbegun g.row.A.Denot c.args.limit c.args.walk.now c.args.stream c.in-Err-begin.fault c.begin.new.self begins
+pub returns-in_err-count-clause-of_file : goal.returns-in_err-count-clause-of_file
+returns-in_err-count-clause-of_file g c =
+    let fault = c.in_err-count.field-0.0 in
+    let is : c.from_residual-in_err-count.result ≡ Err fault = search rules in
+    let begins = subst (λ (v : WalkState). Begins v c.args.stream (Err fault) c.begin.new.self) c.entry-entry.ensures.same c.in_err-count.ensures in
+    rw is (walking_unbegun g.row.A.Denot c.args.limit c.args.walk.now c.args.stream fault c.begin.new.self begins)
 
-pub returns-in-Err-begin-clause-fetches : goal.returns-in-Err-begin-clause-fetches
-returns-in-Err-begin-clause-fetches g c =
-    let begins = subst (λ (v : WalkState). Begins v c.args.stream (Err c.in-Err-begin.fault) c.begin.new.self) c.entry-entry.ensures.same c.in-Err-begin.ensures in
-    Fetches_as c.in-Err-begin.fault c.args.walk.now.source c.begin.new.self.source (begins.fetches c.requires.going)
+pub returns-in_err-count-clause-fetches : goal.returns-in_err-count-clause-fetches
+returns-in_err-count-clause-fetches g c =
+    let fault = c.in_err-count.field-0.0 in
+    let is : c.from_residual-in_err-count.result ≡ Err fault = search rules in
+    let begins = subst (λ (v : WalkState). Begins v c.args.stream (Err fault) c.begin.new.self) c.entry-entry.ensures.same c.in_err-count.ensures in
+    rw is (Fetches_as fault c.args.walk.now.source c.begin.new.self.source (begins.fetches c.requires.going))
 
 -- ---- a record that is refused
 
-pub returns-in-Err-next_record-clause-pays : goal.returns-in-Err-next_record-clause-pays
-returns-in-Err-next_record-clause-pays g c = walking_paid g.row.A.Denot c.args.limit c.args.walk.now c.args.stream c.in-Ok-begin.count c.loop-index.walk c.loop-index.index c.loop-index.room c.loop-index.asks c.loop-index.invariant c.next_record.new.self c.in-Err-next_record.fault c.in-Err-next_record.ensures c.loop-index-test.true
+pub returns-in_err-found-clause-pays : goal.returns-in_err-found-clause-pays
+returns-in_err-found-clause-pays g c =
+    let fault = c.in_err-found.field-0.0 in
+    let is : c.from_residual-in_err-found.result ≡ Err fault = search rules in
+    rw is (walking_paid g.row.A.Denot c.args.limit c.args.walk.now c.args.stream c.in_ok-count.count c.loop-index.walk c.loop-index.index c.loop-index.room c.loop-index.asks c.loop-index.invariant c.next_record.new.self fault c.in_err-found.ensures c.loop-index-test.true)
 
-pub returns-in-Err-next_record-clause-of_file : goal.returns-in-Err-next_record-clause-of_file
-returns-in-Err-next_record-clause-of_file g c = walking_refused g.row.A.Denot c.args.limit c.args.walk.now c.args.stream c.in-Ok-begin.count c.loop-index.walk c.loop-index.index c.loop-index.room c.loop-index.asks c.loop-index.invariant c.next_record.new.self c.in-Err-next_record.fault c.in-Err-next_record.ensures
+pub returns-in_err-found-clause-of_file : goal.returns-in_err-found-clause-of_file
+returns-in_err-found-clause-of_file g c =
+    let fault = c.in_err-found.field-0.0 in
+    let is : c.from_residual-in_err-found.result ≡ Err fault = search rules in
+    rw is (walking_refused g.row.A.Denot c.args.limit c.args.walk.now c.args.stream c.in_ok-count.count c.loop-index.walk c.loop-index.index c.loop-index.room c.loop-index.asks c.loop-index.invariant c.next_record.new.self fault c.in_err-found.ensures)
 
-pub returns-in-Err-next_record-clause-fetches : goal.returns-in-Err-next_record-clause-fetches
-returns-in-Err-next_record-clause-fetches g c = walking_fetches g.row.A.Denot c.args.limit c.args.walk.now c.args.stream c.in-Ok-begin.count c.loop-index.walk c.loop-index.index c.loop-index.room c.loop-index.asks c.loop-index.invariant c.next_record.new.self {T = Walked} c.in-Err-next_record.fault c.in-Err-next_record.ensures
+pub returns-in_err-found-clause-fetches : goal.returns-in_err-found-clause-fetches
+returns-in_err-found-clause-fetches g c =
+    let fault = c.in_err-found.field-0.0 in
+    let is : c.from_residual-in_err-found.result ≡ Err fault = search rules in
+    rw is (walking_fetches g.row.A.Denot c.args.limit c.args.walk.now c.args.stream c.in_ok-count.count c.loop-index.walk c.loop-index.index c.loop-index.room c.loop-index.asks c.loop-index.invariant c.next_record.new.self {T = Walked} fault c.in_err-found.ensures)
 
-pub returns-in-Err-next_record-clause-kept : goal.returns-in-Err-next_record-clause-kept
-returns-in-Err-next_record-clause-kept g c =
-    let kept = subst (λ (e : Entry). KeepsTo c.args.spending.budget (c.args.spending.spent + pass_cost e c.in-Ok-begin.count)) c.entry-entry.ensures.value c.in-Ok-keep_to_budget.ensures.kept in
-    inr (walking_keeps g.row.A.Denot c.args.limit c.args.walk.now c.args.stream c.in-Ok-begin.count c.loop-index.walk c.loop-index.index c.loop-index.room c.loop-index.asks c.loop-index.invariant c.next_record.new.self c.args.spending.budget c.args.spending.spent
-    c.in-Err-next_record.fault c.in-Err-next_record.ensures c.loop-index-test.true kept)
+pub returns-in_err-found-clause-kept : goal.returns-in_err-found-clause-kept
+returns-in_err-found-clause-kept g c =
+    let fault = c.in_err-found.field-0.0 in
+    let is : c.from_residual-in_err-found.result ≡ Err fault = search rules in
+    let kept = subst (λ (e : Entry). KeepsTo c.args.spending.budget (c.args.spending.spent + pass_cost e c.in_ok-count.count)) c.entry-entry.ensures.value c.in_ok-keep_to_budget-2.ensures.kept in
+    rw is (inr (walking_keeps g.row.A.Denot c.args.limit c.args.walk.now c.args.stream c.in_ok-count.count c.loop-index.walk c.loop-index.index c.loop-index.room c.loop-index.asks c.loop-index.invariant c.next_record.new.self c.args.spending.budget c.args.spending.spent
+    fault c.in_err-found.ensures c.loop-index-test.true kept))
 
-pub returns-in-Err-next_record-clause-place : goal.returns-in-Err-next_record-clause-place
-returns-in-Err-next_record-clause-place g c = λ F known.
-    place_walk c.args.spending.budget c.args.spending.spent F (chosen_entry c.args.walk.now c.args.stream) c.in-Err-next_record.fault c.in-Err-next_record.ensures.told
+pub returns-in_err-found-clause-place : goal.returns-in_err-found-clause-place
+returns-in_err-found-clause-place g c =
+    let fault = c.in_err-found.field-0.0 in
+    let is : c.from_residual-in_err-found.result ≡ Err fault = search rules in
+    rw is (λ F known.
+    place_walk c.args.spending.budget c.args.spending.spent F (chosen_entry c.args.walk.now c.args.stream) fault c.in_err-found.ensures.told)
 
-pub returns-in-Err-next_record-clause-told : goal.returns-in-Err-next_record-clause-told
-returns-in-Err-next_record-clause-told g c = walk_opens c.args.spending.budget c.in-Err-next_record.fault c.in-Err-next_record.ensures.told
+pub returns-in_err-found-clause-told : goal.returns-in_err-found-clause-told
+returns-in_err-found-clause-told g c =
+    let fault = c.in_err-found.field-0.0 in
+    let is : c.from_residual-in_err-found.result ≡ Err fault = search rules in
+    rw is (walk_opens c.args.spending.budget fault c.in_err-found.ensures.told)
 
-pub returns-in-Err-next_record-clause-goes : goal.returns-in-Err-next_record-clause-goes
-returns-in-Err-next_record-clause-goes g c = tt
+pub returns-in_err-found-clause-goes : goal.returns-in_err-found-clause-goes
+returns-in_err-found-clause-goes g c =
+    let fault = c.in_err-found.field-0.0 in
+    let is : c.from_residual-in_err-found.result ≡ Err fault = search rules in
+    rw is tt
 
-pub returns-in-Err-next_record-clause-counts : goal.returns-in-Err-next_record-clause-counts
-returns-in-Err-next_record-clause-counts g c = tt
+pub returns-in_err-found-clause-counts : goal.returns-in_err-found-clause-counts
+returns-in_err-found-clause-counts g c =
+    let fault = c.in_err-found.field-0.0 in
+    let is : c.from_residual-in_err-found.result ≡ Err fault = search rules in
+    rw is tt
 
-pub returns-in-Err-next_record-clause-bare : goal.returns-in-Err-next_record-clause-bare
-returns-in-Err-next_record-clause-bare g c = tt
+pub returns-in_err-found-clause-bare : goal.returns-in_err-found-clause-bare
+returns-in_err-found-clause-bare g c =
+    let fault = c.in_err-found.field-0.0 in
+    let is : c.from_residual-in_err-found.result ≡ Err fault = search rules in
+    rw is tt
 
 pub next_record-requires : goal.next_record-requires
 next_record-requires g c = omega (arith, c.loop-index-test.true, c.loop-index.invariant.left)
@@ -111,19 +161,19 @@ loop-index-smaller g c = omega (arith, c.loop-index-test.true)
 
 pub returns-clause-pays : goal.returns-clause-pays
 returns-clause-pays g c =
-    let all : c.loop-index.index ≡ c.in-Ok-begin.count = omega (arith, c.loop-index-test.false, c.loop-index.auto.index-end) in
+    let all : c.loop-index.index ≡ c.in_ok-count.count = omega (arith, c.loop-index-test.false, c.loop-index.auto.index-end) in
     let w = c.args.walk.now in
     let e = (chosen_entry w c.args.stream).entry in
     subst (λ n. Pays (listed e) (n * name_cost e.stream_type) w c.loop-index.walk) all c.loop-index.invariant.pays
 
 pub returns-clause-of_file : goal.returns-clause-of_file
 returns-clause-of_file g c =
-    let all : c.loop-index.index ≡ c.in-Ok-begin.count = omega (arith, c.loop-index-test.false, c.loop-index.auto.index-end) in
-    walking_ends g.row.A.Denot c.args.limit c.args.walk.now c.args.stream c.in-Ok-begin.count c.loop-index.walk c.loop-index.index c.loop-index.room c.loop-index.asks c.cost_of.result c.loop-index.invariant all
+    let all : c.loop-index.index ≡ c.in_ok-count.count = omega (arith, c.loop-index-test.false, c.loop-index.auto.index-end) in
+    walking_ends g.row.A.Denot c.args.limit c.args.walk.now c.args.stream c.in_ok-count.count c.loop-index.walk c.loop-index.index c.loop-index.room c.loop-index.asks c.cost_of.result c.loop-index.invariant all
 
 pub returns-clause-bare : goal.returns-clause-bare
 returns-clause-bare g c =
-    let all : c.loop-index.index ≡ c.in-Ok-begin.count = omega (arith, c.loop-index-test.false, c.loop-index.auto.index-end) in
+    let all : c.loop-index.index ≡ c.in_ok-count.count = omega (arith, c.loop-index-test.false, c.loop-index.auto.index-end) in
     λ none. c.loop-index.invariant.bare (subst (λ n. GivesNone (kind_at c.args.walk.now c.args.stream) n) (sym all) none)
 
 pub returns-clause-goes : goal.returns-clause-goes

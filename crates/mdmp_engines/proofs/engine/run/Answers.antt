@@ -6,18 +6,14 @@ use Rattle.mdmp_engines.proofs.engine.run.Goals as goal
 pub returns-clause-runs : goal.returns-clause-runs
 returns-clause-runs g c = λ file known. c.run_source-answer.ensures.runs file (rw c.new.ensures.store known)
 
-pub returns-clause-budget : goal.returns-clause-budget
-returns-clause-budget g c =
+pub returns-clause-limits : goal.returns-clause-limits
+returns-clause-limits g c =
     let of = c.run_source-answer.ensures in
-    rw (c.new.ensures.size, c.new.ensures.store) at (may_reach _ c.new.result _ _ of.reads.fetches.fetches.same_size of.through)
-
-pub returns-clause-aside : goal.returns-clause-aside
-returns-clause-aside g c =
-    let of = c.run_source-answer.ensures in
-    rw (c.new.ensures.size, c.new.ensures.store) at (may_reach_aside _ c.new.result _ _ of.reads.fetches.fetches.same_size of.through)
-
-pub returns-clause-memory : goal.returns-clause-memory
-returns-clause-memory g c = may_reach_memory _ c.new.result _ _ c.run_source-answer.ensures.through
+    record {
+      budget = rw (c.new.ensures.size, c.new.ensures.store) at (may_reach _ c.new.result _ _ of.reads.fetches.fetches.same_size of.through);
+      memory = may_reach_memory _ c.new.result _ _ of.through;
+      aside = rw (c.new.ensures.size, c.new.ensures.store) at (may_reach_aside _ c.new.result _ _ of.reads.fetches.fetches.same_size of.through);
+    }
 
 pub returns-clause-read : goal.returns-clause-read
 returns-clause-read g c =

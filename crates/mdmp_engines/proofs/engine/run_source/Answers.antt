@@ -15,6 +15,7 @@ use Rattle.mdmp_engines.specs.Engines.{IsBehind, Runs, Tells, directly, unless_r
 use Rattle.mdmp_engines.specs.ReadThrough.{Access, IsReadThrough}
 use Rattle.mdmp_engines.specs.declared.fault.ToolFault.{ToolFault}
 use Rattle.mdmp_engines.proofs.Besides.{run_opened}
+use Rattle.mdmp_lister.proofs.OutOfMemory.{out_of_memory-allowed}
 use Rattle.mdmp_engines.proofs.SameRuns.{budget_cause, budget_entry, early_opening, kept_leaving, memory_opening, next_leaving, over_opening, run_within}
 use Rattle.mdmp_engines.proofs.engine.run_source.Goals as goal
 
@@ -75,13 +76,14 @@ returns-in-Err-clause-through g c =
     let beside = c.beside-beside.result in
     let access : Access = record { limits = c.args.limits; choice = g.E.Engine.choice; pace = g.E.Engine.pace; held = g.E.Engine.held c.args.engine; aside = g.E.Engine.aside c.args.engine; beside = g.E.Engine.reads c.args.engine } in
     let memory = memory_opening g.row.E-Answer.Denot c.args.limits g.E.Engine.choice beside c.args.source c.in-Err.refused.fault c.in-Err.refused.source (search rules) (search rules)
-    (rw c.leave_memory.ensures at c.in-Err.ensures.refused.over) (λ file known. rw (c.leave_memory.ensures, c.chosen.ensures) at (c.in-Err.ensures.within file known)) in
+    (rw c.leave_memory.ensures at c.in-Err.ensures.refused.over) (λ file known. rw (c.leave_memory.ensures, c.chosen.ensures) at (c.in-Err.ensures.within file known))
+    (rw (c.leave_memory.ensures, c.chosen.ensures) at (out_of_memory-allowed _ _ _ _ _ _ _ c.in-Err.ensures.lacks c.in-Err.ensures.refused.memory)) in
     subst (λ (f : ToolFault). IsReadThrough {T = g.row.E-Answer.Denot} access c.args.source (Err f) c.in-Err.refused.source) (sym c.refused_beside.ensures)
     (IsReadThrough.refused c.in-Err.refused.fault (early_opening g.row.E-Answer.Denot beside c.in-Err.refused.fault)
     (over_opening g.row.E-Answer.Denot beside g.E.Engine.choice c.args.limits c.args.source c.in-Err.refused.fault c.in-Err.refused.source
     (kept_leaving beside c.args.limits c.args.source c.in-Err.refused.fault c.in-Err.refused.source (rw c.leave_memory.ensures at c.in-Err.ensures.refused.fetches.kept))
     (next_leaving (Some g.E.Engine.choice) beside c.args.limits c.args.source c.in-Err.refused.fault c.in-Err.refused.source (rw (c.leave_memory.ensures, c.chosen.ensures) at c.in-Err.ensures.refused.fetches.next)))
-    (subst (λ (n : ℕ). HasMemoryCause {T = g.row.E-Answer.Denot} c.args.limits g.E.Engine.choice n c.args.source (Err (opening_beside beside c.in-Err.refused.fault))) c.beside-beside.ensures memory)
+    (subst (λ (n : ℕ). HasMemoryCause {T = g.row.E-Answer.Denot} c.args.limits g.E.Engine.choice n c.args.source (Err (opening_beside beside c.in-Err.refused.fault)) c.in-Err.refused.source) c.beside-beside.ensures memory)
     (rw c.chosen.ensures at back) (inl (ap (λ (n : ℕ). Err (opening_beside n c.in-Err.refused.fault)) c.beside-beside.ensures)))
 
 pub returns-clause-through : goal.returns-clause-through

@@ -1,4 +1,4 @@
 use Rattle.mdmp_engines.proofs.hex.run_hex.Goals as goal
 
 pub returns : goal.returns
-returns g c = record { hexes = c.run.ensures.runs; tells = c.run.ensures.tells; budget = c.run.ensures.budget; memory = c.run.ensures.memory; aside = c.run.ensures.aside; read = c.run.ensures.read }
+returns g c = record { hexes = c.run.ensures.runs; tells = c.run.ensures.tells; limits = c.run.ensures.limits; read = c.run.ensures.read }

@@ -1,4 +1,4 @@
-use Rattle.std.proofs.Common.{◌≡◌, ◌∙◌, ◌+◌, ◌++◌, ◌-◌, [], Ok, Err, ap, arith, refl}
+use Rattle.std.proofs.Common.{rules, ◌≡◌, ◌∙◌, ◌+◌, ◌++◌, ◌-◌, [], Ok, Err, ap, arith, refl}
 use Rattle.mdmp_wire.specs.declared.header.Header.{Header}
 use Rattle.mdmp_lister.specs.Format.Listing.{entry_count}
 use Rattle.mdmp_lister.proofs.Fetches.{FetchesAtMost-none, FetchesAtMost-within}
@@ -32,7 +32,7 @@ entries-preserved g c =
     let old = c.args.lister.now in
     let now = c.entries.lister in
     let new = c.check_run.new.lister in
-    let of = rw c.in-Ok-true.field-0-test at c.in-Ok-true.ensures in
+    let of = rw c.if-not-more.false at c.in_ok-more.ensures in
     let told = of.rows in
     let leaves = of.leaves in
     let unread = leaves.unread refl in
@@ -59,10 +59,10 @@ entries-preserved g c =
 
 -- ---- the end
 
-pub returns-in-Ok-false-clause-rows : goal.returns-in-Ok-false-clause-rows
-returns-in-Ok-false-clause-rows g c =
+pub returns-then-not-more-clause-rows : goal.returns-then-not-more-clause-rows
+returns-then-not-more-clause-rows g c =
     let so_far = c.entries.invariant in
-    let told = (rw c.in-Ok-false.field-0-test at c.in-Ok-false.ensures).rows in
+    let told = (rw c.if-not-more.true at c.in_ok-more.ensures).rows in
     record {
       rows = so_far.rows ++ told.rows;
       items = so_far.items ++ told.items;
@@ -77,27 +77,29 @@ returns-in-Ok-false-clause-rows g c =
       fetches = fetches_on c.args.lister.now c.entries.lister c.check_run.new.lister (Ok tt) so_far.items told.items so_far.rows told.rows so_far.fetches so_far.unread so_far.same.limit told.fetches;
     }
 
-pub returns-in-Ok-false-clause-leaves : goal.returns-in-Ok-false-clause-leaves
-returns-in-Ok-false-clause-leaves g c = record {
+pub returns-then-not-more-clause-leaves : goal.returns-then-not-more-clause-leaves
+returns-then-not-more-clause-leaves g c = record {
   ends = record { next = tt; chosen = λ _. tt; names = tt };
   names = λ file known.
       let so_far = c.entries.invariant in
-      let told = (rw c.in-Ok-false.field-0-test at c.in-Ok-false.ensures).rows in
+      let told = (rw c.if-not-more.true at c.in_ok-more.ensures).rows in
       let on = so_far.checks file known in
       names_end file c.args.lister.now.limit c.args.lister.now c.entries.lister c.check_run.new.lister so_far.rows so_far.items c.entries.counter on told.items told.rows (told.gives _ on.counts.left);
-  same = same_lister-then c.args.lister.now c.entries.lister c.check_run.new.lister c.entries.invariant.same c.in-Ok-false.ensures.leaves.same;
+  same = same_lister-then c.args.lister.now c.entries.lister c.check_run.new.lister c.entries.invariant.same c.in_ok-more.ensures.leaves.same;
 }
 
 -- ---- an early end
 
-pub returns-in-Err-clause-rows : goal.returns-in-Err-clause-rows
-returns-in-Err-clause-rows g c =
+pub returns-in_err-more-clause-rows : goal.returns-in_err-more-clause-rows
+returns-in_err-more-clause-rows g c =
     let so_far = c.entries.invariant in
-    let told = c.in-Err.ensures.rows in
-    record {
+    let told = c.in_err-more.ensures.rows in
+    let fault = c.in_err-more.field-0.0 in
+    let is : c.from_residual.result ≡ Err fault = search rules in
+    rw is (record {
       rows = so_far.rows ++ told.rows;
       items = so_far.items ++ told.items;
-      handed = handed_then g.K.CheckRowSink.step (Err c.in-Err.fault) so_far.rows told.rows c.args.maker.now.sink.now c.entries.maker.sink.now c.check_run.new.maker.sink.now so_far.taken told.handed;
+      handed = handed_then g.K.CheckRowSink.step (Err fault) so_far.rows told.rows c.args.maker.now.sink.now c.entries.maker.sink.now c.check_run.new.maker.sink.now so_far.taken told.handed;
       of_file = λ file known.
           let on = so_far.checks file known in
           rows_early file c.args.lister.now.limit c.args.lister.now c.entries.lister c.check_run.new.lister so_far.rows so_far.items c.entries.counter on told.items told.rows (told.gives _ on.counts.left);
@@ -106,25 +108,29 @@ returns-in-Err-clause-rows g c =
           read_early file c.args.lister.now.limit c.args.lister.now c.entries.lister c.check_run.new.lister so_far.rows so_far.items c.entries.counter on told.items told.rows (told.gives _ on.counts.left);
       named = names_more so_far.items told.items _ _ _ so_far.named told.named;
       fetches =
-          fetches_on c.args.lister.now c.entries.lister c.check_run.new.lister (Err c.in-Err.fault) so_far.items told.items so_far.rows told.rows so_far.fetches so_far.unread so_far.same.limit told.fetches;
-    }
+          fetches_on c.args.lister.now c.entries.lister c.check_run.new.lister (Err fault) so_far.items told.items so_far.rows told.rows so_far.fetches so_far.unread so_far.same.limit told.fetches;
+    })
 
-pub returns-in-Err-clause-leaves : goal.returns-in-Err-clause-leaves
-returns-in-Err-clause-leaves g c =
+pub returns-in_err-more-clause-leaves : goal.returns-in_err-more-clause-leaves
+returns-in_err-more-clause-leaves g c =
     let so_far = c.entries.invariant in
-    let of = c.in-Err.ensures.leaves in
-    let told = c.in-Err.ensures.rows in
-    record {
+    let of = c.in_err-more.ensures.leaves in
+    let told = c.in_err-more.ensures.rows in
+    let fault = c.in_err-more.field-0.0 in
+    let is : c.from_residual.result ≡ Err fault = search rules in
+    rw is (record {
       ends = record { next = of.ends.next; chosen = λ in_chosen. of.ends.chosen (so_far.stands in_chosen); names = of.ends.names };
       names = λ file known.
           let on = so_far.checks file known in
           names_early file c.args.lister.now.limit c.args.lister.now c.entries.lister c.check_run.new.lister so_far.rows so_far.items c.entries.counter on told.items told.rows (told.gives _ on.counts.left);
       same = same_lister-then c.args.lister.now c.entries.lister c.check_run.new.lister so_far.same of.same;
-    }
+    })
 
-pub returns-in-Err-clause-told : goal.returns-in-Err-clause-told
-returns-in-Err-clause-told g c =
-    told_later _ c.args.lister.now c.entries.lister c.check_run.new.lister c.in-Err.fault c.entries.invariant.fetches c.in-Err.ensures.told
+pub returns-in_err-more-clause-told : goal.returns-in_err-more-clause-told
+returns-in_err-more-clause-told g c =
+    let fault = c.in_err-more.field-0.0 in
+    let is : c.from_residual.result ≡ Err fault = search rules in
+    rw is (told_later _ c.args.lister.now c.entries.lister c.check_run.new.lister fault c.entries.invariant.fetches c.in_err-more.ensures.told)
 
 -- ---- after as many runs as there may be
 

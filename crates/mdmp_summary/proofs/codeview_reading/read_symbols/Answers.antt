@@ -9,21 +9,21 @@ use Rattle.mdmp_summary.specs.Symbols.{TellsSymbols}
 use Rattle.mdmp_summary.specs.declared.codeview_reading.SymbolsRead.{SymbolsRead}
 use Rattle.mdmp_summary.proofs.codeview_reading.read_symbols.Goals as goal
 
-pub returns-in-Ok-read_rest-clause-gives : goal.returns-in-Ok-read_rest-clause-gives
-returns-in-Ok-read_rest-clause-gives g c =
+pub returns-in_ok-rest-in-Inside-clause-gives : goal.returns-in_ok-rest-in-Inside-clause-gives
+returns-in_ok-rest-in-Inside-clause-gives g c =
     let at = c.args.at in
     let room = length c.args.buffer.now in
     let front = c.read_part.new.out in
     let past = drop c.min-fetched.result (replicate 24 0) in
     let count : c.min-fetched.result ≡ min at.size 24 = omega (arith, c.min-fetched.ensures) in
     let long : length front ≡ min at.size 24 = search rules in
-    let read : SymbolsRead = record { head = front ++ past; rest = c.in-Ok-read_rest.rest; size = at.size } in
+    let read : SymbolsRead = record { head = front ++ past; rest = c.in_ok-rest-in-Inside.rest; size = at.size } in
     let fetched : AreFetched at room read.head read.rest read.size = record {
       size_is = refl;
       zeros =
           let left : 24 - c.min-fetched.result ≡ 24 - at.size = omega (arith, count) in
           front-past front past (min at.size 24) long ∙ drop-replicate c.min-fetched.result 24 0 ∙ ap (λ n. replicate n 0) left;
-      rest_is = subst (λ n. c.in-Ok-read_rest.rest ≡ fetched_behind (take n (front ++ past)) at.size room) count c.in-Ok-read_rest.ensures.count;
+      rest_is = subst (λ n. c.in_ok-rest-in-Inside.rest ≡ fetched_behind (take n (front ++ past)) at.size room) count c.in_ok-rest-in-Inside.ensures.count;
     } in
     let inside : Inside ≡ extent_of at c.args.walker.now.list.source.size = subst (λ n. Inside ≡ extent_of at n) c.size.ensures.value c.in-Inside.ensures in
     subst (λ (e : Extent). TellsSymbols e at room (Ok (Some read))) inside fetched

@@ -33,5 +33,12 @@ loop-index-preserved c = record {
   to = omega arith;
 }
 
-pub returns-clause-text : goal.returns-clause-text
-returns-clause-text c = text_run _ _ _ c.args.start c.loop-index.index c.args.end (c.args.end - c.loop-index.index) (units_of c.args.bytes.now) (omega arith) (omega arith) c.loop-index.invariant.text c.escape_last.ensures.text
+pub returns : goal.returns
+returns c =
+    let last = c.escape_last.ensures in
+    let before = c.loop-index.invariant in
+    record {
+      text = text_run _ _ _ c.args.start c.loop-index.index c.args.end (c.args.end - c.loop-index.index) (units_of c.args.bytes.now) (omega arith) (omega arith) before.text last.text;
+      within = omega (arith, last.within, before.within, before.from, before.to);
+      same = last.same ∙ c.loop-index.auto.text;
+    }

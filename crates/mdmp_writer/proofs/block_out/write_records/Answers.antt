@@ -9,7 +9,7 @@ use Rattle.mdmp_writer.specs.Layout.{block_size}
 use Rattle.mdmp_writer.specs.Passes.{parts_asks, parts_passes}
 use Rattle.mdmp_writer.specs.Written.{all_padded, block_text, head_by_kind, padding, parts_of, rows}
 use Rattle.mdmp_writer.proofs.Blocks.{block_known, known_size}
-use Rattle.mdmp_writer.proofs.Causes.{uses_out, uses_sent, uses_then, uses_within}
+use Rattle.mdmp_writer.proofs.Causes.{handed, uses_out, uses_sent, uses_then, uses_within}
 use Rattle.mdmp_writer.proofs.Counting.{ok_is, ok_then, some_is, some_of, some_then}
 use Rattle.mdmp_writer.proofs.Placing.{length-padding}
 use Rattle.mdmp_writer.proofs.Sending.{cut_before, cut_behind, cut_same, puts_puts, writes_same, writes_then}
@@ -37,55 +37,55 @@ is_block g c x known =
     block_known s x k t c.of_type-kind.result c.args.place.at c.args.place.far c.args.room.body c.count_of-count.result (c.args.place.at + c.next_multiple_of.result)
     (g.met.V.DumpView.sound c.args.view.now x known) c.requires.kind c.of_type-kind.ensures (room_body (stream_at s k) c.args.room c.requires.room) (counted g c) (omega (arith, c.next_multiple_of.ensures.value))
 
-pub returns-in-Ok-write_padding-clause-writes : goal.returns-in-Ok-write_padding-clause-writes
-returns-in-Ok-write_padding-clause-writes g c x known =
+pub returns-clause-writes : goal.returns-clause-writes
+returns-clause-writes g c x known =
     let state = g.O.Out.state in
     let zeros = padding c.args.room.body in
     writes_same c.write_stream_parts.result (gathered (state c.args.out.now) c.args.gather.now) (gathered (state c.write_stream_parts.new.out) c.write_stream_parts.new.gather) _ _
-    (is_block g (goal.at.returns-in-Ok-write_padding-clause-writes g c).After-write_body x known)
+    (is_block g (goal.at.returns-clause-writes g c).After-write_body x known)
     (writes_then c.write_stream_parts.result _ _ _ (_ ++ zeros) (all_padded (parts_of (seen_at x c.args.stream).records))
-    (puts_puts _ _ _ _ zeros (c.in-Ok.ensures.writes x known) c.in-Ok-write_padding.ensures.writes)
+    (puts_puts _ _ _ _ zeros (c.in_ok-write_body.ensures.writes x known) c.in_ok-write_padding.ensures.writes)
     (c.write_stream_parts.ensures.writes x (ap (λ (s : ViewShape). s.seen) c.write_body.ensures.uses.shape ∙ known)))
 
-pub returns-in-Err-write_padding-clause-writes : goal.returns-in-Err-write_padding-clause-writes
-returns-in-Err-write_padding-clause-writes g c x known =
-    cut_same _ _ _ _ (is_block g (goal.at.returns-in-Err-write_padding-clause-writes g c).After-write_body x known)
-    (cut_before _ _ _ _ (cut_behind _ _ _ _ (padding c.args.room.body) (c.in-Ok.ensures.writes x known) c.in-Err-write_padding.ensures.writes))
+pub returns-in_err-write_padding-clause-writes : goal.returns-in_err-write_padding-clause-writes
+returns-in_err-write_padding-clause-writes g c x known =
+    rw (handed c.from_residual-in_err-write_padding.result _ c.from_residual-in_err-write_padding.ensures.1) (cut_same _ _ _ _ (is_block g (goal.at.returns-in_err-write_padding-clause-writes g c).After-write_body x known)
+    (cut_before _ _ _ _ (cut_behind _ _ _ _ (padding c.args.room.body) (c.in_ok-write_body.ensures.writes x known) c.in_err-write_padding.ensures.writes)))
 
-pub returns-in-Err-clause-writes : goal.returns-in-Err-clause-writes
-returns-in-Err-clause-writes g c x known =
-    cut_same _ _ _ _ (is_block g (goal.at.returns-in-Err-clause-writes g c).After-write_body x known)
-    (cut_before _ _ _ _ (cut_before _ _ _ (padding c.args.room.body) (c.in-Err.ensures.writes x known)))
+pub returns-in_err-write_body-clause-writes : goal.returns-in_err-write_body-clause-writes
+returns-in_err-write_body-clause-writes g c x known =
+    rw (handed c.from_residual.result _ c.from_residual.ensures.1) (cut_same _ _ _ _ (is_block g (goal.at.returns-in_err-write_body-clause-writes g c).After-write_body x known)
+    (cut_before _ _ _ _ (cut_before _ _ _ (padding c.args.room.body) (c.in_err-write_body.ensures.writes x known))))
 
-pub returns-in-Ok-write_padding-clause-some : goal.returns-in-Ok-write_padding-clause-some
-returns-in-Ok-write_padding-clause-some g c =
+pub returns-clause-some : goal.returns-clause-some
+returns-clause-some g c =
     let s = stream_at (g.V.DumpView.shape c.args.view.now) c.args.stream in
     let t = c.args.stream_type in
     let kind = c.of_type-kind.result in
     let size = c.args.room.body in
     let told : size ≡ body_of s = room_body s c.args.room c.requires.room in
-    let count = counted g (goal.at.returns-in-Ok-write_padding-clause-some g c).After-write_body in
+    let count = counted g (goal.at.returns-clause-some g c).After-write_body in
     let body : head_by kind + c.count_of-count.result * row_by kind ≡ size =
     ap (λ (m : ℕ). head_by kind + m * row_by kind) count ∙ ap (λ (o : Option StreamKind). head_by o + s.records * row_by o) c.of_type-kind.ensures ∙ sym (known_size s t c.requires.kind) ∙ sym told in
     let rest = length (padding size) in
     let whole : size + rest ≡ up (body_of s) = length-padding size ∙ ap up told in
-    let front = some_then _ _ _ size rest (some_is _ _ _ size body (c.in-Ok.ensures.some t c.requires.kind c.of_type-kind.ensures)) (some_of _ _ (padding size) rest c.in-Ok-write_padding.ensures.writes refl) in
+    let front = some_then _ _ _ size rest (some_is _ _ _ size body (c.in_ok-write_body.ensures.some t c.requires.kind c.of_type-kind.ensures)) (some_of _ _ (padding size) rest c.in_ok-write_padding.ensures.writes refl) in
     ok_then c.write_stream_parts.result _ _ _ (size + rest) (room_of s) (block_size s) (ap (λ (m : ℕ). m + room_of s) whole) front
     (ok_is c.write_stream_parts.result _ _ _ _ (ap (λ (u : ViewShape). room_of (stream_at u c.args.stream)) c.write_body.ensures.uses.shape) c.write_stream_parts.ensures.some)
 
-pub returns-in-Ok-write_padding-clause-uses : goal.returns-in-Ok-write_padding-clause-uses
-returns-in-Ok-write_padding-clause-uses g c =
+pub returns-clause-uses : goal.returns-clause-uses
+returns-clause-uses g c =
     let k = c.args.stream in
     let same = c.write_body.ensures.uses.shape in
-    uses_then (uses_sent c.in-Ok.ensures.uses c.in-Ok-write_padding.ensures.cause) c.write_stream_parts.ensures.uses
+    uses_then (uses_sent c.in_ok-write_body.ensures.uses c.in_ok-write_padding.ensures.cause) c.write_stream_parts.ensures.uses
     (omega (arith, ap (λ (u : ViewShape). parts_passes u k) same)) (omega (arith, ap (λ (u : ViewShape). parts_asks u k) same))
 
-pub returns-in-Err-write_padding-clause-uses : goal.returns-in-Err-write_padding-clause-uses
-returns-in-Err-write_padding-clause-uses g c =
-    uses_within (uses_out c.in-Ok.ensures.uses c.in-Err-write_padding.ensures.cause) (omega arith) (omega arith)
+pub returns-in_err-write_padding-clause-uses : goal.returns-in_err-write_padding-clause-uses
+returns-in_err-write_padding-clause-uses g c =
+    rw (handed c.from_residual-in_err-write_padding.result _ c.from_residual-in_err-write_padding.ensures.1) (uses_within (uses_out c.in_ok-write_body.ensures.uses c.in_err-write_padding.ensures.cause) (omega arith) (omega arith))
 
-pub returns-in-Err-clause-uses : goal.returns-in-Err-clause-uses
-returns-in-Err-clause-uses g c = uses_within c.in-Err.ensures.uses (omega arith) (omega arith)
+pub returns-in_err-write_body-clause-uses : goal.returns-in_err-write_body-clause-uses
+returns-in_err-write_body-clause-uses g c = rw (handed c.from_residual.result _ c.from_residual.ensures.1) (uses_within c.in_err-write_body.ensures.uses (omega arith) (omega arith))
 
 pub write_body-requires-clause-count : goal.write_body-requires-clause-count
 write_body-requires-clause-count g c =
@@ -98,5 +98,5 @@ write_stream_parts-requires-clause-parts g c =
     let k = c.args.stream in
     room_parts (stream_at (g.V.DumpView.shape c.args.view.now) k) c.args.room c.requires.room ∙ ap (λ (u : ViewShape). room_of (stream_at u k)) (sym c.write_body.ensures.uses.shape)
 
-pub returns-in-Ok-write_padding-clause-moves : goal.returns-in-Ok-write_padding-clause-moves
-returns-in-Ok-write_padding-clause-moves g c = g.met.V.DumpView.follows _ _ _ c.in-Ok.ensures.moves c.write_stream_parts.ensures.moves
+pub returns-clause-moves : goal.returns-clause-moves
+returns-clause-moves g c = g.met.V.DumpView.follows _ _ _ c.in_ok-write_body.ensures.moves c.write_stream_parts.ensures.moves

@@ -4,6 +4,7 @@ use Rattle.mdmp_writer.specs.Layout.{IsRoom, block_size, far_size}
 use Rattle.mdmp_writer.proofs.Sending.{left_begin, left_none}
 use Rattle.mdmp_writer.proofs.Streaming.{directory_none, entry_cut, entry_is, entry_put}
 use Rattle.mdmp_writer.proofs.Sums.{blocks_next, ends_below, far_within, room_block, room_body}
+use Rattle.mdmp_writer.proofs.Causes.{handed}
 use Rattle.mdmp_writer.proofs.head_out.write_directory.Goals as goal
 
 pub loop-stream-init : goal.loop-stream-init
@@ -53,14 +54,14 @@ overflow_add-at g c =
     let is : IsRoom (stream_at s k) (Some c.room_for-room.result) = subst (λ (t : ViewShape). IsRoom (stream_at t k) (Some c.room_for-room.result)) c.loop-stream.invariant.shape c.room_for-room.ensures.room in
     omega (arith, c.block-at.ensures, room_block (stream_at s k) c.room_for-room.result is, ends_below s k c.loop-stream.at fewer c.loop-stream.invariant.at, c.requires.low)
 
-pub returns-in-Err-clause-writes : goal.returns-in-Err-clause-writes
-returns-in-Err-clause-writes g c =
+pub returns-in_err-write_record-clause-writes : goal.returns-in_err-write_record-clause-writes
+returns-in_err-write_record-clause-writes g c =
     let s = g.V.DumpView.shape c.args.view.now in
     let k = c.loop-stream.stream in
     let at = c.loop-stream.at in
     let fewer : k < length s.streams = omega (arith, c.loop-stream-test.true, c.streams-stream-end.ensures.count) in
     let is : IsRoom (stream_at s k) (Some c.room_for-room.result) = subst (λ (t : ViewShape). IsRoom (stream_at t k) (Some c.room_for-room.result)) c.loop-stream.invariant.shape c.room_for-room.ensures.room in
-    entry_cut s k at c.entry_at.result _ _ _ _ fewer (entry_is (stream_at s k) c.room_for-room.result at c.entry_at.result is c.entry_at.ensures) c.loop-stream.invariant.left c.in-Err.ensures.writes
+    rw (handed c.from_residual.result _ c.from_residual.ensures.1) (entry_cut s k at c.entry_at.result _ _ _ _ fewer (entry_is (stream_at s k) c.room_for-room.result at c.entry_at.result is c.entry_at.ensures) c.loop-stream.invariant.left c.in_err-write_record.ensures.writes)
 
 pub loop-stream-preserved : goal.loop-stream-preserved
 loop-stream-preserved g c =
@@ -74,9 +75,9 @@ loop-stream-preserved g c =
       shape = c.room_for-room.ensures.shape ∙ c.loop-stream.invariant.shape;
       spent = c.room_for-room.ensures.spent ∙ c.loop-stream.invariant.spent;
       moves = g.met.V.DumpView.follows _ _ _ c.loop-stream.invariant.moves c.room_for-room.ensures.moves;
-      steady = c.in-Ok.ensures.cause ∙ c.loop-stream.invariant.steady;
+      steady = c.in_ok-write_record.ensures.cause ∙ c.loop-stream.invariant.steady;
       at = omega (arith, block, blocks_next s k fewer, c.loop-stream.invariant.at);
-      left = entry_put s k at _ c.entry_at.result _ _ _ _ fewer (entry_is (stream_at s k) c.room_for-room.result at c.entry_at.result is c.entry_at.ensures) (ap (λ (n : ℕ). at + n) block) c.loop-stream.invariant.left c.in-Ok.ensures.writes;
+      left = entry_put s k at _ c.entry_at.result _ _ _ _ fewer (entry_is (stream_at s k) c.room_for-room.result at c.entry_at.result is c.entry_at.ensures) (ap (λ (n : ℕ). at + n) block) c.loop-stream.invariant.left c.in_ok-write_record.ensures.writes;
     }
 
 pub returns-clause-writes : goal.returns-clause-writes
@@ -85,5 +86,5 @@ returns-clause-writes g c =
     let past : length s.streams ≤ c.loop-stream.stream = omega (arith, c.loop-stream-test.false, c.streams-stream-end.ensures.count) in
     left_none _ _ _ _ (directory_none s c.loop-stream.stream c.loop-stream.at past) c.loop-stream.invariant.left
 
-pub returns-in-Err-clause-moves : goal.returns-in-Err-clause-moves
-returns-in-Err-clause-moves g c = g.met.V.DumpView.follows _ _ _ c.loop-stream.invariant.moves c.room_for-room.ensures.moves
+pub returns-in_err-write_record-clause-moves : goal.returns-in_err-write_record-clause-moves
+returns-in_err-write_record-clause-moves g c = g.met.V.DumpView.follows _ _ _ c.loop-stream.invariant.moves c.room_for-room.ensures.moves

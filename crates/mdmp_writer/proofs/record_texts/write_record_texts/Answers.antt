@@ -1,9 +1,10 @@
-use Rattle.std.proofs.Common.{◌≡◌, ◌<◌, ◌^◌, ◌-◌, ◌+◌, ap, arith, sym}
+use Rattle.std.proofs.Common.{◌≡◌, ◌<◌, ◌^◌, ◌-◌, ◌+◌, Err, ap, arith, sym}
 use Rattle.mdmp_dump.specs.declared.view.Fields.{Fields}
 use Rattle.mdmp_dump.specs.Placed.{fields_bytes, fields_room}
 use Rattle.mdmp_dump.specs.Shape.{StreamCursor}
+use Rattle.mdmp_dump.specs.ShapeLaws.{last_told}
 use Rattle.mdmp_writer.specs.RecordTexts.{record_texts}
-use Rattle.mdmp_writer.proofs.Causes.{uses_fault, uses_next, uses_none, uses_then, uses_within}
+use Rattle.mdmp_writer.proofs.Causes.{handed, told_ok, uses_next, uses_none, uses_passed, uses_same, uses_then, uses_within}
 use Rattle.mdmp_writer.proofs.Counting.{come_begin, come_next, come_none}
 use Rattle.mdmp_writer.proofs.Loops.{asked_off, have_text, next_of, rest_begin, text_cut, text_done, text_off, text_put, text_stop, texts_first, texts_none}
 use Rattle.mdmp_writer.proofs.record_texts.write_record_texts.Goals as goal
@@ -22,34 +23,38 @@ loop-left-init g c = record {
 }
 
 pub write_record_text-requires-clause-has : goal.write_record_text-requires-clause-has
-write_record_text-requires-clause-has g c = (have_text c.args.text _ _ _ c.loop-left.invariant.have c.in-Ok.ensures.gives).0
+write_record_text-requires-clause-has g c =
+    let gives = rw (told_ok c.next_record.result c.in_ok-fields.fields c.in_ok-fields.ensures.cases) at c.next_record.ensures.gives in
+    (have_text c.args.text _ _ _ c.loop-left.invariant.have gives).0
 
 pub write_record_text-requires-clause-room : goal.write_record_text-requires-clause-room
 write_record_text-requires-clause-room g c =
+    let gives = rw (told_ok c.next_record.result c.in_ok-fields.fields c.in_ok-fields.ensures.cases) at c.next_record.ensures.gives in
     let old = g.V.DumpView.cursor c.loop-left.view in
     let low : old.room < 2 ^ 64 - 1 = omega (arith, c.loop-left.invariant.room, c.requires.room) in
-    omega (arith, (c.in-Ok.ensures.gives.room low).left, c.loop-left.invariant.room, c.requires.room)
+    omega (arith, (gives.room low).left, c.loop-left.invariant.room, c.requires.room)
 
-pub returns-in-Err-clause-writes : goal.returns-in-Err-clause-writes
-returns-in-Err-clause-writes g c xs known len = text_stop _ _ _ _ c.loop-left.left _ (c.loop-left.invariant.texts xs known len)
+pub returns-in_err-fields-clause-writes : goal.returns-in_err-fields-clause-writes
+returns-in_err-fields-clause-writes g c xs known len = rw (handed c.from_residual.result _ c.from_residual.ensures.1) (text_stop _ _ _ _ c.loop-left.left _ (c.loop-left.invariant.texts xs known len))
 
-pub returns-in-Err-write_record_text-clause-writes : goal.returns-in-Err-write_record_text-clause-writes
-returns-in-Err-write_record_text-clause-writes g c xs known len =
+pub returns-in_err-write_record_text-clause-writes : goal.returns-in_err-write_record_text-clause-writes
+returns-in_err-write_record_text-clause-writes g c xs known len =
+    let gives = rw (told_ok c.next_record.result c.in_ok-fields.fields c.in_ok-fields.ensures.cases) at c.next_record.ensures.gives in
     let old = g.V.DumpView.cursor c.loop-left.view in
     let new = g.V.DumpView.cursor c.next_record.new.self in
-    let n = next_of old new c.in-Ok.fields c.loop-left.left _ (c.loop-left.invariant.texts xs known len) c.in-Ok.ensures.gives in
-    text_cut _ _ _ _ _ _ _ new c.in-Ok.fields c.loop-left.left n (texts_first c.args.text c.loop-left.place n.first n.others) (c.in-Err-write_record_text.ensures.writes n.first n.parts n.sized n.same)
+    let n = next_of old new c.in_ok-fields.fields c.loop-left.left _ (c.loop-left.invariant.texts xs known len) gives in
+    rw (handed c.from_residual-in_err-write_record_text.result _ c.from_residual-in_err-write_record_text.ensures.1) (text_cut _ _ _ _ _ _ _ new c.in_ok-fields.fields c.loop-left.left n (texts_first c.args.text c.loop-left.place n.first n.others) (c.in_err-write_record_text.ensures.writes n.first n.parts n.sized n.same))
 
 pub loop-left-preserved : goal.loop-left-preserved
 loop-left-preserved g c =
     let at = c.loop-left.invariant in
     let t = c.args.text in
-    let f = c.in-Ok.fields in
+    let f = c.in_ok-fields.fields in
     let old = g.V.DumpView.cursor c.loop-left.view in
     let new = g.V.DumpView.cursor c.next_record.new.self in
     let now = g.V.DumpView.cursor c.write_record_text.new.view in
-    let stays : now ≡ new = c.in-Ok-write_record_text.ensures.cursor in
-    let gives = c.in-Ok.ensures.gives in
+    let stays : now ≡ new = c.in_ok-write_record_text.ensures.cursor in
+    let gives = rw (told_ok c.next_record.result c.in_ok-fields.fields c.in_ok-fields.ensures.cases) at c.next_record.ensures.gives in
     let few : old.room < 2 ^ 32 = omega (arith, at.room, c.requires.room) in
     let low : old.room < 2 ^ 64 - 1 = omega (arith, few) in
     let off = text_off t old new f at.have few gives in
@@ -61,15 +66,15 @@ loop-left-preserved g c =
       last = λ none. rw stays (off.last (omega (arith, none, gives.records, at.count)));
       bytes = rw stays (omega (arith, asked, at.bytes));
       uses = rw stays (uses_then
-          (uses_next at.uses c.next_record.ensures.shape c.in-Ok.ensures.passed c.in-Ok.ensures.asked)
-          c.in-Ok-write_record_text.ensures.uses (omega arith) (omega (arith, asked, at.bytes)));
-      moves = g.met.V.DumpView.follows _ _ _ at.moves (g.met.V.DumpView.follows _ _ _ c.in-Ok.ensures.moves c.write_record_text.ensures.moves);
+          (uses_next at.uses c.next_record.ensures.shape c.next_record.ensures.passed c.next_record.ensures.asked)
+          c.in_ok-write_record_text.ensures.uses (omega arith) (omega (arith, asked, at.bytes)));
+      moves = g.met.V.DumpView.follows _ _ _ at.moves (g.met.V.DumpView.follows _ _ _ c.next_record.ensures.moves c.write_record_text.ensures.moves);
       texts = λ xs known len.
           let n = next_of old new f c.loop-left.left _ (at.texts xs known len) gives in
           text_put _ _ _ _ _ _ _ new f c.loop-left.left n (texts_first t c.loop-left.place n.first n.others) now (record_texts t (c.loop-left.place + c.room.result)) _
           (rw c.room.ensures.value (ap (λ (h : Fields). record_texts t (c.loop-left.place + fields_room h) n.others) (sym n.same))) (omega arith) (ap (λ (k : StreamCursor). k.seen) stays)
-          (c.in-Ok-write_record_text.ensures.writes n.first n.parts n.sized n.same);
-      come = rw stays (come_next _ _ _ _ _ _ _ off.left at.come c.in-Ok-write_record_text.ensures.some);
+          (c.in_ok-write_record_text.ensures.writes n.first n.parts n.sized n.same);
+      come = rw stays (come_next _ _ _ _ _ _ _ off.left at.come c.in_ok-write_record_text.ensures.some);
     }
 
 pub returns-clause-writes : goal.returns-clause-writes
@@ -82,21 +87,25 @@ returns-clause-some g c = come_none _ _ _ _ (c.loop-left.invariant.last (omega a
 pub returns-clause-uses : goal.returns-clause-uses
 returns-clause-uses g c = uses_within c.loop-left.invariant.uses (omega arith) (omega arith)
 
-pub returns-in-Err-clause-uses : goal.returns-in-Err-clause-uses
-returns-in-Err-clause-uses g c =
-    uses_fault c.loop-left.invariant.uses c.next_record.ensures.shape c.in-Err.ensures.reliable (omega (arith, c.loop-left.invariant.uses.passed, c.in-Err.ensures.passed))
-    (omega (arith, c.loop-left.invariant.uses.asked, c.in-Err.ensures.asked)) c.in-Err.ensures.told.last
+pub returns-in_err-fields-clause-uses : goal.returns-in_err-fields-clause-uses
+returns-in_err-fields-clause-uses g c =
+    let of = c.next_record.ensures in
+    let before = c.loop-left.invariant.uses in
+    rw (handed c.from_residual.result _ c.from_residual.ensures.1)
+    (uses_same {T = Fields} (uses_passed c.next_record.result (Err c.in_err-fields.field-0.0) c.in_err-fields.ensures.cases before of.shape of.reliable (omega (arith, before.passed, of.passed)) (omega (arith, before.asked, of.asked))
+    (last_told _ _ c.next_record.result of.told)))
 
-pub returns-in-Err-write_record_text-clause-uses : goal.returns-in-Err-write_record_text-clause-uses
-returns-in-Err-write_record_text-clause-uses g c =
-    let asked = asked_off c.args.text (fields_bytes c.in-Ok.fields) _ _ c.in-Ok.ensures.gives.bytes in
-    uses_then
-    (uses_next c.loop-left.invariant.uses c.next_record.ensures.shape c.in-Ok.ensures.passed c.in-Ok.ensures.asked)
-    c.in-Err-write_record_text.ensures.uses (omega arith) (omega (arith, asked, c.loop-left.invariant.bytes))
+pub returns-in_err-write_record_text-clause-uses : goal.returns-in_err-write_record_text-clause-uses
+returns-in_err-write_record_text-clause-uses g c =
+    let gives = rw (told_ok c.next_record.result c.in_ok-fields.fields c.in_ok-fields.ensures.cases) at c.next_record.ensures.gives in
+    let asked = asked_off c.args.text (fields_bytes c.in_ok-fields.fields) _ _ gives.bytes in
+    rw (handed c.from_residual-in_err-write_record_text.result _ c.from_residual-in_err-write_record_text.ensures.1) (uses_then
+    (uses_next c.loop-left.invariant.uses c.next_record.ensures.shape c.next_record.ensures.passed c.next_record.ensures.asked)
+    c.in_err-write_record_text.ensures.uses (omega arith) (omega (arith, asked, c.loop-left.invariant.bytes)))
 
-pub returns-in-Err-clause-moves : goal.returns-in-Err-clause-moves
-returns-in-Err-clause-moves g c = g.met.V.DumpView.follows _ _ _ c.loop-left.invariant.moves c.in-Err.ensures.moves
+pub returns-in_err-fields-clause-moves : goal.returns-in_err-fields-clause-moves
+returns-in_err-fields-clause-moves g c = g.met.V.DumpView.follows _ _ _ c.loop-left.invariant.moves c.next_record.ensures.moves
 
-pub returns-in-Err-write_record_text-clause-moves : goal.returns-in-Err-write_record_text-clause-moves
-returns-in-Err-write_record_text-clause-moves g c =
-    g.met.V.DumpView.follows _ _ _ c.loop-left.invariant.moves (g.met.V.DumpView.follows _ _ _ c.in-Ok.ensures.moves c.write_record_text.ensures.moves)
+pub returns-in_err-write_record_text-clause-moves : goal.returns-in_err-write_record_text-clause-moves
+returns-in_err-write_record_text-clause-moves g c =
+    g.met.V.DumpView.follows _ _ _ c.loop-left.invariant.moves (g.met.V.DumpView.follows _ _ _ c.next_record.ensures.moves c.write_record_text.ensures.moves)

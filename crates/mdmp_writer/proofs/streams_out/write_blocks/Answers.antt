@@ -2,7 +2,7 @@ use Rattle.std.proofs.Common.{◌≡◌, ◌<◌, ◌≤◌, ◌+◌, ◌^◌, �
 use Rattle.mdmp_dump.specs.Shape.{ViewShape, stream_at}
 use Rattle.mdmp_writer.specs.Layout.{IsRoom, block_size, blocks_size, far_size}
 use Rattle.mdmp_writer.specs.Passes.{block_asks, block_passes}
-use Rattle.mdmp_writer.proofs.Causes.{uses_asked, uses_none, uses_then, uses_within}
+use Rattle.mdmp_writer.proofs.Causes.{handed, uses_asked, uses_none, uses_then, uses_within}
 use Rattle.mdmp_writer.proofs.Counting.{come_begin, come_next, come_none, some_is}
 use Rattle.mdmp_writer.proofs.Passing.{sum_more, sum_next, sum_with}
 use Rattle.mdmp_writer.proofs.Sending.{left_begin, left_none}
@@ -40,13 +40,13 @@ write_block-requires-clause-low g c =
     let fewer : k < length s.streams = omega (arith, c.loop-stream-test.true, c.streams-stream-end.ensures.count) in
     subst (λ (t : ViewShape). c.loop-stream.at + block_size (stream_at t k) < 2 ^ 32) (sym (c.room_for-room.ensures.shape ∙ c.loop-stream.invariant.uses.shape)) (omega (arith, ends_below s k c.loop-stream.at fewer c.loop-stream.invariant.at, c.requires.low))
 
-pub returns-in-Err-clause-writes : goal.returns-in-Err-clause-writes
-returns-in-Err-clause-writes g c x known all =
+pub returns-in_err-write_block-clause-writes : goal.returns-in_err-write_block-clause-writes
+returns-in_err-write_block-clause-writes g c x known all =
     let s = g.V.DumpView.shape c.args.view.now in
     let k = c.loop-stream.stream in
     let fewer : k < length s.streams = omega (arith, c.loop-stream-test.true, c.streams-stream-end.ensures.count) in
-    block_cut s x k c.loop-stream.at c.loop-stream.far _ _ _ _ (g.met.V.DumpView.sound c.args.view.now x known) fewer (c.loop-stream.invariant.left x known all)
-    (c.in-Err.ensures.writes x (ap (λ (t : ViewShape). t.seen) (c.room_for-room.ensures.shape ∙ c.loop-stream.invariant.uses.shape) ∙ known) (all k))
+    rw (handed c.from_residual.result _ c.from_residual.ensures.1) (block_cut s x k c.loop-stream.at c.loop-stream.far _ _ _ _ (g.met.V.DumpView.sound c.args.view.now x known) fewer (c.loop-stream.invariant.left x known all)
+    (c.in_err-write_block.ensures.writes x (ap (λ (t : ViewShape). t.seen) (c.room_for-room.ensures.shape ∙ c.loop-stream.invariant.uses.shape) ∙ known) (all k)))
 
 pub loop-stream-preserved : goal.loop-stream-preserved
 loop-stream-preserved g c =
@@ -57,15 +57,15 @@ loop-stream-preserved g c =
     let block : c.block-at.result ≡ block_size (stream_at s k) = c.block-at.ensures ∙ room_block (stream_at s k) c.room_for-room.result is in
     let far : c.room_for-room.result.far ≡ far_size (stream_at s k) = room_far (stream_at s k) c.room_for-room.result is in
     record {
-      uses = uses_then (uses_asked c.loop-stream.invariant.uses c.room_for-room.ensures.shape c.room_for-room.ensures.spent) c.in-Ok.ensures.uses
+      uses = uses_then (uses_asked c.loop-stream.invariant.uses c.room_for-room.ensures.shape c.room_for-room.ensures.spent) c.in_ok-write_block.ensures.uses
           (omega (arith, ap (λ (t : ViewShape). block_passes t k) (c.room_for-room.ensures.shape ∙ c.loop-stream.invariant.uses.shape), sum_next (block_passes s) k)) (omega (arith, ap (λ (t : ViewShape). block_asks t k) (c.room_for-room.ensures.shape ∙ c.loop-stream.invariant.uses.shape), sum_next (block_asks s) k));
-      moves = g.met.V.DumpView.follows _ _ _ c.loop-stream.invariant.moves (g.met.V.DumpView.follows _ _ _ c.room_for-room.ensures.moves c.in-Ok.ensures.moves);
+      moves = g.met.V.DumpView.follows _ _ _ c.loop-stream.invariant.moves (g.met.V.DumpView.follows _ _ _ c.room_for-room.ensures.moves c.in_ok-write_block.ensures.moves);
       at = omega (arith, block, blocks_next s k fewer, c.loop-stream.invariant.at);
       far = omega (arith, far, fars_next s k fewer, c.loop-stream.invariant.far);
       come = come_next _ _ _ _ _ (block_size (stream_at s k)) _ (blocks_next s k fewer) c.loop-stream.invariant.come
-          (some_is _ _ _ _ (ap (λ (t : ViewShape). block_size (stream_at t k)) (c.room_for-room.ensures.shape ∙ c.loop-stream.invariant.uses.shape)) c.in-Ok.ensures.some);
+          (some_is _ _ _ _ (ap (λ (t : ViewShape). block_size (stream_at t k)) (c.room_for-room.ensures.shape ∙ c.loop-stream.invariant.uses.shape)) c.in_ok-write_block.ensures.some);
       left = λ x known all. block_put s x k c.loop-stream.at c.loop-stream.far _ _ _ _ _ _ (g.met.V.DumpView.sound c.args.view.now x known) fewer (ap (λ (n : ℕ). c.loop-stream.at + n) block) (ap (λ (n : ℕ). c.loop-stream.far + n) far)
-          (c.loop-stream.invariant.left x known all) (c.in-Ok.ensures.writes x (ap (λ (t : ViewShape). t.seen) (c.room_for-room.ensures.shape ∙ c.loop-stream.invariant.uses.shape) ∙ known) (all k));
+          (c.loop-stream.invariant.left x known all) (c.in_ok-write_block.ensures.writes x (ap (λ (t : ViewShape). t.seen) (c.room_for-room.ensures.shape ∙ c.loop-stream.invariant.uses.shape) ∙ known) (all k));
     }
 
 pub returns-clause-writes : goal.returns-clause-writes
@@ -92,8 +92,9 @@ overflow_add-far g c =
     let far : c.room_for-room.result.far ≡ far_size (stream_at s k) = room_far (stream_at s k) c.room_for-room.result is in
     omega (arith, far, fars_next s k fewer, c.loop-stream.invariant.far, c.requires.short)
 
-pub returns-in-Err-clause-moves : goal.returns-in-Err-clause-moves
-returns-in-Err-clause-moves g c = g.met.V.DumpView.follows _ _ _ c.loop-stream.invariant.moves (g.met.V.DumpView.follows _ _ _ c.room_for-room.ensures.moves c.in-Err.ensures.moves)
+pub returns-in_err-write_block-clause-moves : goal.returns-in_err-write_block-clause-moves
+returns-in_err-write_block-clause-moves g c =
+    g.met.V.DumpView.follows _ _ _ c.loop-stream.invariant.moves (g.met.V.DumpView.follows _ _ _ c.room_for-room.ensures.moves c.in_err-write_block.ensures.moves)
 
 pub returns-clause-some : goal.returns-clause-some
 returns-clause-some g c =
@@ -101,14 +102,14 @@ returns-clause-some g c =
     let past : length s.streams ≤ c.loop-stream.stream = omega (arith, c.loop-stream-test.false, c.streams-stream-end.ensures.count) in
     come_none _ _ (blocks_size s.streams) _ (none_left s c.loop-stream.stream past) c.loop-stream.invariant.come
 
-pub returns-in-Err-clause-uses : goal.returns-in-Err-clause-uses
-returns-in-Err-clause-uses g c =
+pub returns-in_err-write_block-clause-uses : goal.returns-in_err-write_block-clause-uses
+returns-in_err-write_block-clause-uses g c =
     let s = g.V.DumpView.shape c.args.view.now in
     let k = c.loop-stream.stream in
     let n = length s.streams in
     let fewer : k < n = omega (arith, c.loop-stream-test.true, c.streams-stream-end.ensures.count) in
-    uses_then (uses_asked c.loop-stream.invariant.uses c.room_for-room.ensures.shape c.room_for-room.ensures.spent) c.in-Err.ensures.uses
-    (omega (arith, ap (λ (t : ViewShape). block_passes t k) (c.room_for-room.ensures.shape ∙ c.loop-stream.invariant.uses.shape), sum_with (block_passes s) k n fewer)) (omega (arith, ap (λ (t : ViewShape). block_asks t k) (c.room_for-room.ensures.shape ∙ c.loop-stream.invariant.uses.shape), sum_with (block_asks s) k n fewer))
+    rw (handed c.from_residual.result _ c.from_residual.ensures.1) (uses_then (uses_asked c.loop-stream.invariant.uses c.room_for-room.ensures.shape c.room_for-room.ensures.spent) c.in_err-write_block.ensures.uses
+    (omega (arith, ap (λ (t : ViewShape). block_passes t k) (c.room_for-room.ensures.shape ∙ c.loop-stream.invariant.uses.shape), sum_with (block_passes s) k n fewer)) (omega (arith, ap (λ (t : ViewShape). block_asks t k) (c.room_for-room.ensures.shape ∙ c.loop-stream.invariant.uses.shape), sum_with (block_asks s) k n fewer)))
 
 pub returns-clause-uses : goal.returns-clause-uses
 returns-clause-uses g c =

@@ -2,7 +2,7 @@ use Rattle.std.proofs.Common.{◌<◌, ◌≤◌, ◌^◌, ◌∙◌, ap, arith,
 use Rattle.mdmp_dump.specs.Shape.{ViewShape, body_of, stream_at}
 use Rattle.mdmp_writer.specs.Layout.{far_size, fars_size}
 use Rattle.mdmp_writer.specs.Passes.{far_asks, far_passes}
-use Rattle.mdmp_writer.proofs.Causes.{uses_asked, uses_none, uses_then, uses_within}
+use Rattle.mdmp_writer.proofs.Causes.{handed, uses_asked, uses_none, uses_then, uses_within}
 use Rattle.mdmp_writer.proofs.Counting.{come_begin, come_next, come_none, some_is}
 use Rattle.mdmp_writer.proofs.Passing.{sum_more, sum_next, sum_with}
 use Rattle.mdmp_writer.proofs.Sending.{left_begin, left_none}
@@ -24,12 +24,12 @@ write_far-requires-clause-room g c =
     let k = c.loop-stream.stream in
     subst (λ (t : ViewShape). far_size (stream_at t k) < 2 ^ 64) (sym c.loop-stream.invariant.uses.shape) (omega (arith, far_within s.streams k, c.requires.short))
 
-pub returns-in-Err-clause-writes : goal.returns-in-Err-clause-writes
-returns-in-Err-clause-writes g c x known =
+pub returns-in_err-write_far-clause-writes : goal.returns-in_err-write_far-clause-writes
+returns-in_err-write_far-clause-writes g c x known =
     let s = g.V.DumpView.shape c.args.view.now in
     let k = c.loop-stream.stream in
     let fewer : k < length s.streams = omega (arith, c.loop-stream-test.true, c.streams-stream-end.ensures.count) in
-    far_cut s x k _ _ _ _ (g.met.V.DumpView.sound c.args.view.now x known) fewer (c.loop-stream.invariant.left x known) (c.in-Err.ensures.writes x (ap (λ (t : ViewShape). t.seen) c.loop-stream.invariant.uses.shape ∙ known))
+    rw (handed c.from_residual.result _ c.from_residual.ensures.1) (far_cut s x k _ _ _ _ (g.met.V.DumpView.sound c.args.view.now x known) fewer (c.loop-stream.invariant.left x known) (c.in_err-write_far.ensures.writes x (ap (λ (t : ViewShape). t.seen) c.loop-stream.invariant.uses.shape ∙ known)))
 
 pub loop-stream-preserved : goal.loop-stream-preserved
 loop-stream-preserved g c =
@@ -37,12 +37,12 @@ loop-stream-preserved g c =
     let k = c.loop-stream.stream in
     let fewer : k < length s.streams = omega (arith, c.loop-stream-test.true, c.streams-stream-end.ensures.count) in
     record {
-      uses = uses_then c.loop-stream.invariant.uses c.in-Ok.ensures.uses
+      uses = uses_then c.loop-stream.invariant.uses c.in_ok-write_far.ensures.uses
           (omega (arith, ap (λ (t : ViewShape). far_passes t k) c.loop-stream.invariant.uses.shape, sum_next (far_passes s) k)) (omega (arith, ap (λ (t : ViewShape). far_asks t k) c.loop-stream.invariant.uses.shape, sum_next (far_asks s) k));
-      moves = g.met.V.DumpView.follows _ _ _ c.loop-stream.invariant.moves c.in-Ok.ensures.moves;
+      moves = g.met.V.DumpView.follows _ _ _ c.loop-stream.invariant.moves c.in_ok-write_far.ensures.moves;
       come = come_next _ _ _ _ _ (far_size (stream_at s k)) _ (fars_next s k fewer) c.loop-stream.invariant.come
-          (some_is _ _ _ _ (ap (λ (t : ViewShape). far_size (stream_at t k)) (c.loop-stream.invariant.uses.shape)) c.in-Ok.ensures.some);
-      left = λ x known. far_put s x k _ _ _ _ (g.met.V.DumpView.sound c.args.view.now x known) fewer (c.loop-stream.invariant.left x known) (c.in-Ok.ensures.writes x (ap (λ (t : ViewShape). t.seen) c.loop-stream.invariant.uses.shape ∙ known));
+          (some_is _ _ _ _ (ap (λ (t : ViewShape). far_size (stream_at t k)) (c.loop-stream.invariant.uses.shape)) c.in_ok-write_far.ensures.some);
+      left = λ x known. far_put s x k _ _ _ _ (g.met.V.DumpView.sound c.args.view.now x known) fewer (c.loop-stream.invariant.left x known) (c.in_ok-write_far.ensures.writes x (ap (λ (t : ViewShape). t.seen) c.loop-stream.invariant.uses.shape ∙ known));
     }
 
 pub returns-clause-writes : goal.returns-clause-writes
@@ -57,8 +57,8 @@ write_far-requires-clause-body g c =
     let k = c.loop-stream.stream in
     subst (λ (t : ViewShape). body_of (stream_at t k) < 2 ^ 32) (sym c.loop-stream.invariant.uses.shape) (omega (arith, block_within s.streams k, c.requires.low))
 
-pub returns-in-Err-clause-moves : goal.returns-in-Err-clause-moves
-returns-in-Err-clause-moves g c = g.met.V.DumpView.follows _ _ _ c.loop-stream.invariant.moves c.in-Err.ensures.moves
+pub returns-in_err-write_far-clause-moves : goal.returns-in_err-write_far-clause-moves
+returns-in_err-write_far-clause-moves g c = g.met.V.DumpView.follows _ _ _ c.loop-stream.invariant.moves c.in_err-write_far.ensures.moves
 
 pub returns-clause-some : goal.returns-clause-some
 returns-clause-some g c =
@@ -66,14 +66,14 @@ returns-clause-some g c =
     let past : length s.streams ≤ c.loop-stream.stream = omega (arith, c.loop-stream-test.false, c.streams-stream-end.ensures.count) in
     come_none _ _ (fars_size s.streams) _ (none_left s c.loop-stream.stream past) c.loop-stream.invariant.come
 
-pub returns-in-Err-clause-uses : goal.returns-in-Err-clause-uses
-returns-in-Err-clause-uses g c =
+pub returns-in_err-write_far-clause-uses : goal.returns-in_err-write_far-clause-uses
+returns-in_err-write_far-clause-uses g c =
     let s = g.V.DumpView.shape c.args.view.now in
     let k = c.loop-stream.stream in
     let n = length s.streams in
     let fewer : k < n = omega (arith, c.loop-stream-test.true, c.streams-stream-end.ensures.count) in
-    uses_then c.loop-stream.invariant.uses c.in-Err.ensures.uses
-    (omega (arith, ap (λ (t : ViewShape). far_passes t k) c.loop-stream.invariant.uses.shape, sum_with (far_passes s) k n fewer)) (omega (arith, ap (λ (t : ViewShape). far_asks t k) c.loop-stream.invariant.uses.shape, sum_with (far_asks s) k n fewer))
+    rw (handed c.from_residual.result _ c.from_residual.ensures.1) (uses_then c.loop-stream.invariant.uses c.in_err-write_far.ensures.uses
+    (omega (arith, ap (λ (t : ViewShape). far_passes t k) c.loop-stream.invariant.uses.shape, sum_with (far_passes s) k n fewer)) (omega (arith, ap (λ (t : ViewShape). far_asks t k) c.loop-stream.invariant.uses.shape, sum_with (far_asks s) k n fewer)))
 
 pub returns-clause-uses : goal.returns-clause-uses
 returns-clause-uses g c =

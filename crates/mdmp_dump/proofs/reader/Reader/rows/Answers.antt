@@ -7,12 +7,6 @@ use Rattle.mdmp_dump.proofs.Taking.{FetchesSome_none, FetchesSome_then, Fetches_
 use Rattle.mdmp_dump.proofs.ItemsRead.{parts_none, reads_as, reads_done, reads_memory, reads_parts, reads_then, steps_sized}
 use Rattle.mdmp_dump.proofs.reader.Reader.rows.Goals as goal
 
-pub returns-in_err-row-clause-fetches : goal.returns-in_err-row-clause-fetches
-returns-in_err-row-clause-fetches g c =
-    let fault = c.in_err-row.field-0.0 in
-    let is = refused_by c.from_residual.result fault c.from_residual.ensures.1 in
-    rw is (fetches_err c.args.self.now.lister.source c.loop-rows.self.lister.source c.next.new.self.lister.source c.loop-rows.invariant.fetches fault c.in_err-row.ensures.fetches)
-
 pub loop-rows-preserved : goal.loop-rows-preserved
 loop-rows-preserved g c =
     let before = c.loop-rows.invariant in
@@ -36,15 +30,6 @@ loop-rows-preserved g c =
           );
     }
 
-pub returns-in-Err-clause-fetches : goal.returns-in-Err-clause-fetches
-returns-in-Err-clause-fetches g c =
-    Fetches_memory c.args.self.now.lister.source c.next.new.self.lister.source
-    (FetchesSome_then c.args.self.now.lister.source c.loop-rows.self.lister.source c.next.new.self.lister.source c.loop-rows.invariant.fetches c.in_ok-row.ensures.fetches.fetches)
-
-pub returns-in-Behind-clause-fetches : goal.returns-in-Behind-clause-fetches
-returns-in-Behind-clause-fetches g c =
-    fetches_ok c.args.self.now.lister.source c.loop-rows.self.lister.source c.next.new.self.lister.source c.loop-rows.invariant.fetches _ c.in_ok-row.ensures.fetches.fetches
-
 pub returns-in-Behind-clause-of_file : goal.returns-in-Behind-clause-of_file
 returns-in-Behind-clause-of_file g c = λ file limit x xs known left kind current.
     let before = c.loop-rows.invariant in
@@ -66,27 +51,6 @@ returns-in_err-row-clause-of_file g c =
     let given = c.in_err-row.ensures.of_file file limit x (length c.loop-rows.rows.items) xs (before.fetches.fetches.same_content ∙ known) so_far.0 kind (ap (λ (e : Entry). e.stream_type) before.current ∙ current) in
     record { value = tt; settles = λ own. so_far.1.1 ∙ given.1 own })
 
-pub returns-in_err-row-clause-keeps : goal.returns-in_err-row-clause-keeps
-returns-in_err-row-clause-keeps g c =
-    let fault = c.in_err-row.field-0.0 in
-    let is = refused_by c.from_residual.result fault c.from_residual.ensures.1 in
-    rw is (keeps_err c.args.self.now c.loop-rows.self c.next.new.self c.loop-rows.invariant.keeps fault c.in_err-row.ensures.keeps)
-
-pub returns-in-Err-clause-keeps : goal.returns-in-Err-clause-keeps
-returns-in-Err-clause-keeps g c =
-    keeps_memory c.args.self.now c.next.new.self
-    (keeps_then c.args.self.now c.loop-rows.self c.next.new.self c.loop-rows.invariant.keeps c.in_ok-row.ensures.keeps)
-
-pub returns-in-Behind-clause-keeps : goal.returns-in-Behind-clause-keeps
-returns-in-Behind-clause-keeps g c =
-    keeps_then c.args.self.now c.loop-rows.self c.next.new.self c.loop-rows.invariant.keeps c.in_ok-row.ensures.keeps
-
-pub returns-in-Behind-clause-going : goal.returns-in-Behind-clause-going
-returns-in-Behind-clause-going g c =
-    let before = c.loop-rows.invariant in
-    let going = rw c.in-Behind.is at c.in_ok-row.ensures.going in
-    going_before c.args.self.now.lister c.loop-rows.self.lister c.in-Behind.next c.next.new.self.lister before.rests before.keeps.left going
-
 pub loop-rows-init : goal.loop-rows-init
 loop-rows-init g c = rw c.new-rows.ensures.items (record {
   going = c.requires;
@@ -98,20 +62,36 @@ loop-rows-init g c = rw c.new-rows.ensures.items (record {
   of_file = λ file limit x xs known left kind current. (left, (rows-none file x g.T.Row.kind (g.T.Row.IsAt file x.entry.location.rva), refl));
 })
 
-pub returns-in_err-row-clause-reads : goal.returns-in_err-row-clause-reads
-returns-in_err-row-clause-reads g c =
+pub returns-in_err-row-clause-step : goal.returns-in_err-row-clause-step
+returns-in_err-row-clause-step g c =
     let before = c.loop-rows.invariant in
     let fault = c.in_err-row.field-0.0 in
-    let is = refused_by c.from_residual.result fault c.from_residual.ensures.1 in
-    rw is (reads_as [] fault _ _ (reads_then [] [] [] tt _ _ c.loop-rows.self.lister _ before.going before.reads c.in_err-row.ensures.reads))
+    rw (refused_by c.from_residual.result fault c.from_residual.ensures.1) (record {
+      fetches = fetches_err c.args.self.now.lister.source c.loop-rows.self.lister.source c.next.new.self.lister.source before.fetches fault c.in_err-row.ensures.fetches;
+      keeps = keeps_err c.args.self.now c.loop-rows.self c.next.new.self before.keeps fault c.in_err-row.ensures.keeps;
+      reads = reads_as [] fault _ _ (reads_then [] [] [] tt _ _ c.loop-rows.self.lister _ before.going before.reads c.in_err-row.ensures.reads);
+      going = tt;
+    })
 
-pub returns-in-Err-clause-reads : goal.returns-in-Err-clause-reads
-returns-in-Err-clause-reads g c =
+pub returns-in-Err-clause-step : goal.returns-in-Err-clause-step
+returns-in-Err-clause-step g c =
     let before = c.loop-rows.invariant in
-    reads_memory [] [] _ _ _ (reads_then [] [] [] tt _ _ c.loop-rows.self.lister _ before.going before.reads (rw c.in-Row.is at c.in_ok-row.ensures.reads))
+    record {
+      fetches = Fetches_memory c.args.self.now.lister.source c.next.new.self.lister.source
+          (FetchesSome_then c.args.self.now.lister.source c.loop-rows.self.lister.source c.next.new.self.lister.source before.fetches c.in_ok-row.ensures.fetches.fetches);
+      keeps = keeps_memory c.args.self.now c.next.new.self (keeps_then c.args.self.now c.loop-rows.self c.next.new.self before.keeps c.in_ok-row.ensures.keeps);
+      reads = reads_memory [] [] _ _ _ (reads_then [] [] [] tt _ _ c.loop-rows.self.lister _ before.going before.reads (rw c.in-Row.is at c.in_ok-row.ensures.reads));
+      going = tt;
+    }
 
-pub returns-in-Behind-clause-reads : goal.returns-in-Behind-clause-reads
-returns-in-Behind-clause-reads g c =
+pub returns-in-Behind-clause-step : goal.returns-in-Behind-clause-step
+returns-in-Behind-clause-step g c =
     let before = c.loop-rows.invariant in
+    let going = rw c.in-Behind.is at c.in_ok-row.ensures.going in
     let all = reads_then [] [] _ tt _ _ c.loop-rows.self.lister _ before.going before.reads (rw c.in-Behind.is at c.in_ok-row.ensures.reads) in
-    reads_done [] _ _ _ _ _ (steps_sized [] _ c.in-Behind.next _ _ _ _ before.fetches.fetches.same_size all)
+    record {
+      fetches = fetches_ok c.args.self.now.lister.source c.loop-rows.self.lister.source c.next.new.self.lister.source before.fetches _ c.in_ok-row.ensures.fetches.fetches;
+      keeps = keeps_then c.args.self.now c.loop-rows.self c.next.new.self before.keeps c.in_ok-row.ensures.keeps;
+      reads = reads_done [] _ _ _ _ _ (steps_sized [] _ c.in-Behind.next _ _ _ _ before.fetches.fetches.same_size all);
+      going = going_before c.args.self.now.lister c.loop-rows.self.lister c.in-Behind.next c.next.new.self.lister before.rests before.keeps.left going;
+    }

@@ -40,30 +40,30 @@ few_ranges file choice count opens is few = rw (opens, ← is, le-ltb most_range
 
 pub returns-then-count-gt-MOST_RANGES-clause-opens : goal.returns-then-count-gt-MOST_RANGES-clause-opens
 returns-then-count-gt-MOST_RANGES-clause-opens g c = λ file known.
-    let new = c.in-Ok.ensures.new in
-    let count = c.in-Ok-count_ranges.count in
-    let is : count ≡ range_count file c.args.choice = c.in-Ok-count_ranges.ensures.count file (new.spends.fetches.same_content ∙ known) ∙ ap (range_count file) new.choice_is in
+    let new = c.in_ok-walk.ensures.new in
+    let count = c.in-Ok.count in
+    let is : count ≡ range_count file c.args.choice = c.in-Ok.ensures.count file (new.spends.fetches.same_content ∙ known) ∙ ap (range_count file) new.choice_is in
     rw (c.refused-then-count-gt-MOST_RANGES.ensures.made, new.reads.opens file known, ← is, lt-ltb most_ranges count (omega arith)) refl
 
 pub returns-in-Ok-ask_map-clause-opens : goal.returns-in-Ok-ask_map-clause-opens
 returns-in-Ok-ask_map-clause-opens g c = λ file known.
-    let new = c.in-Ok.ensures.new in
-    few_ranges file c.args.choice c.in-Ok-count_ranges.count (new.reads.opens file known) (c.in-Ok-count_ranges.ensures.count file (new.spends.fetches.same_content ∙ known) ∙ ap (range_count file) new.choice_is) (omega arith)
+    let new = c.in_ok-walk.ensures.new in
+    few_ranges file c.args.choice c.in-Ok.count (new.reads.opens file known) (c.in-Ok.ensures.count file (new.spends.fetches.same_content ∙ known) ∙ ap (range_count file) new.choice_is) (omega arith)
 
 pub returns-in-Ok-ask_map-clause-new : goal.returns-in-Ok-ask_map-clause-new
 returns-in-Ok-ask_map-clause-new g c =
-    let new = c.in-Ok.ensures.new in
-    let counts = c.in-Ok-count_ranges.ensures in
+    let new = c.in_ok-walk.ensures.new in
+    let counts = c.in-Ok.ensures in
     let books = counts.books in
     let room = counts.same.room in
-    let w = c.in-Ok.walk in
+    let w = c.in_ok-walk.walk in
     let heads : heads_ahead w.choice w.meter.source.size w.entries.items ≡ heads_ahead c.args.choice c.args.source.size w.entries.items =
     ap (λ (c : Choice). heads_ahead c w.meter.source.size w.entries.items) new.choice_is ∙ ap (λ z. heads_ahead c.args.choice z w.entries.items) new.spends.fetches.same_size in
-    let free : c.in-Ok-ask_map.map.room ≡ c.in-Ok-count_ranges.count = search rules in
+    let free : c.in-Ok-ask_map.map.room ≡ c.in-Ok.count = search rules in
     let n = c.count_ranges.new.self in
     let ok = n.entries.ok.0 in
     let all : n.meter.fetched ≡ 32 + 12 * length n.entries.items + heads_ahead n.choice n.meter.source.size n.entries.items =
-    omega (arith, ok, opened_just c.args.source c.args.choice c.args.limits w n c.in-Ok-count_ranges.count new counts) in
+    omega (arith, ok, opened_just c.args.source c.args.choice c.args.limits w n c.in-Ok.count new counts) in
     let just : n.meter.fetched ≡ opening_bytes c.args.choice c.args.source.size n.entries.items = rw (room.choice ∙ new.choice_is, books.fetches.same_size ∙ new.spends.fetches.same_size) at all in
     let kept : KeepsTo c.args.limits.budget n.meter.fetched = rw (c.counts-counts.ensures.value, books.same_budget ∙ new.budget) at c.counts-counts.ensures.kept.kept in
     record {
@@ -88,7 +88,7 @@ returns-in-Ok-ask_map-clause-new g c =
             let entries : vec_capacity n.entries ≡ n.header.number_of_streams = rw (room.entries, room.header_is) new.reads.room in
             rw (window, name, entries, free) (search rules);
         given = record {
-          left = rw (room.choice, new.choice_is) (search rules);
+          left = rw (room.choice ∙ new.choice_is, room.name ∙ new.name, counts.stage ∙ new.stage, counts.same.next ∙ new.next, books.fetches.same_content ∙ new.spends.fetches.same_content) (search rules);
           stop = rw (counts.stage, new.stage) refl;
           passed = counts.same.next ∙ new.next;
           standing = rw (counts.stage, new.stage) refl;
@@ -112,14 +112,17 @@ returns-in-Ok-ask_map-clause-new g c =
       few = omega (arith, free);
     }
 
-pub returns-in-Err-clause-opens : goal.returns-in-Err-clause-opens
-returns-in-Err-clause-opens g c = λ file known. refusal_of-directory file c.args.choice c.args.source.size c.in-Err.refused.fault c.in-Err.ensures.refused.refusal (c.in-Err.ensures.refused.opens file known)
+pub returns-in_err-walk-clause-opens : goal.returns-in_err-walk-clause-opens
+returns-in_err-walk-clause-opens g c = λ file known.
+    let refused = c.in_err-walk.field-0.0 in
+    let is : c.from_residual.result ≡ Err refused = search rules in
+    rw is (refusal_of-directory file c.args.choice c.args.source.size refused.fault c.in_err-walk.ensures.refused.refusal (c.in_err-walk.ensures.refused.opens file known))
 
-pub returns-in-Err-count_ranges-clause-opens : goal.returns-in-Err-count_ranges-clause-opens
-returns-in-Err-count_ranges-clause-opens g c = λ file known. rw (c.refused.ensures.made, c.from.ensures) (refusal_of_fetch-any file c.args.choice c.in-Err-count_ranges.fault)
+pub returns-in-Err-clause-opens : goal.returns-in-Err-clause-opens
+returns-in-Err-clause-opens g c = λ file known. rw (c.refused.ensures.made, c.from.ensures) (refusal_of_fetch-any file c.args.choice c.in-Err.fault)
 
 pub returns-in-Err-ask_map-clause-opens : goal.returns-in-Err-ask_map-clause-opens
-returns-in-Err-ask_map-clause-opens g c = λ file known. rw c.refused-in-Err-ask_map.ensures.made (c.in-Ok.ensures.new.reads.opens file known)
+returns-in-Err-ask_map-clause-opens g c = λ file known. rw c.refused-in-Err-ask_map.ensures.made (c.in_ok-walk.ensures.new.reads.opens file known)
 
 -- ---- a refusal
 
@@ -144,69 +147,71 @@ module _ {S A : Type 0} (source : SourceState) (choice : Choice) (limits : Limit
     };
   }
 
-pub returns-in-Err-clause-refused : goal.returns-in-Err-clause-refused
-returns-in-Err-clause-refused g c =
-    let fault = c.in-Err.refused.fault in
-    let left = c.in-Err.refused.source in
-    let of = c.in-Err.ensures in
-    record {
+pub returns-in_err-walk-clause-refused : goal.returns-in_err-walk-clause-refused
+returns-in_err-walk-clause-refused g c =
+    let refused = c.in_err-walk.field-0.0 in
+    let fault = refused.fault in
+    let left = refused.source in
+    let of = c.in_err-walk.ensures in
+    let is : c.from_residual.result ≡ Err refused = search rules in
+    rw is (record {
       refusal = open_refusal c.args.source.size fault of.refused.refusal;
       memory = λ same. inl (of.refused.memory same);
       over = tells_memory-walk c.args.limits c.args.source left fault of.over;
       handed_back = IsHandedBack_bare c.args.choice c.args.source fault left of.refused.handed_back;
       fetches = record { cause = of.refused.cause; good = of.refused.good; kept = of.kept; next = next-counted c.args.limits c.args.source (Some c.args.choice) fault left of.next };
-    }
+    })
 
-pub returns-in-Err-count_ranges-clause-refused : goal.returns-in-Err-count_ranges-clause-refused
-returns-in-Err-count_ranges-clause-refused g c =
-    let new = c.in-Ok.ensures.new in
+pub returns-in-Err-clause-refused : goal.returns-in-Err-clause-refused
+returns-in-Err-clause-refused g c =
+    let new = c.in_ok-walk.ensures.new in
     let n = c.count_ranges.new.self in
-    let fault = c.in-Err-count_ranges.fault in
-    let counts = c.in-Err-count_ranges.ensures in
+    let fault = c.in-Err.fault in
+    let counts = c.in-Err.ensures in
     let refused = c.refused.ensures in
     rw (refused.made, c.from.ensures)
-    (refused_behind c.args.source c.args.choice c.args.limits c.in-Ok.walk n (Err fault) new counts refused.booked refused.kept (refusal_of_fetch fault)
+    (refused_behind c.args.source c.args.choice c.args.limits c.in_ok-walk.walk n (Err fault) new counts refused.booked refused.kept (refusal_of_fetch fault)
     (not_of_head fault) (refusal_of_fetch-long c.args.source.size fault new.reads.long) (λ memory. absurd (not_of_memory fault memory)) (tells_memory-fetch c.args.limits c.args.source n.meter.source fault)
-    (refusal_of_fetch-caused fault c.args.source n.meter.source (IsCaused-counted c.args.source c.args.choice c.args.limits c.in-Ok.walk n (Err fault) new counts))
-    (over_fetched 16 fault n.meter counts.refused) (heads-next c.args.source c.args.choice c.args.limits c.in-Ok.walk n fault new counts refused.booked refused.kept))
+    (refusal_of_fetch-caused fault c.args.source n.meter.source (IsCaused-counted c.args.source c.args.choice c.args.limits c.in_ok-walk.walk n (Err fault) new counts))
+    (over_fetched 16 fault n.meter counts.refused) (heads-next c.args.source c.args.choice c.args.limits c.in_ok-walk.walk n fault new counts refused.booked refused.kept))
 
 pub returns-then-count-gt-MOST_RANGES-clause-refused : goal.returns-then-count-gt-MOST_RANGES-clause-refused
 returns-then-count-gt-MOST_RANGES-clause-refused g c =
-    let new = c.in-Ok.ensures.new in
-    let counts = c.in-Ok-count_ranges.ensures in
-    let count = c.in-Ok-count_ranges.count in
+    let new = c.in_ok-walk.ensures.new in
+    let counts = c.in-Ok.ensures in
+    let count = c.in-Ok.count in
     let refused = c.refused-then-count-gt-MOST_RANGES.ensures in
     rw refused.made
-    (refused_behind c.args.source c.args.choice c.args.limits c.in-Ok.walk c.count_ranges.new.self (Ok count) new counts refused.booked refused.kept (TooManyRanges count)
-    (λ of. of) (new.reads.long, omega arith) (λ same. cc) tt (IsCaused-counted c.args.source c.args.choice c.args.limits c.in-Ok.walk c.count_ranges.new.self (Ok count) new counts) tt tt)
+    (refused_behind c.args.source c.args.choice c.args.limits c.in_ok-walk.walk c.count_ranges.new.self (Ok count) new counts refused.booked refused.kept (TooManyRanges count)
+    (λ of. of) (new.reads.long, omega arith) (λ same. cc) tt (IsCaused-counted c.args.source c.args.choice c.args.limits c.in_ok-walk.walk c.count_ranges.new.self (Ok count) new counts) tt tt)
 
 pub returns-then-not-holds-clause-refused : goal.returns-then-not-holds-clause-refused
 returns-then-not-holds-clause-refused g c =
-    let new = c.in-Ok.ensures.new in
-    let counts = c.in-Ok-count_ranges.ensures in
-    let count = c.in-Ok-count_ranges.count in
+    let new = c.in_ok-walk.ensures.new in
+    let counts = c.in-Ok.ensures in
+    let count = c.in-Ok.count in
     let held = c.held-held.result in
     let refused = c.refused-then-not-holds.ensures in
     rw refused.made
-    (refused_behind c.args.source c.args.choice c.args.limits c.in-Ok.walk c.count_ranges.new.self (Ok count) new counts refused.booked refused.kept (MemoryLimit held)
-    (λ of. of) new.reads.long (λ same. cc) (search rules) (IsCaused-counted c.args.source c.args.choice c.args.limits c.in-Ok.walk c.count_ranges.new.self (Ok count) new counts) tt tt)
+    (refused_behind c.args.source c.args.choice c.args.limits c.in_ok-walk.walk c.count_ranges.new.self (Ok count) new counts refused.booked refused.kept (MemoryLimit held)
+    (λ of. of) new.reads.long (λ same. cc) (search rules) (IsCaused-counted c.args.source c.args.choice c.args.limits c.in_ok-walk.walk c.count_ranges.new.self (Ok count) new counts) tt tt)
 
 pub returns-in-Err-ask_map-clause-refused : goal.returns-in-Err-ask_map-clause-refused
 returns-in-Err-ask_map-clause-refused g c =
-    let new = c.in-Ok.ensures.new in
+    let new = c.in_ok-walk.ensures.new in
     let n = c.count_ranges.new.self in
-    let counts = c.in-Ok-count_ranges.ensures in
-    let count = c.in-Ok-count_ranges.count in
+    let counts = c.in-Ok.ensures in
+    let count = c.in-Ok.count in
     let refused = c.refused-in-Err-ask_map.ensures in
     rw refused.made
-    (refused_behind c.args.source c.args.choice c.args.limits c.in-Ok.walk n (Ok count) new counts refused.booked refused.kept Memory
+    (refused_behind c.args.source c.args.choice c.args.limits c.in_ok-walk.walk n (Ok count) new counts refused.booked refused.kept Memory
     (λ of. of) new.reads.long
     (λ same file known.
     let counted : count ≡ range_count file c.args.choice = counts.count file (new.spends.fetches.same_content ∙ known) ∙ ap (range_count file) new.choice_is in
     let header : n.header ≡ header_at file 0 = counts.sound.header_is file (counts.books.fetches.same_content ∙ new.spends.fetches.same_content ∙ known) in
     let holds : is_within c.args.limits.memory (held_bound c.args.limits.window c.args.limits.name n.header.number_of_streams count) ≡ true = search rules in
-    lister_within c.args.limits file c.args.choice n.header count (c.in-Ok.ensures.within file known) header counted (omega arith) holds)
-    tt (IsCaused-counted c.args.source c.args.choice c.args.limits c.in-Ok.walk n (Ok count) new counts) tt tt)
+    lister_within c.args.limits file c.args.choice n.header count (c.in_ok-walk.ensures.within file known) header counted (omega arith) holds)
+    tt (IsCaused-counted c.args.source c.args.choice c.args.limits c.in_ok-walk.walk n (Ok count) new counts) tt tt)
 
 -- ---- memory
 
@@ -221,18 +226,21 @@ module _ {A : Type 0} (may_lack : A → Limits → AskedRoom → Type 0) (alloc 
   fetch_lacking (fetch.Source fault) = tt
   fetch_lacking (fetch.Budget offset size) = tt
 
-pub returns-in-Err-clause-lacks : goal.returns-in-Err-clause-lacks
-returns-in-Err-clause-lacks g c = lists_lacking g.A.AskedAllocator.may_lack c.args.alloc c.args.limits c.args.choice c.args.source.store.content c.in-Err.refused.fault c.in-Err.ensures.lacks
+pub returns-in_err-walk-clause-lacks : goal.returns-in_err-walk-clause-lacks
+returns-in_err-walk-clause-lacks g c =
+    let refused = c.in_err-walk.field-0.0 in
+    let is : c.from_residual.result ≡ Err refused = search rules in
+    rw is (lists_lacking g.A.AskedAllocator.may_lack c.args.alloc c.args.limits c.args.choice c.args.source.store.content refused.fault c.in_err-walk.ensures.lacks)
 
-pub returns-in-Err-count_ranges-clause-lacks : goal.returns-in-Err-count_ranges-clause-lacks
-returns-in-Err-count_ranges-clause-lacks g c = rw (c.refused.ensures.made, c.from.ensures) (fetch_lacking g.A.AskedAllocator.may_lack c.args.alloc c.args.limits c.args.choice c.args.source.store.content c.in-Err-count_ranges.fault)
+pub returns-in-Err-clause-lacks : goal.returns-in-Err-clause-lacks
+returns-in-Err-clause-lacks g c = rw (c.refused.ensures.made, c.from.ensures) (fetch_lacking g.A.AskedAllocator.may_lack c.args.alloc c.args.limits c.args.choice c.args.source.store.content c.in-Err.fault)
 
 pub returns-in-Err-ask_map-clause-lacks : goal.returns-in-Err-ask_map-clause-lacks
 returns-in-Err-ask_map-clause-lacks g c =
-    let new = c.in-Ok.ensures.new in
+    let new = c.in_ok-walk.ensures.new in
     let n = c.count_ranges.new.self in
-    let counts = c.in-Ok-count_ranges.ensures in
-    let count = c.in-Ok-count_ranges.count in
+    let counts = c.in-Ok.ensures in
+    let count = c.in-Ok.count in
     rw c.refused-in-Err-ask_map.ensures.made (
       ForMap n.header.number_of_streams count,
       record {
@@ -250,9 +258,9 @@ returns-in-Err-ask_map-clause-lacks g c =
 
 pub invariant_of-result : goal.invariant_of-result
 invariant_of-result g c =
-    let new = c.in-Ok.ensures.new in
-    let counts = c.in-Ok-count_ranges.ensures in
-    let count = c.in-Ok-count_ranges.count in
+    let new = c.in_ok-walk.ensures.new in
+    let counts = c.in-Ok.ensures in
+    let count = c.in-Ok.count in
     let n = c.count_ranges.new.self in
     let map = c.in-Ok-ask_map.map in
     let free : map.room ≡ count = search rules in
@@ -266,8 +274,8 @@ invariant_of-result g c =
         owed = λ file known. rw (stage, counts.same.next ∙ new.next) (search (rules, known_count file known));
       };
       inside = search rules;
-      bounded = bounded_new c.in-Ok.walk n c.args.source c.args.choice c.args.limits (Ok count) new counts;
-      opened = opened_new c.args.source c.args.choice c.args.limits c.in-Ok.walk n count new counts;
+      bounded = bounded_new c.in_ok-walk.walk n c.args.source c.args.choice c.args.limits (Ok count) new counts;
+      opened = opened_new c.args.source c.args.choice c.args.limits c.in_ok-walk.walk n count new counts;
       counted = known_count;
     } in
     mapped

@@ -1,13 +1,13 @@
-use Rattle.std.proofs.Common.{◌≡◌, ◌+◌, ◌*◌, ◌∙◌, arith, refl, rules, subst}
+use Rattle.std.proofs.Common.{◌≡◌, ◌+◌, ◌*◌, ◌∙◌, Err, arith, refl, rules, subst}
 use Rattle.mdmp_lister.specs.Format.Listing.{entry_count}
 use Rattle.mdmp_lister.specs.Meter.{KeepsTo}
 use Rattle.mdmp_lister.proofs.Walked.{entry_cost-unused}
 use Rattle.mdmp_lister.proofs.walker.Walker.open.Goals as goal
 
-pub returns-in-Ok-clause-new : goal.returns-in-Ok-clause-new
-returns-in-Ok-clause-new g c =
-    let new = c.in-Ok.ensures.new in
-    let w = c.in-Ok.walk in
+pub returns-clause-new : goal.returns-clause-new
+returns-clause-new g c =
+    let new = c.in_ok-walk.ensures.new in
+    let w = c.in_ok-walk.walk in
     let ok = w.entries.ok.0 in
     let kept : KeepsTo c.args.limits.budget w.meter.fetched = rw (c.counts-mark.ensures.value, new.budget) at c.counts-mark.ensures.kept.kept in
     record {
@@ -42,13 +42,14 @@ returns-in-Ok-clause-new g c =
       unbegun = entry_cost-unused _ _ new.current_is;
     }
 
-pub returns-in-Err-clause-refused : goal.returns-in-Err-clause-refused
-returns-in-Err-clause-refused g c =
-    let of = c.in-Err.ensures in
-    record {
+pub returns-in_err-walk-clause-refused : goal.returns-in_err-walk-clause-refused
+returns-in_err-walk-clause-refused g c =
+    let of = c.in_err-walk.ensures in
+    let is : c.from_residual.result ≡ Err c.in_err-walk.field-0.0 = search rules in
+    rw is (record {
       refusal = of.refused.refusal;
       memory = of.refused.memory;
       over = of.over;
       handed_back = of.refused.handed_back;
       fetches = record { cause = of.refused.cause; good = of.refused.good; kept = of.kept; next = of.next };
-    }
+    })

@@ -1,10 +1,17 @@
-//! The numbers of a value fit the places that a file has for them, as their types say: each function
-//! here does nothing.
+//! Hints for the prover. These functions do nothing. Their contracts say that the numbers of a value
+//! fit their fields in a file.
 ghost use Rattle.std.specs.Prelude.{All, slice_index, ℕ, ◌^◌, ◌<◌};
+ghost use Rattle.mdmp_dump.specs.Fits.{Fits, StreamFits};
+ghost use Rattle.mdmp_dump.specs.Memory64.{Memory64Fits};
 ghost use Rattle.mdmp_dump.specs.Name.{NameFits};
 ghost use Rattle.mdmp_dump.specs.Part.{PartFits};
 
+mod values;
+
+use crate::dump::{Dump, Stream, by_records};
+use crate::memory64::Memory64Range;
 use crate::part::Part;
+use mdmp_lister::StreamKind;
 use mdmp_wire::Units;
 use std::alloc::Allocator;
 
@@ -60,6 +67,42 @@ impl<A: Allocator> Fitting for Part<A> {
                 let _size = size.get();
             },
         }
+    }
+}
+
+impl<A: Allocator> Fitting for Memory64Range<A> {
+    ghost Fit = { Memory64Fits };
+
+    fn fits(&self) {
+        let _start = self.start;
+    }
+}
+
+impl<A: Allocator> Fitting for Stream<A> {
+    ghost Fit = { StreamFits };
+
+    fn fits(&self) {
+        by_records!(
+            self, _kind,
+            list records => all_fit(records),
+            single record => record.fits(),
+            Stream::Unused => {},
+            Stream::Raw(stream_type, _) => {
+                let _stream_type = *stream_type;
+            },
+        )
+    }
+}
+
+impl<A: Allocator> Fitting for Dump<A> {
+    ghost Fit = { Fits };
+
+    fn fits(&self) {
+        let _version_high = self.version_high;
+        let _checksum = self.checksum;
+        let _time = self.time;
+        let _flags = self.flags;
+        all_fit(self.streams.as_slice());
     }
 }
 

@@ -1,4 +1,4 @@
-use Rattle.mdmp_dump.proofs.dump.StreamFitting.fits.Goals as goal
+use Rattle.mdmp_dump.proofs.proof_hints.StreamFitting.fits.Goals as goal
 
 pub returns-in-Threads : goal.returns-in-Threads
 returns-in-Threads g c = rw (c.in-Threads.is, ← c.as_slice-records.ensures) c.all_fit.ensures
