@@ -27,7 +27,6 @@ use Rattle.mdmp_dump.specs.Refusal.{Refuse, ReadStep, Take, first_refusal, part_
 use Rattle.mdmp_dump.proofs.ItemsRead.{parts_one, parts_unread}
 use Rattle.mdmp_dump.proofs.Keeping.{keeps_none, keeps_till, keeps_untaken}
 use Rattle.mdmp_dump.proofs.Refusal.{refusal_moved}
-use Rattle.mdmp_dump.proofs.Taking.{Fetches_memory}
 
 -- nothing was fetched, and no fault of the store is told
 pub Fetches-none : {T : Type 0} (result : Result T ReadFault) (s : SourceState) → IfErr result (λ fault. store_fault fault ≡ None)

@@ -5,6 +5,7 @@ use Rattle.mdmp_source.specs.Range.{bytes_at}
 use Rattle.mdmp_source.specs.Store.{AreBytes}
 use Rattle.mdmp_wire.specs.AnyRecord.{bare, bare_slot, name_rva, slot_at, slot_name, slots_of, with_slots}
 use Rattle.mdmp_wire.specs.Units.{units_over}
+use Rattle.mdmp_wire.proofs.Slots.{own_slots}
 use Rattle.mdmp_wire.specs.declared.any_record.AnyRecord.{AnyRecord}
 use Rattle.mdmp_wire.specs.declared.any_record.AnyRecord.TheVariants as any
 use Rattle.mdmp_wire.specs.declared.slot.Slot.{Slot}
@@ -200,6 +201,13 @@ module _ (F : List ℕ) (limit : ℕ) (r : RecordRead) where
       let second = slot_other first.0 (slot_at r.fields 1) (nameless r.fields).0 (Ok q) b in
       let third = slot_other first.0 (slot_at r.fields 2) (nameless r.fields).1 (Ok t) c in
       (first.0, (first.1.0, all_found first.0 p q t first.1.1 second third))
+
+  -- a record without slots is found as it was read
+  pub found_bare : slots_of r.fields ≡ slots.Empty ∷ slots.Empty ∷ slots.Empty ∷ [] → FindsStep F limit r (Ok (record { wire = r.fields; parts = no_part ∷ no_part ∷ no_part ∷ [] }))
+  found_bare none =
+      let same : bare r.fields ≡ r.fields = ap (with_slots r.fields) (ap (map bare_slot) none ∙ sym none) ∙ own_slots r.fields in
+      let nothing = empty_found F in
+      rw same at (step_found no_part no_part no_part (rw none nothing) (rw none nothing) (rw none nothing))
 
   pub step_first : (fault : ReadFault) → Finds 0 (Err fault) → FindsStep F limit r (Err fault)
   step_first fault a name told is =

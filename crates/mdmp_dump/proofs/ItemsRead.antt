@@ -18,7 +18,7 @@ use Rattle.mdmp_lister.specs.declared.name.Name.TheVariants.{Long}
 use Rattle.mdmp_lister.specs.declared.step.ItemRead.{ItemRead}
 use Rattle.mdmp_lister.specs.declared.step.ItemRead.TheVariants as found
 use Rattle.mdmp_lister.specs.declared.step.RecordRead.{RecordRead}
-use Rattle.mdmp_lister.specs.Format.Item.{item_of, plain}
+use Rattle.mdmp_lister.specs.Format.Item.{plain}
 use Rattle.mdmp_lister.specs.Format.Listing.{Run, nothing}
 use Rattle.mdmp_lister.specs.Format.Name.{plain_name}
 use Rattle.mdmp_lister.specs.ItemRead.{item_read}

@@ -28,6 +28,7 @@ pub mod OpenedViews
 pub mod ReadWithin
 pub mod RecordItems
 pub mod RecordsFound
+pub mod RegionPassed
 pub mod Refusal
 pub mod Refusals
 pub mod Rooms

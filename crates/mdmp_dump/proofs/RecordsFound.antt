@@ -310,7 +310,7 @@ module _ (old new : WalkerState) (kept : IsKept old) (left : 0 < records_to_give
       let some = left_some old.list.passed old.list.stop old.list.records left in
       leaves.list.places.records (omega (arith, left, some.1.0))
 
-  stays : Stays old new
+  pub stays : Stays old new
   stays = stays_record old new item went.0 leaves
 
   fewer_left : records_to_give old.list ≡ records_to_give new.list + 1
@@ -492,6 +492,9 @@ module _ (old new : WalkerState) (kept : IsKept old) (left : 0 < records_to_give
 
     pub step_same : IsSameLister old.list new.list
     step_same = item_leaves.list.same
+
+    pub step_stays : Stays old new
+    step_stays = stays old new kept left leaves.told.0 item_leaves
 
   pub never_stream : (x : StreamItem) → StepLeaves old (Ok (Some (step.Stream x))) new → ⊥
   never_stream x leaves =

@@ -15,13 +15,14 @@ use Rattle.mdmp_lister.specs.Meter.{KeepsTo}
 use Rattle.mdmp_dump.specs.declared.fault.ReadFault.{ReadFault}
 use Rattle.mdmp_dump.specs.declared.fault.ReadFault.TheVariants as faults
 use Rattle.mdmp_dump.specs.declared.found_record.FoundRecord.{FoundRecord}
+use Rattle.mdmp_dump.specs.declared.stream_walk.TakenRoom.{TakenRoom}
 use Rattle.mdmp_dump.specs.declared.view.Fields.{Fields}
 use Rattle.mdmp_dump.specs.declared.view.Kind.{Kind}
 use Rattle.mdmp_dump.specs.declared.view.Kind.TheVariants.{Known}
 use Rattle.mdmp_dump.specs.EntryWalk.{Begins, FindsRow, GivesNext, LiesInside, MayCount, Pays, WalkState, chosen_entry, kind_by, listed, name_cost, no_entry, pass_cost, raw_part}
 use Rattle.mdmp_dump.specs.FileRefusal.{body_told, entry_told, run_told}
 use Rattle.mdmp_dump.specs.Left.{run_of}
-use Rattle.mdmp_dump.specs.FileView.{AreBare, AreCounted, AreInside, AreWalked, HasWalked, IsShortAt, IsStreamOver, KeepsAll, KeepsUpTo, PaysAll, PaysSome, PaysUpTo, TellsFirst, TellsStream, cost_before, costs_in, count_in, kind_at, opening_cost, pass_cost_in, room_told, stream_asks, stream_of}
+use Rattle.mdmp_dump.specs.FileView.{AreBare, AreCounted, AreInside, AreWalked, HasWalked, IsShortAt, IsStreamOver, IsTakenWith, KeepsAll, KeepsUpTo, PaysAll, PaysSome, PaysUpTo, TellsFirst, TellsStream, WalksRecord, cost_before, costs_in, count_in, kind_at, opening_cost, pass_cost_in, room_told, stream_asks, stream_of}
 use Rattle.mdmp_dump.specs.FileViewLaws.{same_then}
 use Rattle.mdmp_dump.specs.FoundRecord.{fields_of}
 use Rattle.mdmp_dump.specs.InFile.{stream_named}
@@ -151,7 +152,7 @@ module _ (Z : Type 0) (limit : ℕ) (old : WalkState) (k : ℕ) where
         let bytes : listed (chosen_entry old k).entry + 0 ≡ listed (chosen_entry old k).entry = omega arith in
         subst (λ (a : ℕ). Pays a ((index + 1) * cost) old next) bytes (subst (λ (b : ℕ). Pays (listed (chosen_entry old k).entry + 0) b old next) (sym (one_more index cost)) both)
 
-    pub walking_goes : (f : FoundRecord) (g : Fields) (met bytes : ℕ) → GivesNext now limit (Ok f) next → index < count → g ≡ fields_of f → met ≡ told (told (room + fields_room g) + far_room g)
+    walking_goes : (f : FoundRecord) (g : Fields) (met bytes : ℕ) → GivesNext now limit (Ok f) next → index < count → g ≡ fields_of f → met ≡ told (told (room + fields_room g) + far_room g)
         → bytes ≡ fields_bytes g → bytes ≤ 2 ^ 66 → IsWalking Z limit old k count next (index + 1) met (asks + bytes)
     walking_goes f g met bytes gives fewer same sum size few =
         record {
@@ -179,6 +180,18 @@ module _ (Z : Type 0) (limit : ℕ) (old : WalkState) (k : ℕ) where
                 room_is = rooms_step Z F (chosen_entry old k) count of.counted index room met fewer of.room_is (subst (λ (h : Fields). met ≡ told (told (room + fields_room h) + far_room h)) fields sum);
               };
         }
+
+    pub walking_takes : (taken : TakenRoom) → WalksRecord now limit room (Ok taken) next → index < count → IsWalking Z limit old k count next (index + 1) taken.room (asks + taken.bytes)
+    walking_takes taken walks fewer = by walks.given walks.gives walks.taken where
+      by : (given : Result FoundRecord ReadFault) → GivesNext now limit given next → IsTakenWith room given (Ok taken) → IsWalking Z limit old k count next (index + 1) taken.room (asks + taken.bytes)
+      by (Ok f) gives is = walking_goes f (fields_of f) taken.room taken.bytes gives fewer refl is.0 is.1 is.2
+      by (Err fault) gives is = absurd is
+
+    pub next_refused : (fault : ReadFault) → WalksRecord now limit room (Err fault) next → GivesNext now limit (Err fault) next
+    next_refused fault walks = by walks.given walks.gives walks.taken where
+      by : (given : Result FoundRecord ReadFault) → GivesNext now limit given next → IsTakenWith room given (Err fault) → GivesNext now limit (Err fault) next
+      by (Ok f) gives is = absurd is
+      by (Err told) gives is = subst (λ (g : ReadFault). GivesNext now limit (Err g) next) (sym is) gives
 
     pub walking_refused : (fault : ReadFault) → GivesNext now limit (Err fault) next → (F : List ℕ) → old.source.store.content ≡ Some F → HasWalked Z F limit old k (Err fault)
     walking_refused fault gives F known = λ own.

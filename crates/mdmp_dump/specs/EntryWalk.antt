@@ -206,6 +206,24 @@ pub record GivesNext (old : WalkState) (limit : ℕ) (result : Result FoundRecor
   pub fetches : Fetches result old.source new.source
   pub failed : new.failed ≡ ended_by result
 
+-- its name and parts take nothing
+pub record TakesNothing (f : FoundRecord) : Type 0 where
+  pub room : fields_room (fields_of f) ≡ 0
+  pub far : far_room (fields_of f) ≡ 0
+  pub bytes : fields_bytes (fields_of f) ≡ 0
+
+-- what is left of a record that is dropped
+abbrev pub dropped : Result FoundRecord ReadFault → Result (Unit {0}) ReadFault
+dropped (Ok f) = Ok tt
+dropped (Err fault) = Err fault
+
+-- the next record, without a name and parts, was given and dropped
+pub record PassesNext (old : WalkState) (result : Result (Unit {0}) ReadFault) (new : WalkState) : Type 0 where
+  pub given : Result FoundRecord ReadFault
+  pub passed : result ≡ dropped given
+  pub gives : (limit : ℕ) → GivesNext old limit given new
+  pub nothing : IfOk given TakesNothing
+
 -- ---- bytes beside the walk
 
 -- at most so many bytes were read beside the walk, by one call of the source's `fetch`

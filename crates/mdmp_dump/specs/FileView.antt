@@ -14,19 +14,21 @@ use Rattle.mdmp_lister.specs.Meter.{KeepsTo, is_passed}
 use Rattle.mdmp_dump.specs.declared.fault.ReadFault.TheVariants as faults
 use Rattle.mdmp_dump.specs.declared.dump.Dump.{Dump}
 use Rattle.mdmp_dump.specs.declared.dump.Stream.{Stream}
+use Rattle.mdmp_dump.specs.declared.found_record.FoundRecord.{FoundRecord}
 use Rattle.mdmp_dump.specs.declared.fault.ReadFault.{ReadFault}
 use Rattle.mdmp_dump.specs.declared.pass.Pass.{Pass}
+use Rattle.mdmp_dump.specs.declared.stream_walk.TakenRoom.{TakenRoom}
 use Rattle.mdmp_dump.specs.declared.stream_walk.Walked.{Walked}
 use Rattle.mdmp_dump.specs.declared.view.HeaderFields.{HeaderFields}
 use Rattle.mdmp_dump.specs.declared.view.Kind.{Kind}
 use Rattle.mdmp_dump.specs.declared.view.Kind.TheVariants as kinds
 use Rattle.mdmp_dump.specs.declared.view.ViewFault.{ViewFault}
 use Rattle.mdmp_dump.specs.declared.view.ViewFault.TheVariants as view
-use Rattle.mdmp_dump.specs.EntryWalk.{IsSameWalk, LiesInside, MayCount, Pays, WalkState, chosen_entry, kind_by, listed, name_cost, no_entry, pass_cost, raw_part}
+use Rattle.mdmp_dump.specs.EntryWalk.{GivesNext, IsSameWalk, LiesInside, MayCount, Pays, WalkState, chosen_entry, kind_by, listed, name_cost, no_entry, pass_cost, raw_part}
 use Rattle.mdmp_dump.specs.FileRefusal.{body_told, entry_told, view_refusal}
-use Rattle.mdmp_dump.specs.FoundRecord.{AreIn, no_part}
+use Rattle.mdmp_dump.specs.FoundRecord.{AreIn, fields_of, no_part}
 use Rattle.mdmp_dump.specs.InFile.{dump_in, stream_named}
-use Rattle.mdmp_dump.specs.Placed.{size_in}
+use Rattle.mdmp_dump.specs.Placed.{far_room, fields_bytes, fields_room, size_in}
 use Rattle.mdmp_dump.specs.Reading.{IsLastTold, IsWanting}
 use Rattle.mdmp_dump.specs.Shape.{StreamCursor, GivesNone, ViewShape, StreamShape, all_bytes, is_far, parts_at, parts_in, shape_seen, sizes_at, told, value_cursor}
 use Rattle.mdmp_dump.specs.View.{dump_seen, header_seen, kind_in, raw_in, records_seen}
@@ -237,6 +239,18 @@ pub record IsViewPaid (w : WalkState) (counts : List ℕ) (pass : Option Pass) (
   pub names : opening_cost w counts + passed + asked < 2 ^ 128 - 1 → 4 * w.names + names_owed w pass ≤ opening_cost w counts + passed + asked
 
 -- ---- opening
+
+-- with a record that was found: what the names and parts of the records up to it take, and how many bytes its own have
+abbrev pub IsTakenWith : ℕ → Result FoundRecord ReadFault → Result TakenRoom ReadFault → Type 0
+IsTakenWith room (Ok f) (Ok taken) = (taken.room ≡ told (told (room + fields_room (fields_of f)) + far_room (fields_of f))) × (taken.bytes ≡ fields_bytes (fields_of f)) × (taken.bytes ≤ 2 ^ 66)
+IsTakenWith room (Err fault) (Err told) = told ≡ fault
+IsTakenWith room given result = ⊥
+
+-- the next record was walked over; those before it take so much room
+pub record WalksRecord (old : WalkState) (limit room : ℕ) (result : Result TakenRoom ReadFault) (new : WalkState) : Type 0 where
+  pub given : Result FoundRecord ReadFault
+  pub gives : GivesNext old limit given new
+  pub taken : IsTakenWith room given result
 
 -- all streams were walked over, of so many records each
 pub record PaysAll (counts : List ℕ) (old new : WalkState) : Type 0 where

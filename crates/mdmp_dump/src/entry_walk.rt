@@ -4,7 +4,8 @@ ghost use Rattle.mdmp_source.specs.Count.{raised};
 ghost use Rattle.mdmp_source.specs.Range.{IsInside, bytes_at};
 ghost use Rattle.mdmp_source.specs.Store.{IsOfBytes, IsSizeOf};
 ghost use Rattle.mdmp_lister.specs.Format.Refusal.{directory_refusal};
-ghost use Rattle.mdmp_dump.specs.EntryWalk.{Begins, GivesNext, IsOpenedWalk, WalkReadsAside, chosen_entry};
+ghost use Rattle.mdmp_dump.specs.EntryWalk.{Begins, GivesNext, IsOpenedWalk, PassesNext, WalkReadsAside, chosen_entry};
+ghost use Rattle.mdmp_lister.specs.declared.kind.StreamKind.TheVariants.{MemoryInfo};
 ghost use Rattle.mdmp_lister.specs.Format.Kind.{kind_of};
 ghost use Rattle.mdmp_lister.specs.Format.Listing.{entry_of};
 ghost use Rattle.mdmp_lister.specs.Lister.{IsSameLister};
@@ -171,6 +172,16 @@ impl<S: Store + Drop, A: Allocator + Copy> EntryWalk<S, A> {
         found_next(&mut self.walker, self.begun, limit)
     }
 
+    /// Passes over the next record of the stream that was begun, a memory region: it has no name and no
+    /// parts, and is not decoded.
+    pub(crate) fn pass_region(&mut self) -> Result<(), ReadFault>
+        requires left { 0 < self.old.left }
+        requires regions { kind_of self.old.current.entry.stream_type ≡ Some MemoryInfo }
+        ensures { PassesNext self.old result self.new }
+    {
+        pass_next(&mut self.walker)
+    }
+
     /// Reads bytes of the file beside the walk.
     pub(crate) fn read_part(&mut self, at: u64, out: &mut [u8]) -> Result<(), SourceFault>
         requires { IsInside at (length out.old) self.old.source.size }
@@ -309,6 +320,26 @@ fn found_next<S: Store + Drop, A: Allocator + Copy>(
         // Records are left.
         Ok(Some(Step::Stream(_))) => unreachable!(),
         Ok(None) => unreachable!(),
+        Err(fault) => Err(ReadFault::List(fault)),
+    }
+}
+
+/// Passes over the next record of the entry that was begun last, a memory region.
+fn pass_next<S: Store + Drop, A: Allocator + Copy>(
+    walker: &mut Walker<S, A>,
+) -> Result<(), ReadFault>
+    requires left { 0 < records_to_give walker.old.list }
+    requires kept { IsKept walker.old }
+    requires regions { kind_of walker.old.list.current.stream_type ≡ Some MemoryInfo }
+    ensures passes { PassesNext (state_of walker.old) result (state_of walker.new) }
+    ensures kept { IsKept walker.new }
+    ensures same { IsSameLister walker.old.list walker.new.list }
+{
+    // The proof learns here that the size has 64 bits, and that known content is one of bytes.
+    let _size = walker.size();
+    match walker.pass_step() {
+        // Records are left, so there was one.
+        Ok(_) => Ok(()),
         Err(fault) => Err(ReadFault::List(fault)),
     }
 }

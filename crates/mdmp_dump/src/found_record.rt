@@ -15,6 +15,7 @@ ghost use Rattle.mdmp_dump.specs.Refusal.{part_steps};
 ghost use Rattle.mdmp_dump.specs.declared.view.PartSize.TheVariants.{Size};
 
 use crate::fault::{PartName, ReadFault};
+use crate::placed::is_region;
 use crate::view::{Fields, PartSize};
 use mdmp_lister::{NameRead, RecordRead, range_extent};
 use mdmp_source::{Extent, Location, SourceFault, inside};
@@ -223,6 +224,12 @@ pub(crate) fn found_record(
     ensures fits { MatchResult result (IsFittingOf read.now.fields) IsOfPlaces }
     ensures inside { IfOk result (λ f. AreIn size f.parts) }
 {
+    if is_region(&read.fields) {
+        return Ok(FoundRecord {
+            wire: read.fields,
+            parts: [NO_PART, NO_PART, NO_PART],
+        });
+    }
     let found = found_parts(read, limit, size)?;
     if !found.lies_inside(size) {
         return Err(ReadFault::Source(SourceFault::Changed { at: u64::from(rva) }));

@@ -1,5 +1,7 @@
 //! A record as it is written, with the places of its name and parts.
-ghost use Rattle.std.specs.Prelude.{◌≡◌, ◌+◌, ◌<◌, ◌≤◌, ◌^◌};
+ghost use Rattle.std.specs.Prelude.{◌≡◌, ◌+◌, ◌<◌, ◌≤◌, ◌^◌, ◌∷◌, [], IsTrue};
+ghost use Rattle.mdmp_wire.specs.AnyRecord.{slots_of};
+ghost use Rattle.mdmp_wire.specs.declared.slot.Slot.TheVariants.{Empty};
 ghost use Rattle.mdmp_dump.specs.Placed.{address_of, far_room, fields_bytes, fields_room, location_of, name_room, part_room, placed, size_in, slot_placed, slot_room};
 
 use crate::view::{Fields, PartSize};
@@ -26,6 +28,9 @@ impl Fields {
         ensures value { result ≡ fields_room self.now }
         ensures bound { result ≤ 2 ^ 70 }
     {
+        if is_region(&self.wire) {
+            return 0;
+        }
         let [first, second, third] = self.parts;
         let [one, two, three] = self.wire.slots();
         slot_room(one, first) + slot_room(two, second) + slot_room(three, third)
@@ -38,6 +43,9 @@ impl Fields {
         requires { at + fields_room self.now < 2 ^ 32 }
         ensures { result ≡ placed self.now at }
     {
+        if is_region(&self.wire) {
+            return self.wire;
+        }
         let [first, second, third] = self.parts;
         let [one, two, three] = self.wire.slots();
         let behind_first = at + slot_room(one, first) as u64;
@@ -48,6 +56,13 @@ impl Fields {
             slot_placed(three, third, behind_second),
         ])
     }
+}
+
+/// Whether a record is a memory region, which points at nothing. Lists of regions are the longest ones.
+pub(crate) fn is_region(wire: &AnyRecord) -> bool
+    ensures { IsTrue result → slots_of wire.now ≡ Empty ∷ Empty ∷ Empty ∷ [] }
+{
+    matches!(wire, AnyRecord::MemoryInfo(_))
 }
 
 /// A slot of a record whose name or part is written at a place.
@@ -142,6 +157,9 @@ pub(crate) fn far_room(fields: &Fields) -> u128
     ensures same { result ≡ far_room fields.now }
     ensures bound { result ≤ 2 ^ 70 }
 {
+    if is_region(&fields.wire) {
+        return 0;
+    }
     let [first, _, _] = fields.parts;
     let [slot, _, _] = fields.wire.slots();
     match slot {

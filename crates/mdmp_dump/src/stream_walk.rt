@@ -1,9 +1,11 @@
 //! The walk over all streams of a file, as a view of it is opened.
 ghost use Rattle.std.specs.Prelude.{◌≡◌, ◌≤◌, ◌<◌, ◌+◌, ◌*◌, ◌^◌, ◌⊎◌, ℕ, List, length, map, None, Some, Err, IfErr, IfOk, IsTrue, MatchResult, sum, vec_capacity};
 ghost use Rattle.mdmp_source.specs.Count.{raised};
+ghost use Rattle.mdmp_lister.specs.Format.Kind.{kind_of};
 ghost use Rattle.mdmp_lister.specs.Meter.{KeepsTo, is_passed};
+ghost use Rattle.mdmp_lister.specs.declared.kind.StreamKind.TheVariants.{MemoryInfo};
 ghost use Rattle.mdmp_dump.specs.EntryWalk.{MayCount, Pays, chosen_entry, listed, name_cost, pass_cost};
-ghost use Rattle.mdmp_dump.specs.FileView.{AreBare, AreCounted, AreWalked, HasWalked, IsShortAt, KeepsAll, KeepsUpTo, PaysAll, PaysSome, PaysUpTo, TellsFirst, TellsStream, asks_in, costs_in, kind_at, pass_cost_in};
+ghost use Rattle.mdmp_dump.specs.FileView.{AreBare, AreCounted, AreWalked, HasWalked, IsShortAt, KeepsAll, KeepsUpTo, PaysAll, PaysSome, PaysUpTo, TellsFirst, TellsStream, WalksRecord, asks_in, costs_in, kind_at, pass_cost_in};
 ghost use Rattle.mdmp_dump.specs.Shape.{GivesNone};
 ghost use Rattle.mdmp_dump.specs.FileRefusal.{IsOfOpening, run_told};
 ghost use Rattle.mdmp_dump.specs.Left.{run_of};
@@ -13,7 +15,7 @@ use crate::entry_walk::EntryWalk;
 use crate::fault::ReadFault;
 use crate::pass::{cost_of, met_room, raw_part};
 use crate::placed::part_bytes;
-use mdmp_lister::OpenFault;
+use mdmp_lister::{OpenFault, StreamKind};
 use mdmp_source::Store;
 use mdmp_wire::Entry;
 use std::alloc::Allocator;
@@ -55,6 +57,46 @@ fn keep_to_budget(spending: Spending, entry: Entry, count: u32) -> Result<(), Re
     }
 }
 
+/// Whether the records of a stream of this type are memory regions.
+fn are_regions(stream_type: u32) -> bool
+    ensures { IsTrue result → kind_of stream_type ≡ Some MemoryInfo }
+{
+    matches!(
+        StreamKind::of_type(stream_type),
+        Some(StreamKind::MemoryInfo)
+    )
+}
+
+/// What the names and parts of the records up to one take, and how many bytes that one's have.
+#[derive(Clone, Copy)]
+pub(crate) struct TakenRoom {
+    pub(crate) room: u64,
+    pub(crate) bytes: u128,
+}
+
+/// Walks over the next record. Regions, which have no names and parts, are not decoded. Names and parts of the
+/// records before it take `room`.
+fn walk_record<S: Store + Drop, A: Allocator + Copy>(
+    walk: &mut EntryWalk<S, A>,
+    limit: u32,
+    is_region: bool,
+    room: u64,
+) -> Result<TakenRoom, ReadFault>
+    requires left { 0 < walk.old.left }
+    requires regions { IsTrue is_region → kind_of walk.old.current.entry.stream_type ≡ Some MemoryInfo }
+    ensures { WalksRecord walk.old limit room result walk.new }
+{
+    if is_region {
+        walk.pass_region()?;
+        return Ok(TakenRoom { room, bytes: 0 });
+    }
+    let fields = walk.next_record(limit)?.fields();
+    Ok(TakenRoom {
+        room: met_room(room, &fields),
+        bytes: part_bytes(&fields),
+    })
+}
+
 /// Walks over the records of a stream.
 fn walk_stream<S: Store + Drop, A: Allocator + Copy>(
     walk: &mut EntryWalk<S, A>,
@@ -86,13 +128,13 @@ fn walk_stream<S: Store + Drop, A: Allocator + Copy>(
     keep_to_budget(spending, entry, 0)?;
     let count = walk.begin(stream)?;
     keep_to_budget(spending, entry, count)?;
+    let are_regions = are_regions(entry.stream_type);
     let mut room = 0;
     let mut asks = u128::from(raw_part(entry).size.size());
     for index in 0..count {
-        let found = walk.next_record(limit)?;
-        let fields = found.fields();
-        room = met_room(room, &fields);
-        asks += part_bytes(&fields);
+        let taken = walk_record(walk, limit, are_regions, room)?;
+        room = taken.room;
+        asks += taken.bytes;
     }
     Ok(Walked {
         count,

@@ -1,5 +1,5 @@
 -- What the calls of a walker leave.
-use Rattle.std.proofs.Common.{false, ◌≡◌, ◌≤◌, ◌<◌, ◌+◌, ◌-◌, ◌*◌, ◌^◌, ◌∙◌, ℕ, List, [], Option, None, Some, Result, Ok, Err, ap, arith, get_or, length, refl, slice_get, subst, sym, vec_len, max}
+use Rattle.std.proofs.Common.{Bool, false, ◌≡◌, ◌≤◌, ◌<◌, ◌+◌, ◌-◌, ◌*◌, ◌^◌, ◌∙◌, ℕ, List, [], Option, None, Some, Result, Ok, Err, ap, arith, get_or, length, refl, slice_get, subst, sym, vec_len, max}
 use Rattle.std.specs.Prelude.{IfErr, IfOk, IfSome, IsTrue}
 use Rattle.std.proofs.Math.Nat.{add-sub_cancel}
 use Rattle.std.proofs.lemmas.Option.{slice_get_read}
@@ -38,7 +38,7 @@ use Rattle.mdmp_lister.specs.Walk.Paying.{IsWithinSince, unread_bytes}
 use Rattle.mdmp_lister.specs.Listed.{entry_cost, entry_cost_by}
 use Rattle.mdmp_lister.specs.Walk.Positions.{AnsweredFrom, GivesSought, IsPositioned, IsWalked, left_in, mark_by, position_by, records_at_position, standing_in, stop_in, unread_in, work_in}
 use Rattle.mdmp_lister.specs.Walk.Requests.{Answered, EntryTaken, RecordsCounted}
-use Rattle.mdmp_lister.specs.Walker.{CountsRecords, GivesEntry, StepLeaves, WalkerState, begins, left_counted, seeks, stop_counted}
+use Rattle.mdmp_lister.specs.Walker.{CountsRecords, GivesEntry, PassesStep, StepLeaves, WalkerState, begins, left_counted, passed_of, seeks, stop_counted}
 use Rattle.mdmp_lister.proofs.Advancing.{becomes, of_run, option_map-then, passes, same_entries, same_rooms}
 use Rattle.mdmp_lister.proofs.Asides.{aside_sound}
 use Rattle.mdmp_lister.proofs.Beginning.{began, stream}
@@ -617,6 +617,19 @@ module _ {S A : Type 0} (w n : Walk S A) (mark : MeterCounts) where
       → IfErr r (λ f. IsUnmade (max n.window.room n.name.limit) f.kind f.offset f.size (counts_of n.meter) n.meter.source.size)
   step_refused p (Ok given) e = tt
   step_refused p (Err f) e = fault_refused w n p f e
+
+  -- a step that is dropped
+  pub step_passes : (p : Position) (r : Result (Option Step) ListFault) (passed : Result Bool ListFault) → passed ≡ passed_of r → IsWalked p mark w → AnsweredFrom p w r n
+      → IfErr r (λ f. TellsNoChange f.kind) → (HasNoNames (kind_of w.current.stream_type) → n.meter.names ≡ w.meter.names) → PassesStep (walker_was p) passed (walker_is r)
+  step_passes p r passed is walked e unchanged nameless = record {
+    given = r;
+    passed = is;
+    leaves = step_leaves p r walked e unchanged nameless;
+    repeats = stop_again w n p r e;
+    good = step_good p r e;
+    refused = step_refused p r e;
+    kind = step_kinded p r e;
+  }
 
 -- ---- a budget that is lifted
 

@@ -23,7 +23,8 @@ use Rattle.mdmp_lister.specs.Lister.{AnswersNext, Gives, cursor_in, IsNewList, I
 use Rattle.mdmp_lister.specs.Meter.{Moves}
 use Rattle.mdmp_lister.specs.NextFetch.{TellsNextFetch}
 use Rattle.mdmp_lister.specs.Opening.{KeepsDirectory}
-use Rattle.mdmp_lister.specs.Step.{TellsAnswer}
+use Rattle.mdmp_lister.specs.Stage.{stop_after}
+use Rattle.mdmp_lister.specs.Step.{IsStepOf, TellsAnswer}
 use Rattle.mdmp_lister.specs.StreamHead.{directory_bytes}
 use Rattle.mdmp_lister.specs.Listed.{entry_cost}
 use Rattle.mdmp_lister.specs.Walk.Positions.{mark_by, position_by}
@@ -129,6 +130,22 @@ pub record StepLeaves (old : WalkerState) (result : Result (Option Step) ListFau
   pub leaves : WalkerLeaves old answer new
   pub gives : (left : Run) → old.list.left ≡ Some left → Gives left answer
   pub sought : (number : ℕ) → old.position ≡ Sought number → GivesEntry number old.list.entries answer
+
+-- what is left of a step that is dropped
+abbrev pub passed_of : Result (Option Step) ListFault → Result Bool ListFault
+passed_of (Ok None) = Ok false
+passed_of (Ok (Some s)) = Ok true
+passed_of (Err f) = Err f
+
+-- a step was given and dropped
+pub record PassesStep (old : WalkerState) (result : Result Bool ListFault) (new : WalkerState) : Type 0 where
+  pub given : Result (Option Step) ListFault
+  pub passed : result ≡ passed_of given
+  pub leaves : StepLeaves old given new
+  pub repeats : (stop : Option ListFault) → old.list.stop ≡ Some stop → stop_after given ≡ Some stop
+  pub good : (file : List ℕ) → IsGood old.list.source.store file → IfErr given (λ fault. IsOfStore fault.kind → ⊥)
+  pub refused : IfErr given (λ fault. IsRefusedIn fault new.list)
+  pub kind : IfOk given (λ s. IfSome s (IsStepOf (kind_of new.list.current.stream_type)))
 
 -- ---- records that are counted
 

@@ -95,7 +95,7 @@ impl<S: Store + Drop, A: Allocator + Copy> Walker<S, A> {
     ghost use Rattle.mdmp_lister.specs.contracts.walker.Walker.{the_row};
     ghost use Rattle.mdmp_lister.specs.Memory.{IsWalkRefusal, walk_fault};
     ghost use Rattle.mdmp_lister.specs.Lister.{Gives, IsRefusedIn, KeepsGiven, ReadsAside, SkipsEntry, is_for_good};
-    ghost use Rattle.mdmp_lister.specs.Walker.{CountsRecords, GivesEntry, IsNewWalker, IsSought, StepLeaves, WalkerLeaves, is_begun, is_failed, is_sought, records_answer};
+    ghost use Rattle.mdmp_lister.specs.Walker.{CountsRecords, GivesEntry, IsNewWalker, IsSought, PassesStep, StepLeaves, WalkerLeaves, is_begun, is_failed, is_sought, records_answer};
 
     /// Opens a file. Its header is read; memory is taken for the directory, the window and a name; the
     /// directory is read. No later call takes any.
@@ -204,6 +204,17 @@ impl<S: Store + Drop, A: Allocator + Copy> Walker<S, A> {
     {
         let answer = advance_from(&mut self.walk, &mut self.position, &mut self.mark);
         self.walk.told(answer)
+    }
+
+    /// Does what `next_step` does, and drops the step: whether there was one. It decodes no record.
+    pub fn pass_step(&mut self) -> Result<bool, ListFault>
+        ensures { PassesStep self.old result self.new }
+    {
+        match advance_from(&mut self.walk, &mut self.position, &mut self.mark) {
+            Ok(Some(_)) => Ok(true),
+            Ok(None) => Ok(false),
+            Err(fault) => Err(fault),
+        }
     }
 
     /// Whether a Stream item was given last: no other call but `records`, and those that only read

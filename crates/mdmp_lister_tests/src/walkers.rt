@@ -6,7 +6,7 @@ use crate::same::{assert_same, assert_same_at};
 use crate::script::{Call, LEAST, NAMED};
 use crate::walking::{
     assert_walk, close, counts_of, entry_of, fetched_of, is_chosen, open_and_close, open_over,
-    part_of, step_of,
+    part_of, passed_of, step_of,
 };
 use linked_list_allocator::LocalHeap;
 use mdmp_lister::{Choice, Counts, Limits, ListFault, NameRead, OpenFault, Step, Walker};
@@ -92,23 +92,36 @@ fn walker_tells_which_entries_are_chosen(rt: HostRuntime) {
 /// What came of a walk: how many items it gave, and the fault behind them; or why it was refused.
 type WalkEnd = Result<(u64, Option<ListFault>), OpenFault>;
 
-/// Counts the items of a walker, at most four.
-fn walk<S: Store + Drop>(walker: &mut Walker<S, Global>) -> (u64, Option<ListFault>) {
+/// Counts the items of a walker, at most four, as they are given or passed over.
+fn walk<S: Store + Drop>(walker: &mut Walker<S, Global>, passes: bool) -> (u64, Option<ListFault>) {
     for count in 0..4 {
-        match step_of(walker) {
-            Ok(Some(_)) => {}
-            Ok(None) => return (count, None),
+        let more = if passes {
+            passed_of(walker)
+        } else {
+            is_given(walker)
+        };
+        match more {
+            Ok(true) => {}
+            Ok(false) => return (count, None),
             Err(fault) => return (count, Some(fault)),
         }
     }
     (4, None)
 }
 
+/// Whether a walker gives a step.
+fn is_given<S: Store + Drop>(walker: &mut Walker<S, Global>) -> Result<bool, ListFault> {
+    match step_of(walker) {
+        Ok(step) => Ok(step.is_some()),
+        Err(fault) => Err(fault),
+    }
+}
+
 /// A walk over a store of one system that gives a byte a call and fails at this one.
-fn walk_failing(rt: &impl Abort, alloc: Global, fail_at: u64) -> WalkEnd {
+fn walk_failing(rt: &impl Abort, alloc: Global, fail_at: u64, passes: bool) -> WalkEnd {
     let source = Source::new(patchy(rt, &SYSTEM, &[1], Some(fail_at)));
     match Walker::open(alloc, source, NAMED, Choice::All) {
-        Ok(mut walker) => Ok(walk(&mut walker)),
+        Ok(mut walker) => Ok(walk(&mut walker, passes)),
         Err(refused) => Err(refused.fault),
     }
 }
@@ -127,9 +140,23 @@ fn expected_walk(fail_at: u64) -> WalkEnd {
 #[test]
 fn store_fails_at_each_call_in_turn(rt: HostRuntime) {
     for fail_at in 0..133 {
-        let found = walk_failing(&rt, rt.alloc(), fail_at);
+        let found = walk_failing(&rt, rt.alloc(), fail_at, false);
         assert_same_at(&rt, &fail_at, found, expected_walk(fail_at));
+        let passed = walk_failing(&rt, rt.alloc(), fail_at, true);
+        assert_same_at(&rt, &fail_at, passed, expected_walk(fail_at));
     }
+}
+
+#[test]
+fn step_that_is_passed_over_costs_as_much(rt: HostRuntime) {
+    let file = file_of(&rt, rt.alloc(), 3, &THRICE);
+    let mut given = open_over(&rt, rt.alloc(), MemoryStore::new(&file), NAMED, Choice::All);
+    let mut passed = open_over(&rt, rt.alloc(), MemoryStore::new(&file), NAMED, Choice::All);
+    for step in 0..8 {
+        assert_same_at(&rt, &step, passed_of(&mut passed), is_given(&mut given));
+        assert_same_at(&rt, &step, counts_of(&passed), counts_of(&given));
+    }
+    assert_same(&rt, fetched_of(passed), fetched_of(given));
 }
 
 /// A file, its limits and sizes of heaps; the fault of its opening, what is fetched, and how much of the heap is

@@ -30,6 +30,13 @@ pub fn step_of<S: Store + Drop, A: Allocator + Copy>(
     walker.next_step()
 }
 
+/// Whether its next call passes over a step.
+pub fn passed_of<S: Store + Drop, A: Allocator + Copy>(
+    walker: &mut Walker<S, A>,
+) -> Result<bool, ListFault> {
+    walker.pass_step()
+}
+
 /// What a walker counts.
 pub fn counts_of<S: Store + Drop, A: Allocator + Copy>(walker: &Walker<S, A>) -> Counts {
     walker.counts()

@@ -1,8 +1,8 @@
 //! Ranges that are painted onto a block of addresses, one after another.
-ghost use Rattle.std.specs.Prelude.{◌≡◌, ◌≤◌, ◌<◌, ◌+◌, ◌++◌, ◌∷◌, ◌^◌, ◌↔◌, [], ℕ, IsTrue, List, MatchOption, Some, IfSome, false, length, replicate, slice_index, true};
+ghost use Rattle.std.specs.Prelude.{◌≡◌, ◌≤◌, ◌<◌, ◌+◌, ◌++◌, ◌∷◌, ◌^◌, ◌↔◌, [], ℕ, IsTrue, List, MatchOption, Some, IfSome, false, length, slice_index, true};
 ghost use Rattle.mdmp_map.specs.declared.range.Range.{Range};
 ghost use Rattle.mdmp_map.specs.Painting.{HoldsFirst, IsFull, IsPaintOf, IsPaintTo, IsPassed, IsRun, Paints, Skips, is_held_at, is_marked, is_painted};
-ghost use Rattle.mdmp_map.specs.Ranges.{IsPlaced, address_end, first_range, range_end};
+ghost use Rattle.mdmp_map.specs.Ranges.{IsPlaced};
 
 use crate::found::ADDRESS_END;
 use crate::range::Range;

@@ -1,13 +1,18 @@
 //! The caller's buffer, in which small pieces of a text are gathered.
-ghost use Rattle.std.specs.Prelude.{◌≡◌, ◌≤◌, ◌<◌, ◌+◌, ◌-◌, ◌++◌, ℕ, List, [], length, take, drop, get_or, min, nat_lt, IsTrue, Some, IfErr, IfOk, OnOk, MatchResult};
+ghost use Rattle.std.specs.Prelude.{◌≡◌, ◌≤◌, ◌<◌, ◌+◌, ◌-◌, ◌++◌, ℕ, List, [], length, take, drop, get_or, min, nat_lt, false, IsTrue, Some, IfErr, IfOk, OnOk, MatchResult};
 ghost use Rattle.mdmp_source.specs.Output.{refused_if};
+ghost use Rattle.mdmp_wire.specs.AnyRecord.{any_bytes, any_size, greatest_size};
 ghost use Rattle.mdmp_writer.specs.Gather.{gathered, HoldsMore, Gathers, Writes};
 ghost use Rattle.mdmp_writer.specs.Cause.{StopsAtOutput};
 
 use crate::fault::WriteFault;
 use mdmp_dump::{DumpView, ViewFault};
 use mdmp_source::{Out, send};
+use mdmp_wire::AnyRecord;
 use std::marker::Model;
+
+/// How many bytes the longest record has.
+const LONGEST: usize = 168;
 
 /// What a writer holds back until the caller's buffer is full, so that a text of many small pieces
 /// reaches the output by few calls.
@@ -63,6 +68,20 @@ impl<'b> Gather<'b> {
             at += self.hold(&bytes[at..]);
         }
         Ok(())
+    }
+
+    /// Puts a record behind those that are held, if there is room for the longest, and answers whether
+    /// there was.
+    pub(crate) fn hold_record(&mut self, row: &AnyRecord) -> bool
+        ensures held { IsTrue result → self.new ≡ self.old ++ any_bytes row.now }
+        ensures size { IsTrue result → length (any_bytes row.now) ≡ any_size row.now }
+        ensures same { result ≡ false → self.new ≡ self.old }
+    {
+        if self.buffer.len() - self.held < LONGEST {
+            return false;
+        }
+        self.held += write_behind(self.buffer, self.held, row);
+        true
     }
 
     /// Holds the first of some bytes, as many as there is room for, and answers how many.
@@ -144,6 +163,17 @@ fn copy_behind(buffer: &mut [u8], held: usize, bytes: &[u8]) -> usize
     let count = bytes.len().min(buffer.len() - held);
     buffer[held..held + count].copy_from_slice(&bytes[..count]);
     count
+}
+
+/// Writes a record behind the first `held` bytes, and answers how many it has.
+fn write_behind(buffer: &mut [u8], held: usize, row: &AnyRecord) -> usize
+    requires { held + greatest_size ≤ length buffer.old }
+    ensures len { length buffer.new ≡ length buffer.old }
+    ensures within { held + result ≤ length buffer.old }
+    ensures bytes { take (held + result) buffer.new ≡ take held buffer.old ++ any_bytes row.now }
+    ensures size { length (any_bytes row.now) ≡ any_size row.now }
+{
+    row.write(&mut buffer[held..held + LONGEST])
 }
 
 /// Fetches bytes of a part from a place on, so many, behind the first `held`.

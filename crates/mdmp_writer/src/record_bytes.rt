@@ -37,6 +37,9 @@ pub(crate) fn write_any<O: Out>(
     ensures some { OnOk result (PutsSome (gathered (O.state out.old) gather.old) (row_of (type_told row.now)) (gathered (O.state out.new) gather.new)) }
     ensures cause { StopsAtOutput result (O.state out.old) (O.state out.new) }
 {
+    if gather.hold_record(row) {
+        return Ok(());
+    }
     let mut buffer = [0; 168];
     let size = row.write(&mut buffer);
     gather.write(out, &buffer[..size])

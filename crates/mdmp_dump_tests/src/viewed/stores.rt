@@ -1,8 +1,9 @@
 //! Views over stores that fail, and outputs that refuse.
 use super::{FourBytes, ViewOutcome, asked_thrice, four_bytes, view_of, write_over};
 use crate::dump::view::{PART, REWIND, Wanted};
-use crate::files::{ALL, CRASH_FILE, LEAST, NAMED, SIX_FILE, file_of};
+use crate::files::{ALL, CRASH_FILE, LEAST, NAMED, SIX_FILE, Sample, file_of};
 use crate::same::assert_same_at;
+use crate::vectors::REGION;
 use crate::writer::{assert_wrote, patchy_out};
 use mdmp_dump::{DumpView, ReadFault, ViewFault};
 use mdmp_lister::{FaultKind, ListFault, OpenFault};
@@ -57,8 +58,23 @@ fn store_that_fails_leaves_a_first_part(rt: HostRuntime) {
     }
 }
 
-/// Buffers through which the six streams are written.
-static ROOMS: [usize; 3] = [1, 7, 4096];
+/// A file with one region, of 108 bytes.
+const REGION_FILE: Sample<'static> = Sample::Numbers(1, &REGION);
+
+/// A call gives a byte: 108 open the file, and 64 begin its stream again and give the region.
+#[test]
+fn store_that_fails_at_a_region_gives_no_view(rt: HostRuntime) {
+    let file = file_of(&rt, rt.alloc(), &REGION_FILE);
+    for fail_at in 0..173 {
+        let store = PatchyStore::new(&file, &[1], Some(fail_at));
+        let outcome = write_over(&rt, rt.alloc(), store, ALL, LEAST, 168).outcome;
+        let found = (matches!(outcome, Err(_)), tells_failure(outcome));
+        assert_same_at(&rt, &fail_at, found, (fail_at < 108, fail_at < 172));
+    }
+}
+
+/// Buffers through which the six streams are written. The third has room for some of the records.
+static ROOMS: [usize; 4] = [1, 7, 200, 4096];
 
 #[test]
 fn store_of_few_bytes_a_call_gives_the_same_bytes(rt: HostRuntime) {

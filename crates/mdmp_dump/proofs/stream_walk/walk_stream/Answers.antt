@@ -10,7 +10,7 @@ use Rattle.mdmp_dump.specs.Reading.{Fetches}
 use Rattle.mdmp_dump.specs.Shape.{GivesNone}
 use Rattle.mdmp_dump.proofs.Budgets.{budget_told, place_own, place_pass, place_walk, walk_opens}
 use Rattle.mdmp_dump.proofs.Taking.{FetchesSome_none, Fetches_as, Fetches_only}
-use Rattle.mdmp_dump.proofs.WalkedOver.{budget_fetches, budget_refuses, untouched_paid, walking_begins, walking_ends, walking_fetches, walking_goes, walking_keeps, walking_paid, walking_refused, walking_unbegun}
+use Rattle.mdmp_dump.proofs.WalkedOver.{budget_fetches, budget_refuses, next_refused, untouched_paid, walking_begins, walking_ends, walking_fetches, walking_keeps, walking_paid, walking_refused, walking_takes, walking_unbegun}
 use Rattle.mdmp_dump.proofs.stream_walk.walk_stream.Goals as goal
 
 pub begin-requires : goal.begin-requires
@@ -24,8 +24,8 @@ loop-index-init g c =
 
 pub loop-index-preserved : goal.loop-index-preserved
 loop-index-preserved g c =
-    walking_goes g.row.A.Denot c.args.limit c.args.walk.now c.args.stream c.in_ok-count.count c.loop-index.walk c.loop-index.index c.loop-index.room c.loop-index.asks c.loop-index.invariant c.next_record.new.self c.in_ok-found.found c.fields-fields.result c.met_room-room.result
-    c.part_bytes-asks.result c.in_ok-found.ensures c.loop-index-test.true c.fields-fields.ensures c.met_room-room.ensures c.part_bytes-asks.ensures.value c.part_bytes-asks.ensures.bound
+    walking_takes g.row.A.Denot c.args.limit c.args.walk.now c.args.stream c.in_ok-count.count c.loop-index.walk c.loop-index.index c.loop-index.room c.loop-index.asks c.loop-index.invariant c.walk_record.new.walk c.in_ok-taken.taken
+    c.in_ok-taken.ensures c.loop-index-test.true
 
 -- ---- a budget that has no room for the stream
 
@@ -94,65 +94,65 @@ returns-in_err-count-clause-fetches g c =
 
 -- ---- a record that is refused
 
-pub returns-in_err-found-clause-pays : goal.returns-in_err-found-clause-pays
-returns-in_err-found-clause-pays g c =
-    let fault = c.in_err-found.field-0.0 in
-    let is : c.from_residual-in_err-found.result ≡ Err fault = search rules in
-    rw is (walking_paid g.row.A.Denot c.args.limit c.args.walk.now c.args.stream c.in_ok-count.count c.loop-index.walk c.loop-index.index c.loop-index.room c.loop-index.asks c.loop-index.invariant c.next_record.new.self fault c.in_err-found.ensures c.loop-index-test.true)
+pub returns-in_err-taken-clause-pays : goal.returns-in_err-taken-clause-pays
+returns-in_err-taken-clause-pays g c =
+    let fault = c.in_err-taken.field-0.0 in
+    let is : c.from_residual-in_err-taken.result ≡ Err fault = search rules in
+    rw is (walking_paid g.row.A.Denot c.args.limit c.args.walk.now c.args.stream c.in_ok-count.count c.loop-index.walk c.loop-index.index c.loop-index.room c.loop-index.asks c.loop-index.invariant c.walk_record.new.walk fault (next_refused g.row.A.Denot c.args.limit c.args.walk.now c.args.stream c.in_ok-count.count c.loop-index.walk c.loop-index.index c.loop-index.room c.loop-index.asks c.loop-index.invariant c.walk_record.new.walk fault c.in_err-taken.ensures) c.loop-index-test.true)
 
-pub returns-in_err-found-clause-of_file : goal.returns-in_err-found-clause-of_file
-returns-in_err-found-clause-of_file g c =
-    let fault = c.in_err-found.field-0.0 in
-    let is : c.from_residual-in_err-found.result ≡ Err fault = search rules in
-    rw is (walking_refused g.row.A.Denot c.args.limit c.args.walk.now c.args.stream c.in_ok-count.count c.loop-index.walk c.loop-index.index c.loop-index.room c.loop-index.asks c.loop-index.invariant c.next_record.new.self fault c.in_err-found.ensures)
+pub returns-in_err-taken-clause-of_file : goal.returns-in_err-taken-clause-of_file
+returns-in_err-taken-clause-of_file g c =
+    let fault = c.in_err-taken.field-0.0 in
+    let is : c.from_residual-in_err-taken.result ≡ Err fault = search rules in
+    rw is (walking_refused g.row.A.Denot c.args.limit c.args.walk.now c.args.stream c.in_ok-count.count c.loop-index.walk c.loop-index.index c.loop-index.room c.loop-index.asks c.loop-index.invariant c.walk_record.new.walk fault (next_refused g.row.A.Denot c.args.limit c.args.walk.now c.args.stream c.in_ok-count.count c.loop-index.walk c.loop-index.index c.loop-index.room c.loop-index.asks c.loop-index.invariant c.walk_record.new.walk fault c.in_err-taken.ensures))
 
-pub returns-in_err-found-clause-fetches : goal.returns-in_err-found-clause-fetches
-returns-in_err-found-clause-fetches g c =
-    let fault = c.in_err-found.field-0.0 in
-    let is : c.from_residual-in_err-found.result ≡ Err fault = search rules in
-    rw is (walking_fetches g.row.A.Denot c.args.limit c.args.walk.now c.args.stream c.in_ok-count.count c.loop-index.walk c.loop-index.index c.loop-index.room c.loop-index.asks c.loop-index.invariant c.next_record.new.self {T = Walked} fault c.in_err-found.ensures)
+pub returns-in_err-taken-clause-fetches : goal.returns-in_err-taken-clause-fetches
+returns-in_err-taken-clause-fetches g c =
+    let fault = c.in_err-taken.field-0.0 in
+    let is : c.from_residual-in_err-taken.result ≡ Err fault = search rules in
+    rw is (walking_fetches g.row.A.Denot c.args.limit c.args.walk.now c.args.stream c.in_ok-count.count c.loop-index.walk c.loop-index.index c.loop-index.room c.loop-index.asks c.loop-index.invariant c.walk_record.new.walk {T = Walked} fault (next_refused g.row.A.Denot c.args.limit c.args.walk.now c.args.stream c.in_ok-count.count c.loop-index.walk c.loop-index.index c.loop-index.room c.loop-index.asks c.loop-index.invariant c.walk_record.new.walk fault c.in_err-taken.ensures))
 
-pub returns-in_err-found-clause-kept : goal.returns-in_err-found-clause-kept
-returns-in_err-found-clause-kept g c =
-    let fault = c.in_err-found.field-0.0 in
-    let is : c.from_residual-in_err-found.result ≡ Err fault = search rules in
+pub returns-in_err-taken-clause-kept : goal.returns-in_err-taken-clause-kept
+returns-in_err-taken-clause-kept g c =
+    let fault = c.in_err-taken.field-0.0 in
+    let is : c.from_residual-in_err-taken.result ≡ Err fault = search rules in
     let kept = subst (λ (e : Entry). KeepsTo c.args.spending.budget (c.args.spending.spent + pass_cost e c.in_ok-count.count)) c.entry-entry.ensures.value c.in_ok-keep_to_budget-2.ensures.kept in
-    rw is (inr (walking_keeps g.row.A.Denot c.args.limit c.args.walk.now c.args.stream c.in_ok-count.count c.loop-index.walk c.loop-index.index c.loop-index.room c.loop-index.asks c.loop-index.invariant c.next_record.new.self c.args.spending.budget c.args.spending.spent
-    fault c.in_err-found.ensures c.loop-index-test.true kept))
+    rw is (inr (walking_keeps g.row.A.Denot c.args.limit c.args.walk.now c.args.stream c.in_ok-count.count c.loop-index.walk c.loop-index.index c.loop-index.room c.loop-index.asks c.loop-index.invariant c.walk_record.new.walk c.args.spending.budget c.args.spending.spent
+    fault (next_refused g.row.A.Denot c.args.limit c.args.walk.now c.args.stream c.in_ok-count.count c.loop-index.walk c.loop-index.index c.loop-index.room c.loop-index.asks c.loop-index.invariant c.walk_record.new.walk fault c.in_err-taken.ensures) c.loop-index-test.true kept))
 
-pub returns-in_err-found-clause-place : goal.returns-in_err-found-clause-place
-returns-in_err-found-clause-place g c =
-    let fault = c.in_err-found.field-0.0 in
-    let is : c.from_residual-in_err-found.result ≡ Err fault = search rules in
+pub returns-in_err-taken-clause-place : goal.returns-in_err-taken-clause-place
+returns-in_err-taken-clause-place g c =
+    let fault = c.in_err-taken.field-0.0 in
+    let is : c.from_residual-in_err-taken.result ≡ Err fault = search rules in
     rw is (λ F known.
-    place_walk c.args.spending.budget c.args.spending.spent F (chosen_entry c.args.walk.now c.args.stream) fault c.in_err-found.ensures.told)
+    place_walk c.args.spending.budget c.args.spending.spent F (chosen_entry c.args.walk.now c.args.stream) fault (next_refused g.row.A.Denot c.args.limit c.args.walk.now c.args.stream c.in_ok-count.count c.loop-index.walk c.loop-index.index c.loop-index.room c.loop-index.asks c.loop-index.invariant c.walk_record.new.walk fault c.in_err-taken.ensures).told)
 
-pub returns-in_err-found-clause-told : goal.returns-in_err-found-clause-told
-returns-in_err-found-clause-told g c =
-    let fault = c.in_err-found.field-0.0 in
-    let is : c.from_residual-in_err-found.result ≡ Err fault = search rules in
-    rw is (walk_opens c.args.spending.budget fault c.in_err-found.ensures.told)
+pub returns-in_err-taken-clause-told : goal.returns-in_err-taken-clause-told
+returns-in_err-taken-clause-told g c =
+    let fault = c.in_err-taken.field-0.0 in
+    let is : c.from_residual-in_err-taken.result ≡ Err fault = search rules in
+    rw is (walk_opens c.args.spending.budget fault (next_refused g.row.A.Denot c.args.limit c.args.walk.now c.args.stream c.in_ok-count.count c.loop-index.walk c.loop-index.index c.loop-index.room c.loop-index.asks c.loop-index.invariant c.walk_record.new.walk fault c.in_err-taken.ensures).told)
 
-pub returns-in_err-found-clause-goes : goal.returns-in_err-found-clause-goes
-returns-in_err-found-clause-goes g c =
-    let fault = c.in_err-found.field-0.0 in
-    let is : c.from_residual-in_err-found.result ≡ Err fault = search rules in
+pub returns-in_err-taken-clause-goes : goal.returns-in_err-taken-clause-goes
+returns-in_err-taken-clause-goes g c =
+    let fault = c.in_err-taken.field-0.0 in
+    let is : c.from_residual-in_err-taken.result ≡ Err fault = search rules in
     rw is tt
 
-pub returns-in_err-found-clause-counts : goal.returns-in_err-found-clause-counts
-returns-in_err-found-clause-counts g c =
-    let fault = c.in_err-found.field-0.0 in
-    let is : c.from_residual-in_err-found.result ≡ Err fault = search rules in
+pub returns-in_err-taken-clause-counts : goal.returns-in_err-taken-clause-counts
+returns-in_err-taken-clause-counts g c =
+    let fault = c.in_err-taken.field-0.0 in
+    let is : c.from_residual-in_err-taken.result ≡ Err fault = search rules in
     rw is tt
 
-pub returns-in_err-found-clause-bare : goal.returns-in_err-found-clause-bare
-returns-in_err-found-clause-bare g c =
-    let fault = c.in_err-found.field-0.0 in
-    let is : c.from_residual-in_err-found.result ≡ Err fault = search rules in
+pub returns-in_err-taken-clause-bare : goal.returns-in_err-taken-clause-bare
+returns-in_err-taken-clause-bare g c =
+    let fault = c.in_err-taken.field-0.0 in
+    let is : c.from_residual-in_err-taken.result ≡ Err fault = search rules in
     rw is tt
 
-pub next_record-requires : goal.next_record-requires
-next_record-requires g c = omega (arith, c.loop-index-test.true, c.loop-index.invariant.left)
+pub walk_record-requires-clause-left : goal.walk_record-requires-clause-left
+walk_record-requires-clause-left g c = omega (arith, c.loop-index-test.true, c.loop-index.invariant.left)
 
 pub loop-index-smaller : goal.loop-index-smaller
 loop-index-smaller g c = omega (arith, c.loop-index-test.true)
